@@ -1,0 +1,4 @@
+pub mod Tests
+pub mod Choices
+pub mod Lists
+pub mod Writes

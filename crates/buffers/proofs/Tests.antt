@@ -1,0 +1,43 @@
+-- Laws of tests and their conjunctions.
+use Prim.Native.Nat.{ℕ, suc}
+use mathlib.Core.Path.{_≡_, refl, sym, _∙_}
+use mathlib.Core.Logic.{_⊎_, inl, inr}
+use mathlib.Core.Bool.{Bool, true, false, not, _&&_, _||_, true≢false, false≢true}
+use native.Mathlib.Omega.{arith}
+use Rattle.buffers.specs.Choices.{pick}
+
+-- a test is true or false
+pub either : (b : Bool) → (b ≡ true) ⊎ (b ≡ false)
+either true = inl refl
+either false = inr refl
+
+pub clash : (b : Bool) → b ≡ true → b ≡ false → ⊥
+clash b p q = true≢false (sym p ∙ q)
+
+pub and-i : (a b : Bool) → a ≡ true → b ≡ true → (a && b) ≡ true
+and-i a b p q = rw p q
+
+pub and-both : (a b : Bool) → (a && b) ≡ true → (a ≡ true) × (b ≡ true)
+and-both true b e = (refl, e)
+and-both false b e = absurd (false≢true e)
+
+pub and-l : (a b : Bool) → (a && b) ≡ true → a ≡ true
+and-l a b e = (and-both a b e) .0
+
+pub and-r : (a b : Bool) → (a && b) ≡ true → b ≡ true
+and-r a b e = (and-both a b e) .1
+
+pub or-l : (a b : Bool) → a ≡ true → (a || b) ≡ true
+or-l a b p = rw p
+
+pub or-r : (a b : Bool) → b ≡ true → (a || b) ≡ true
+or-r true b p = refl
+or-r false b p = p
+
+pub or-one : (a b : Bool) → (a || b) ≡ true → (a ≡ true) ⊎ (b ≡ true)
+or-one true b e = inl refl
+or-one false b e = inr e
+
+pub or-none : (a b : Bool) → (a || b) ≡ false → (a ≡ false) × (b ≡ false)
+or-none true b e = absurd (true≢false e)
+or-none false b e = (refl, e)
