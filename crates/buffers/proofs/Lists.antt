@@ -96,14 +96,18 @@ module _ {A : Type 0} where
         | inr t ↦ rw t (all-keep p q xs (and-r (p x) _ e))
       ]
 
-  -- A change that leaves the test true where it is made.
-  pub all-change : (p q : A → Bool) (f : A → A) → ((x : A) → p x ≡ true → q x ≡ true → p (f x) ≡ true) → (xs : List A) → all p xs ≡ true → all p (change q f xs) ≡ true
-  all-change p q f g [] e = refl
-  all-change p q f g (x ∷ xs) e =
+  -- A change under which one test becomes another.
+  pub all-change : (p r : A → Bool) (q : A → Bool) (f : A → A) → ((x : A) → p x ≡ true → q x ≡ true → r (f x) ≡ true) → ((x : A) → p x ≡ true → r x ≡ true) → (xs : List A) → all p xs ≡ true → all r (change q f xs) ≡ true
+  all-change p r q f g h [] e = refl
+  all-change p r q f g h (x ∷ xs) e =
       elim (either (q x)) [
-        | inl t ↦ rw t (and-i (p (f x)) _ (g x (and-l _ _ e) t) (all-change p q f g xs (and-r (p x) _ e)))
-        | inr t ↦ rw t (and-i (p x) _ (and-l _ _ e) (all-change p q f g xs (and-r (p x) _ e)))
+        | inl t ↦ rw t (and-i (r (f x)) _ (g x (and-l _ _ e) t) (all-change p r q f g h xs (and-r (p x) _ e)))
+        | inr t ↦ rw t (and-i (r x) _ (h x (and-l _ _ e)) (all-change p r q f g h xs (and-r (p x) _ e)))
       ]
+
+  pub all-both : (p q : A → Bool) (xs : List A) → all p xs ≡ true → all q xs ≡ true → all (λ x. p x && q x) xs ≡ true
+  all-both p q [] e f = refl
+  all-both p q (x ∷ xs) e f = and-i (p x && q x) _ (and-i (p x) _ (and-l _ _ e) (and-l _ _ f)) (all-both p q xs (and-r (p x) _ e) (and-r (q x) _ f))
 
   -- What is found passes the test that all pass.
   pub all-first : (p q : A → Bool) (xs : List A) (x : A) → all p xs ≡ true → first q xs ≡ some x → p x ≡ true
