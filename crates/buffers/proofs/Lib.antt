@@ -4,3 +4,4 @@ pub mod Lists
 pub mod Writes
 pub mod Moves
 pub mod Words
+pub mod Parts

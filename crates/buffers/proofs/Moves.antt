@@ -43,7 +43,7 @@ module _ (xs ys : List ℕ) (same : length xs ≡ length ys) where
 
 -- ## A move up, from the end down
 
-length-up : (by : ℕ) (l : List ℕ) → by ≤ length l → length (movedUp by l) ≡ length l
+pub length-up : (by : ℕ) (l : List ℕ) → by ≤ length l → length (movedUp by l) ≡ length l
 unfolding movedUp
 length-up by l h = simp (length-append, length-take) (omega arith)
 
@@ -112,7 +112,7 @@ Zeroing at l s i = (at ≤ i) × (i ≤ length l) × (length s ≡ length l) × 
 
 pub ruleset zero-cases = (zeros-start, zeros-step, zeros-end)
 
-length-down : (by : ℕ) (l : List ℕ) → by ≤ length l → length (movedDown by l) ≡ length l
+pub length-down : (by : ℕ) (l : List ℕ) → by ≤ length l → length (movedDown by l) ≡ length l
 unfolding movedDown
 length-down by l h = simp (length-append, length-drop, length-replicate) (omega arith)
 

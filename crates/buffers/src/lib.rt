@@ -33,14 +33,14 @@ pub fn move_up_numbers(s: &mut [u64], by: usize)
 }
 
 // Moves the bytes up by `by` places; the first `by` keep their values.
-pub fn move_up_bytes(s: &mut [u8], by: usize)
-    requires { ⌜ (1 ≤ by) × (by ≤ length (now s)) ⌝ }
-    ensures { λ _. ⌜ now (s .exit) ≡ movedUp by (now (s .entry)) ⌝ }
+pub fn move_up_bytes(b: &mut [u8], by: usize)
+    requires { ⌜ (1 ≤ by) × (by ≤ length (now b)) ⌝ }
+    ensures { λ _. ⌜ now (b .exit) ≡ movedUp by (now (b .entry)) ⌝ }
 {
-    let mut i = s.len();
+    let mut i = b.len();
     while by < i {
         i -= 1;
-        s[i] = s[i - by];
+        b[i] = b[i - by];
     }
 }
 
@@ -57,13 +57,13 @@ fn zero_numbers_from(s: &mut [u64], at: usize)
 }
 
 // Sets the bytes from `at` on to zero.
-fn zero_bytes_from(s: &mut [u8], at: usize)
-    requires { ⌜ at ≤ length (now s) ⌝ }
-    ensures { λ _. ⌜ now (s .exit) ≡ zeroedFrom at (now (s .entry)) ⌝ }
+fn zero_bytes_from(b: &mut [u8], at: usize)
+    requires { ⌜ at ≤ length (now b) ⌝ }
+    ensures { λ _. ⌜ now (b .exit) ≡ zeroedFrom at (now (b .entry)) ⌝ }
 {
     let mut i = at;
-    while i < s.len() {
-        s[i] = 0;
+    while i < b.len() {
+        b[i] = 0;
         i += 1;
     }
 }
@@ -83,17 +83,17 @@ pub fn move_down_numbers(s: &mut [u64], by: usize)
 }
 
 // Moves the bytes down by `by` places; zeros come in at the end.
-pub fn move_down_bytes(s: &mut [u8], by: usize)
-    requires { ⌜ by ≤ length (now s) ⌝ }
-    ensures { λ _. ⌜ now (s .exit) ≡ movedDown by (now (s .entry)) ⌝ }
+pub fn move_down_bytes(b: &mut [u8], by: usize)
+    requires { ⌜ by ≤ length (now b) ⌝ }
+    ensures { λ _. ⌜ now (b .exit) ≡ movedDown by (now (b .entry)) ⌝ }
 {
-    let end = s.len() - by;
+    let end = b.len() - by;
     let mut i = 0;
     while i < end {
-        s[i] = s[i + by];
+        b[i] = b[i + by];
         i += 1;
     }
-    zero_bytes_from(s, end);
+    zero_bytes_from(b, end);
 }
 
 fn wide(x: u8) -> u64

@@ -7,10 +7,10 @@ use Rattle.buffers.proofs.move_down_bytes.Statement.{statement}
 use Rattle.buffers.proofs.move_down_bytes.Tie as tie
 
 abbrev Inv-loop : tie.InvT-loop
-Inv-loop s₀ by end i₀ s i = MovingDown by s₀ s i
+Inv-loop b₀ by end i₀ b i = MovingDown by b₀ b i
 
 abbrev μ-loop : tie.MeasureT-loop
-μ-loop s₀ by end i₀ s i = length s₀ - i
+μ-loop b₀ by end i₀ b i = length b₀ - i
 
 pub move-down-bytes-spec : {M : Type 1} → statement M
 move-down-bytes-spec =

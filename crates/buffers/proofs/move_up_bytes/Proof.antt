@@ -5,10 +5,10 @@ use Rattle.buffers.proofs.move_up_bytes.Statement.{statement}
 use Rattle.buffers.proofs.move_up_bytes.Tie as tie
 
 abbrev Inv-loop : tie.InvT-loop
-Inv-loop s₀ by i₀ s i = MovingUp by s₀ s i
+Inv-loop b₀ by i₀ b i = MovingUp by b₀ b i
 
 abbrev μ-loop : tie.MeasureT-loop
-μ-loop s₀ by i₀ s i = i
+μ-loop b₀ by i₀ b i = i
 
 pub move-up-bytes-spec : {M : Type 1} → statement M
 move-up-bytes-spec =

@@ -7,10 +7,10 @@ use Rattle.buffers.proofs.zero_bytes_from.Statement.{statement}
 use Rattle.buffers.proofs.zero_bytes_from.Tie as tie
 
 abbrev Inv-loop : tie.InvT-loop
-Inv-loop s₀ at i₀ s i = Zeroing at s₀ s i
+Inv-loop b₀ at i₀ b i = Zeroing at b₀ b i
 
 abbrev μ-loop : tie.MeasureT-loop
-μ-loop s₀ at i₀ s i = length s₀ - i
+μ-loop b₀ at i₀ b i = length b₀ - i
 
 pub zero-bytes-from-spec : {M : Type 1} → statement M
 zero-bytes-from-spec =
