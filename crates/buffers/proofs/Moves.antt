@@ -1,7 +1,7 @@
 -- Laws of the loops that move a list within its own length: what is done already holds what the move leaves, the rest is as it was.
 use Prim.Native.Nat.{ℕ, suc, _+_, _-_, _≤_, _<_}
-use mathlib.Core.Path.{_≡_, refl, sym, ap, _∙_}
-use mathlib.Core.List.{List, [], _∷_, _++_, append-nil}
+use mathlib.Core.Path.{_≡_, sym, ap, _∙_}
+use mathlib.Core.List.{List, _∷_, _++_, append-nil}
 use native.Mathlib.Omega.{arith}
 use native.Mathlib.Numerals.{add-one}
 use lib.ListN.{length, take, drop, getD, set, replicate, length-append, length-take, length-drop, length-replicate, take-append-drop, List·getD-append, getD-replicate}
@@ -122,9 +122,6 @@ down-at by l i h =
     let q : by + i ≡ i + by = omega arith in
     List·getD-append (drop by l) (replicate by 0) 0 i (simp length-drop (omega arith)) ∙ getD-drop by l i 0 ∙ rw q
 
-pub down-start : (by : ℕ) (l : List ℕ) → l ≡ joined 0 (movedDown by l) l
-down-start by l = refl
-
 pub down-step : (by : ℕ) (l s : List ℕ) (i : ℕ) → s ≡ joined i (movedDown by l) l → by ≤ length l → i < length l - by
     → set s i (getD s (i + by) 0) ≡ joined (i + 1) (movedDown by l) l
 down-step by l s i e h g =
@@ -132,7 +129,7 @@ down-step by l s i e h g =
     let v : getD s (i + by) 0 ≡ getD (movedDown by l) i 0 = rw e (after (movedDown by l) l q i by (omega arith)) ∙ sym (down-at by l i g) in
     rw v (rw (e, add-one i) (fill-up (movedDown by l) l q i (omega arith)))
 
--- what the zeros leave of a tail that was moved
+-- zeros behind what was moved are the move down
 pub down-end : (by : ℕ) (l s : List ℕ) (i : ℕ) (r : List ℕ) → s ≡ joined i (movedDown by l) l → by ≤ length l → i ≤ length l - by → length l - by ≤ i
     → r ≡ zeroedFrom (length l - by) s → r ≡ movedDown by l
 unfolding zeroedFrom movedDown
@@ -147,4 +144,4 @@ down-end by l s i r e h g k z =
 abbrev pub MovingDown : ℕ → List ℕ → List ℕ → ℕ → Type 0
 MovingDown by l s i = (i ≤ length l - by) × (length s ≡ length l) × (s ≡ joined i (movedDown by l) l)
 
-pub ruleset down-cases = (down-start, down-step, down-end)
+pub ruleset down-cases = (down-step, down-end)

@@ -1,6 +1,6 @@
 -- The definitions at work on small lists.
 use mathlib.Core.Path.{_≡_, refl}
-use mathlib.Core.List.{List, [], _∷_}
+use mathlib.Core.List.{[], _∷_}
 use Rattle.buffers.specs.Moves.{movedUp, movedDown, zeroedFrom}
 use Rattle.buffers.specs.Words.{number, spelled}
 use Rattle.buffers.specs.Writes.{placed}
