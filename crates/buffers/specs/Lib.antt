@@ -5,3 +5,4 @@ pub mod Ranges
 pub mod Writes
 pub mod Moves
 pub mod Words
+pub mod Examples

@@ -1,0 +1,32 @@
+-- A part of a buffer that is lent, as `&mut b[a..]` and `&mut b[a..e]`, and comes back changed.
+use Prim.Native.Nat.{ℕ, zero, suc, _+_, _-_}
+use mathlib.Core.Path.{_≡_, refl, sym, ap, _∙_}
+use mathlib.Core.List.{List, [], _∷_, _++_, append-nil, append-assoc}
+use native.Mathlib.Omega.{arith}
+use lib.ListN.{length, take, drop, length-drop, drop-of-length-le}
+use lib.Seq.{take-all, drop-drop}
+use borrow.Rule.Slice.PartMut.{midOf, putMid}
+use Rattle.buffers.specs.Writes.{placed}
+
+-- A lent tail is what stands from a on.
+pub tail-lent : (a : ℕ) (xs : List ℕ) → midOf a (length xs - a) xs ≡ drop a xs
+tail-lent a xs = take-all (length xs - a) (drop a xs) (rw length-drop (omega arith))
+
+pub tail-back : (a : ℕ) (xs ys zs : List ℕ) → ys ≡ zs → putMid a (length xs - a) xs ys ≡ take a xs ++ zs
+tail-back a xs ys zs e =
+    rw (e, drop-of-length-le (drop a xs) {i = length xs - a} (rw length-drop (omega arith)), append-nil)
+
+-- A tail that f changed; the caller names f.
+pub lent-tail : (f : List ℕ → List ℕ) (a : ℕ) (xs ys : List ℕ) → ys ≡ f (midOf a (length xs - a) xs) → putMid a (length xs - a) xs ys ≡ take a xs ++ f (drop a xs)
+lent-tail f a xs ys e = tail-back a xs ys (f (drop a xs)) (e ∙ ap f (tail-lent a xs))
+
+drop-taken : (k : ℕ) (l : List ℕ) → drop (length (take k l)) l ≡ drop k l
+drop-taken zero l = refl
+drop-taken (suc k) [] = refl
+drop-taken (suc k) (x ∷ l) = drop-taken k l
+
+-- A part comes back as long as it was, so it is written over what was there.
+pub part-back : (a k : ℕ) (xs ys zs : List ℕ) → ys ≡ zs → length ys ≡ length (midOf a k xs) → putMid a k xs ys ≡ placed xs a zs
+part-back a k xs ys zs q l =
+    let n : length (take k (drop a xs)) ≡ length zs = sym l ∙ ap length q in
+    rw (q, ← drop-taken k (drop a xs), n, drop-drop) (sym (append-assoc (take a xs) zs (drop (a + length zs) xs)))
