@@ -1,17 +1,17 @@
 -- Every printed number reads back as the same number, and no tab stands in it.
 use Prim.Native.Nat.{ℕ, zero, suc, _+_, _-_, _*_, _/_, _%_, _≤_, _<_}
-use mathlib.Core.Path.{_≡_, refl, sym, ap, _∙_}
+use mathlib.Core.Path.{_≡_, refl, _∙_}
 use mathlib.Core.Bool.{Bool, true, false}
 use mathlib.Core.List.{List, [], _∷_, _++_}
-use mathlib.Core.Option.{Option, some, none}
+use mathlib.Core.Option.{some}
 use native.Mathlib.Omega.{arith}
 use lib.ListN.{length, getD, length-append, List·getD-append}
-use lib.Dec.{leb, ltb, eqb}
+use lib.Dec.{ltb, eqb}
 use borrow.Author.Tests.{le-ltb, le-leb, ltb-true, ltb-false, ne-eqb}
 use Rattle.buffers.specs.Choices.{pick}
 use Rattle.buffers.specs.Lists.{all}
 use Rattle.buffers.proofs.Lists.{all-append}
-use Rattle.text.specs.Numbers.{isDigit, spelt, atMost, digitsOf, leadingZero, numberOf}
+use Rattle.text.specs.Numbers.{isDigit, spelt, leadingZero, numberOf}
 use Rattle.text.specs.Keys.{has}
 use Rattle.text.specs.Printing.{digitsUp, digits}
 use Rattle.text.proofs.Scans.{all-has}

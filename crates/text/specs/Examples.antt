@@ -1,13 +1,12 @@
 -- Numbers, fields, keys and prefixes, computed.
-use Prim.Native.Nat.{ℕ}
+
 use mathlib.Core.Path.{_≡_, refl}
-use mathlib.Core.Bool.{Bool, true, false}
-use mathlib.Core.List.{List, [], _∷_}
-use mathlib.Core.Option.{Option, some, none}
+use mathlib.Core.Bool.{true, false}
+use mathlib.Core.List.{[], _∷_}
+use mathlib.Core.Option.{some, none}
 use lib.ListN.{replicate}
 use Rattle.buffers.specs.Texts.{bytes}
 use Rattle.buffers.specs.Lists.{begins}
-use Rattle.text.specs.declared.Place.{Place}
 use Rattle.text.specs.Numbers.{isDigit, leadingZero, numberOf, positiveOf}
 use Rattle.text.specs.Fields.{fields, fieldOf, placeOf}
 use Rattle.text.specs.Keys.{isKeyByte, isPrefix, isKey}
