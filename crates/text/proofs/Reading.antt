@@ -97,6 +97,9 @@ more-some k n b m s e =
       | inr t ↦ let z : none ≡ some m = rw t at e in let q : _≡_ {A = ℕ} 0 1 = cc in absurd (omega arith)
     ]
 
+pub digits-most : (k n b m : ℕ) (v : Value) → valueOf v ≡ digitMore k n b → v ≡ Is m → m ≤ k
+digits-most k n b m v e t = (more-some k n b m [] (sym e ∙ ap valueOf t)) .1
+
 module _ (k : ℕ) (s : List ℕ) (i n : ℕ) where
   pub digits-stop : (v : Value) → i < length s → valueOf v ≡ digitMore k n (getD s i 0) → v ≡ Bad → digitsOf k s ≡ restOf k n (drop i s) → none ≡ digitsOf k s
   digits-stop v h e t q = sym (q ∙ rw (next s i h) (more-none k n (getD s i 0) (drop (i + 1) s) (sym e ∙ ap valueOf t)))
@@ -104,9 +107,6 @@ module _ (k : ℕ) (s : List ℕ) (i n : ℕ) where
   pub digits-step : (v : Value) (m : ℕ) → i < length s → valueOf v ≡ digitMore k n (getD s i 0) → v ≡ Is m → digitsOf k s ≡ restOf k n (drop i s)
       → digitsOf k s ≡ restOf k m (drop (i + 1) s)
   digits-step v m h e t q = q ∙ rw (next s i h) ((more-some k n (getD s i 0) m (drop (i + 1) s) (sym e ∙ ap valueOf t)) .0)
-
-  pub digits-most : (v : Value) (b m : ℕ) → valueOf v ≡ digitMore k n b → v ≡ Is m → m ≤ k
-  digits-most v b m e t = (more-some k n b m [] (sym e ∙ ap valueOf t)) .1
 
   pub digits-end : length s ≤ i → n ≤ k → digitsOf k s ≡ restOf k n (drop i s) → some n ≡ digitsOf k s
   digits-end h m q = sym (q ∙ rw (drop-of-length-le s h) (simp (le-ltb k n m)))

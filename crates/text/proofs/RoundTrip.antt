@@ -64,10 +64,11 @@ up-first (suc f) n h a =
         let s : 10 ≤ n = ltb-false n 10 e in
         rw (List·getD-append (digitsUp f (n / 10)) ((48 + n % 10) ∷ []) 0 0 (y s)) (x s)
 
-up-zero : (n : ℕ) → leadingZero (digits n) ≡ false
+-- A printed number has no leading zero.
+no-zero-first : (n : ℕ) → leadingZero (digits n) ≡ false
 unfolding leadingZero digits
-up-zero zero = refl
-up-zero (suc n) = go (ltb (length (digitsUp (suc (suc n)) (suc n))) 2) (up-first (suc (suc n)) (suc n) (omega arith) (omega arith))
+no-zero-first zero = refl
+no-zero-first (suc n) = go (ltb (length (digitsUp (suc (suc n)) (suc n))) 2) (up-first (suc (suc n)) (suc n) (omega arith) (omega arith))
   where
     go : (t : Bool) → 49 ≤ getD (digitsUp (suc (suc n)) (suc n)) 0 0 → pick t false (eqb (getD (digitsUp (suc (suc n)) (suc n)) 0 0) 48) ≡ false
     go true h = refl
@@ -78,7 +79,7 @@ pub number-back : (k n : ℕ) → n ≤ k → numberOf k (digits n) ≡ some n
 unfolding numberOf digits
 number-back k n h =
     let s = up-some (suc n) n (omega arith) in
-    simp (ne-eqb (length (digitsUp (suc n) n)) 0 (λ e. omega arith), up-zero n, up-digits (suc n) n, up-spelt (suc n) n (omega arith), le-ltb k n h)
+    simp (ne-eqb (length (digitsUp (suc n) n)) 0 (λ e. omega arith), no-zero-first n, up-digits (suc n) n, up-spelt (suc n) n (omega arith), le-ltb k n h)
 
 -- Only digits are printed.
 pub digits-all : (n : ℕ) → all isDigit (digits n) ≡ true

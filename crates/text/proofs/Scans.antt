@@ -63,7 +63,7 @@ all-has p b f (a ∷ s) e =
 
 -- ## One text begins another
 
-begins-short : (t s : List ℕ) → length s < length t → false ≡ begins t s
+pub begins-short : (t s : List ℕ) → length s < length t → false ≡ begins t s
 begins-short [] s h = absurd (omega arith)
 begins-short (x ∷ t) [] h = refl
 begins-short (x ∷ t) (y ∷ s) h = go (eqb x y) (begins-short t s (omega arith))
@@ -73,9 +73,6 @@ begins-short (x ∷ t) (y ∷ s) h = go (eqb x y) (begins-short t s (omega arith
     go false e = refl
 
 module _ (t s : List ℕ) (i : ℕ) where
-  pub begins-long : length s < length t → false ≡ begins t s
-  begins-long h = begins-short t s h
-
   pub begins-stop : i < length t → length t ≤ length s → (getD t i 0 ≡ getD s i 0 → ⊥) → begins t s ≡ begins (drop i t) (drop i s) → false ≡ begins t s
   begins-stop h k n q = let m : i < length s = omega arith in sym (q ∙ rw (next t i h, next s i m) (simp (ne-eqb _ _ n)))
 
@@ -86,7 +83,7 @@ module _ (t s : List ℕ) (i : ℕ) where
   pub begins-end : length t ≤ i → begins t s ≡ begins (drop i t) (drop i s) → true ≡ begins t s
   begins-end h q = sym (q ∙ rw (drop-of-length-le t h))
 
-pub ruleset begins-cases = (begins-long, begins-stop, begins-step, begins-end)
+pub ruleset begins-cases = (begins-short, begins-stop, begins-step, begins-end)
 
 -- ## Two texts are the same
 

@@ -1,5 +1,4 @@
 -- Numbers, fields, keys and prefixes, computed.
-
 use mathlib.Core.Path.{_≡_, refl}
 use mathlib.Core.Bool.{true, false}
 use mathlib.Core.List.{[], _∷_}
@@ -12,6 +11,7 @@ use Rattle.text.specs.Fields.{fields, fieldOf, placeOf}
 use Rattle.text.specs.Keys.{isKeyByte, isPrefix, isKey}
 use Rattle.text.specs.Printing.{digits}
 
+-- what the definitions say of these texts
 pub record Examples : Type 0 where
   pub zeroAlone : numberOf 7 (bytes "0") ≡ some 0
   pub most : numberOf 18446744073709551615 (bytes "18446744073709551615") ≡ some 18446744073709551615
@@ -20,7 +20,7 @@ pub record Examples : Type 0 where
   pub empty : numberOf 100 [] ≡ none
   pub sign : numberOf 100 (bytes "+1") ≡ none
   pub noPositive : positiveOf 100 (bytes "0") ≡ none
-  pub printed : digits 100000 ≡ bytes "100000"
+  pub printed : digits 2024 ≡ bytes "2024"
   pub split : fields (bytes "GET\tkey\t\t7") ≡ bytes "GET" ∷ bytes "key" ∷ [] ∷ bytes "7" ∷ []
   pub last : placeOf (bytes "GET\tkey\t\t7") 3 ≡ record { start = 9; len = 1 }
   pub missing : fieldOf (bytes "GET\tkey") 2 ≡ []
@@ -33,6 +33,7 @@ pub record Examples : Type 0 where
   pub begun : begins (bytes "lo") (bytes "logs") ≡ true
   pub longPrefix : begins (bytes "logs") (bytes "lo") ≡ false
 
+-- each by computing
 pub examples : Examples
 unfolding isDigit leadingZero numberOf positiveOf fieldOf placeOf isKeyByte isPrefix isKey digits
 examples =

@@ -32,6 +32,7 @@ fn tab_at(b: u8) -> usize
     0
 }
 
+// The tabs of a line, one fewer than its fields.
 pub fn tabs(line: &[u8]) -> usize
     ensures { λ r. ⌜ r ≡ tabsIn (now (line .entry)) ⌝ }
 {
@@ -220,6 +221,7 @@ pub fn contains(text: &[u8], b: u8) -> bool
     false
 }
 
+// A byte that may stand in a key: 0x21 to 0x7E.
 fn is_key_byte(b: u8) -> bool
     ensures { λ r. ⌜ r ≡ isKeyByte b ⌝ }
 {
@@ -243,6 +245,7 @@ fn key_bytes(text: &[u8]) -> bool
     true
 }
 
+// A prefix has 0 to 63 such bytes.
 pub fn is_prefix(text: &[u8]) -> bool
     ensures { λ r. ⌜ r ≡ isPrefix (now (text .entry)) ⌝ }
 {
@@ -252,6 +255,7 @@ pub fn is_prefix(text: &[u8]) -> bool
     key_bytes(text)
 }
 
+// A key has 1 to 63 such bytes.
 pub fn is_key(text: &[u8]) -> bool
     ensures { λ r. ⌜ r ≡ isKey (now (text .entry)) ⌝ }
 {
