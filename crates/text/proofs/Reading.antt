@@ -12,7 +12,7 @@ use borrow.Author.Tests.{lt-ltb, le-ltb, ltb-true, ltb-false, eqb-false}
 use Rattle.buffers.specs.Choices.{pick, thenSome}
 use Rattle.buffers.specs.Lists.{all}
 use Rattle.buffers.specs.Ranges.{Span}
-use Rattle.buffers.proofs.Tests.{either}
+use Rattle.buffers.proofs.Tests.{either, clash}
 use Rattle.text.specs.declared.Value.{Value}
 use Rattle.text.specs.declared.Value.the-variants.{Is, Bad}
 use Rattle.text.specs.Numbers.{valueOf, isDigit, spelt, atMost, digitMore, digitsOf, leadingZero, numberOf, positiveOf}
@@ -20,35 +20,26 @@ use Rattle.text.proofs.Scans.{next}
 
 -- ## One digit more
 
-digit-from : (b : ℕ) → isDigit b ≡ true → 48 ≤ b
+pub digit-from : (r : Bool) (b : ℕ) → r ≡ isDigit b → r ≡ true → 48 ≤ b
 unfolding isDigit
-digit-from b e =
+digit-from r b e h =
     elim (either (ltb b 48)) [
-      | inl t ↦ let z : false ≡ true = rw t at e in let q : _≡_ {A = ℕ} 0 1 = cc in absurd (omega arith)
+      | inl t ↦ let z : r ≡ false = e ∙ rw t in absurd (clash r h z)
       | inr t ↦ ltb-false b 48 t
     ]
 
-module _ (k n b : ℕ) (r : Bool) (e : r ≡ isDigit b) where
-  pub more-from : r ≡ true → 48 ≤ b
-  more-from t = digit-from b (sym e ∙ t)
+-- The tests of the code, which never pass the bound, decide whether n * 10 + d does.
+module _ (k n d : ℕ) where
+  pub over-low : k < d → k < n * 10 + d
+  over-low h = omega arith
 
-  pub more-not : r ≡ false → none ≡ digitMore k n b
-  unfolding digitMore
-  more-not t = simp (sym e ∙ t)
+  pub over-high : d ≤ k → (k - d) / 10 < n → k < n * 10 + d
+  over-high h o = omega arith
 
-  pub more-low : r ≡ true → k < b - 48 → none ≡ digitMore k n b
-  unfolding digitMore
-  more-low t h = simp (sym e ∙ t, lt-ltb k (n * 10 + (b - 48)) (omega arith))
+  pub not-over : d ≤ k → n ≤ (k - d) / 10 → n * 10 + d ≤ k
+  not-over h o = omega arith
 
-  pub more-over : r ≡ true → b - 48 ≤ k → (k - (b - 48)) / 10 < n → none ≡ digitMore k n b
-  unfolding digitMore
-  more-over t h o = simp (sym e ∙ t, lt-ltb k (n * 10 + (b - 48)) (omega arith))
-
-  pub more-is : r ≡ true → b - 48 ≤ k → n ≤ (k - (b - 48)) / 10 → some (n * 10 + (b - 48)) ≡ digitMore k n b
-  unfolding digitMore
-  more-is t h o = simp (sym e ∙ t, le-ltb k (n * 10 + (b - 48)) (omega arith))
-
-pub ruleset more-cases = (more-from, more-not, more-low, more-over, more-is)
+pub ruleset more-cases = (digit-from, over-low, over-high, not-over)
 
 -- ## All the digits
 
