@@ -1,1 +1,6 @@
 pub mod Values
+pub mod Scans
+pub mod Fields
+pub mod Reading
+pub mod Printing
+pub mod RoundTrip

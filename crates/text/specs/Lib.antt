@@ -1,1 +1,5 @@
 pub mod Numbers
+pub mod Fields
+pub mod Keys
+pub mod Printing
+pub mod Examples

@@ -1,11 +1,105 @@
 // Parts of a line of text: fields between tabs, whole numbers, words, keys and prefixes, and printed numbers. The definitions are in specs/.
 ghost use mathlib.Core.Path.{_≡_};
-ghost use Rattle.text.specs.Numbers.{isDigit};
+ghost use Prim.Native.Nat.{_+_, _≤_};
+ghost use lib.ListN.{length};
+ghost use Rattle.buffers.specs.Lists.{same, begins};
+ghost use Rattle.buffers.specs.Ranges.{Within};
+ghost use Rattle.buffers.specs.Writes.{Wrote};
+ghost use Rattle.text.specs.Numbers.{valueOf, isDigit, leadingZero, digitMore, digitsOf, numberOf, positiveOf};
+ghost use Rattle.text.specs.Fields.{tabAt, tabsIn, startOf, fieldOf, partOf, Found};
+ghost use Rattle.text.specs.Keys.{isKeyByte, keyBytes, isPrefix, isKey, has};
+ghost use Rattle.text.specs.Printing.{digits};
 
 // A number that was read, or one that can't be read.
 pub enum Value {
     Is(u64),
     Bad,
+}
+
+// A part of a line: the bytes from `start` on, `len` of them.
+pub struct Place {
+    pub start: usize,
+    pub len: usize,
+}
+
+// 1 for a tab, 0 for any other byte.
+fn tab_at(b: u8) -> usize
+    ensures { λ r. ⌜ Within r (tabAt b) 1 ⌝ }
+{
+    if b == b'\t' {
+        return 1;
+    }
+    0
+}
+
+// The tabs of a line, one fewer than its fields.
+pub fn tabs(line: &[u8]) -> usize
+    ensures { λ r. ⌜ r ≡ tabsIn (now (line .entry)) ⌝ }
+{
+    let mut n = 0;
+    let mut i = 0;
+    while i < line.len() {
+        n += tab_at(line[i]);
+        i += 1;
+    }
+    n
+}
+
+// Where field i starts: behind i tabs, or at the line's end.
+fn find_start(line: &[u8], i: usize) -> usize
+    ensures { λ r. ⌜ Within r (startOf (now (line .entry)) i) (length (now (line .entry))) ⌝ }
+{
+    let mut left = i;
+    let mut at = 0;
+    while at < line.len() {
+        if left == 0 {
+            return at;
+        }
+        left -= tab_at(line[at]);
+        at += 1;
+    }
+    at
+}
+
+// The bytes before the first tab: how many.
+fn first_length(rest: &[u8]) -> usize
+    ensures { λ r. ⌜ r ≡ length (fieldOf (now (rest .entry)) 0) ⌝ }
+{
+    let mut i = 0;
+    while i < rest.len() {
+        if rest[i] == b'\t' {
+            return i;
+        }
+        i += 1;
+    }
+    i
+}
+
+// The place of field i, counted from 0.
+pub fn find_place(line: &[u8], i: usize) -> Place
+    ensures { λ r. ⌜ Found (now (line .entry)) i r ⌝ }
+{
+    let start = find_start(line, i);
+    let len = first_length(&line[start..]);
+    Place { start, len }
+}
+
+// The bytes at a place.
+pub fn part(line: &[u8], p: Place) -> &[u8]
+    requires { ⌜ p .start + p .len ≤ length (now line) ⌝ }
+    ensures { λ r. ⌜ now r ≡ partOf (now (line .entry)) p ⌝ }
+{
+    let start = p.start;
+    let end = start + p.len;
+    &line[start..end]
+}
+
+// The bytes of field i, counted from 0.
+pub fn field(line: &[u8], i: usize) -> &[u8]
+    ensures { λ r. ⌜ now r ≡ fieldOf (now (line .entry)) i ⌝ }
+{
+    let p = find_place(line, i);
+    part(line, p)
 }
 
 pub fn is_digit(b: u8) -> bool
@@ -15,4 +109,172 @@ pub fn is_digit(b: u8) -> bool
         return false;
     }
     b <= 57
+}
+
+// The number with one digit more behind it.
+fn digit_more(most: u64, n: u64, b: u8) -> Value
+    ensures { λ r. ⌜ valueOf r ≡ digitMore most n b ⌝ }
+{
+    if is_digit(b) {
+        let d = (b - 48) as u64;
+        if most < d {
+            return Value::Bad;
+        }
+        if (most - d) / 10 < n {
+            return Value::Bad;
+        }
+        return Value::Is(n * 10 + d);
+    }
+    Value::Bad
+}
+
+// Digits only, which spell a number at most `most`.
+fn read_digits(text: &[u8], most: u64) -> Value
+    ensures { λ r. ⌜ valueOf r ≡ digitsOf most (now (text .entry)) ⌝ }
+{
+    let mut n = 0;
+    let mut i = 0;
+    while i < text.len() {
+        let Value::Is(m) = digit_more(most, n, text[i]) else {
+            return Value::Bad;
+        };
+        n = m;
+        i += 1;
+    }
+    Value::Is(n)
+}
+
+// A zero with something behind it.
+fn leading_zero(text: &[u8]) -> bool
+    ensures { λ r. ⌜ r ≡ leadingZero (now (text .entry)) ⌝ }
+{
+    if text.len() < 2 {
+        return false;
+    }
+    text[0] == b'0'
+}
+
+// A whole number at most `most`.
+pub fn read_number(text: &[u8], most: u64) -> Value
+    ensures { λ r. ⌜ valueOf r ≡ numberOf most (now (text .entry)) ⌝ }
+{
+    if text.len() == 0 {
+        return Value::Bad;
+    }
+    if leading_zero(text) {
+        return Value::Bad;
+    }
+    read_digits(text, most)
+}
+
+// A whole number from 1 to `most`.
+pub fn read_positive(text: &[u8], most: u64) -> Value
+    ensures { λ r. ⌜ valueOf r ≡ positiveOf most (now (text .entry)) ⌝ }
+{
+    let Value::Is(n) = read_number(text, most) else {
+        return Value::Bad;
+    };
+    if n == 0 {
+        return Value::Bad;
+    }
+    Value::Is(n)
+}
+
+// The prefix begins the key.
+pub fn begins_with(key: &[u8], prefix: &[u8]) -> bool
+    ensures { λ r. ⌜ r ≡ begins (now (prefix .entry)) (now (key .entry)) ⌝ }
+{
+    if key.len() < prefix.len() {
+        return false;
+    }
+    let mut i = 0;
+    while i < prefix.len() {
+        if prefix[i] != key[i] {
+            return false;
+        }
+        i += 1;
+    }
+    true
+}
+
+// The two are the same, byte for byte.
+pub fn is_word(text: &[u8], word: &[u8]) -> bool
+    ensures { λ r. ⌜ r ≡ same (now (text .entry)) (now (word .entry)) ⌝ }
+{
+    if text.len() != word.len() {
+        return false;
+    }
+    begins_with(word, text)
+}
+
+// The byte stands in the text.
+pub fn contains(text: &[u8], b: u8) -> bool
+    ensures { λ r. ⌜ r ≡ has (now (text .entry)) b ⌝ }
+{
+    let mut i = 0;
+    while i < text.len() {
+        if text[i] == b {
+            return true;
+        }
+        i += 1;
+    }
+    false
+}
+
+// A byte that may stand in a key: 0x21 to 0x7E.
+fn is_key_byte(b: u8) -> bool
+    ensures { λ r. ⌜ r ≡ isKeyByte b ⌝ }
+{
+    if b < 0x21 {
+        return false;
+    }
+    b <= 0x7E
+}
+
+fn key_bytes(text: &[u8]) -> bool
+    ensures { λ r. ⌜ r ≡ keyBytes (now (text .entry)) ⌝ }
+{
+    let mut i = 0;
+    while i < text.len() {
+        if is_key_byte(text[i]) {
+            i += 1;
+        } else {
+            return false;
+        }
+    }
+    true
+}
+
+// A prefix has 0 to 63 such bytes.
+pub fn is_prefix(text: &[u8]) -> bool
+    ensures { λ r. ⌜ r ≡ isPrefix (now (text .entry)) ⌝ }
+{
+    if 63 < text.len() {
+        return false;
+    }
+    key_bytes(text)
+}
+
+// A key has 1 to 63 such bytes.
+pub fn is_key(text: &[u8]) -> bool
+    ensures { λ r. ⌜ r ≡ isKey (now (text .entry)) ⌝ }
+{
+    if text.len() == 0 {
+        return false;
+    }
+    is_prefix(text)
+}
+
+// Writes the digits of n from `at` on, and returns the place after them.
+pub fn print_number(out: &mut [u8], at: usize, n: u64) -> usize
+    requires { ⌜ at + 20 ≤ length (now out) ⌝ }
+    ensures { λ r. ⌜ Wrote (now (out .entry)) at (digits n) 20 (now (out .exit)) r ⌝ }
+{
+    if n < 10 {
+        out[at] = (48 + n) as u8;
+        return at + 1;
+    }
+    let next = print_number(out, at, n / 10);
+    out[next] = (48 + n % 10) as u8;
+    next + 1
 }

@@ -1,0 +1,205 @@
+-- The fields of a line: the loops that find them, and what is true of them.
+use Prim.Native.Nat.{ℕ, zero, suc, _+_, _-_, _≤_, _<_}
+use mathlib.Core.Path.{_≡_, refl, sym, ap, _∙_}
+use mathlib.Core.Logic.{inl, inr}
+use mathlib.Core.Bool.{Bool, true, false}
+use mathlib.Core.List.{List, [], _∷_, _++_, nil≢cons}
+use native.Mathlib.Omega.{arith}
+use lib.Dec.{eqb}
+use lib.ListN.{length, getD, take, drop, length-drop, drop-of-length-le}
+use borrow.Author.Tests.{eq-eqb, ne-eqb, eqb-true}
+use Rattle.buffers.specs.Choices.{pick}
+use Rattle.buffers.specs.Ranges.{Within}
+use Rattle.buffers.proofs.Tests.{either}
+use Rattle.text.specs.declared.Place.{Place}
+use Rattle.text.specs.Fields.{onFirst, fields, tabbed, fieldOf, tabAt, tabsIn, startOf, placeOf, partOf, Found}
+use Rattle.text.specs.Keys.{has}
+use Rattle.text.proofs.Scans.{next, rest-all}
+
+-- ## Tabs
+
+pub tab-yes : (b : ℕ) → b ≡ 9 → Within 1 (tabAt b) 1
+tab-yes b h = record { is = simp (eq-eqb b 9 h); most = omega arith }
+
+pub tab-no : (b : ℕ) → (b ≡ 9 → ⊥) → Within 0 (tabAt b) 1
+tab-no b h = record { is = simp (ne-eqb b 9 h); most = omega arith }
+
+pub ruleset tab-cases = (tab-yes, tab-no)
+
+module _ (s : List ℕ) (i n : ℕ) where
+  pub tabs-step : (r : ℕ) → i < length s → Within r (tabAt (getD s i 0)) 1 → tabsIn s ≡ n + tabsIn (drop i s) → tabsIn s ≡ n + r + tabsIn (drop (i + 1) s)
+  tabs-step r h w q = q ∙ rw (next s i h, ← w .is) (omega arith)
+
+  pub tabs-end : length s ≤ i → tabsIn s ≡ n + tabsIn (drop i s) → n ≡ tabsIn s
+  tabs-end h q = sym (q ∙ rw (drop-of-length-le s h) (omega arith))
+
+pub ruleset tabs-cases = (tabs-step, tabs-end)
+
+-- ## The first byte and its field
+
+field-zero : (b : ℕ) (s : List ℕ) → fieldOf (b ∷ s) 0 ≡ pick (eqb b 9) [] (b ∷ fieldOf s 0)
+unfolding fieldOf
+field-zero b s = go (eqb b 9)
+  where
+    on : (fs : List (List ℕ)) → getD (onFirst b fs) 0 [] ≡ b ∷ getD fs 0 []
+    on [] = refl
+    on (f ∷ fs) = refl
+
+    go : (t : Bool) → getD (pick t ([] ∷ fields s) (onFirst b (fields s))) 0 [] ≡ pick t [] (b ∷ getD (fields s) 0 [])
+    go true = refl
+    go false = on (fields s)
+
+field-suc : (b : ℕ) (s : List ℕ) (i : ℕ) → fieldOf (b ∷ s) (suc i) ≡ fieldOf s (suc i - tabAt b)
+unfolding fieldOf
+field-suc b s i = go (eqb b 9)
+  where
+    on : (fs : List (List ℕ)) → getD (onFirst b fs) (suc i) [] ≡ getD fs (suc i) []
+    on [] = refl
+    on (f ∷ fs) = refl
+
+    go : (t : Bool) → getD (pick t ([] ∷ fields s) (onFirst b (fields s))) (suc i) [] ≡ getD (fields s) (suc i - pick t 1 0) []
+    go true = let z : i ≡ suc i - 1 = omega arith in ap (λ (k : ℕ). getD (fields s) k []) z
+    go false = let z : suc i ≡ suc i - 0 = omega arith in on (fields s) ∙ ap (λ (k : ℕ). getD (fields s) k []) z
+
+-- ## The length of the first field
+
+module _ (s : List ℕ) (i : ℕ) where
+  pub first-stop : i < length s → getD s i 0 ≡ 9 → length (fieldOf s 0) ≡ i + length (fieldOf (drop i s) 0) → i ≡ length (fieldOf s 0)
+  first-stop h t q = sym (q ∙ rw (next s i h, field-zero, eq-eqb _ _ t) (omega arith))
+
+  pub first-step : i < length s → (getD s i 0 ≡ 9 → ⊥) → length (fieldOf s 0) ≡ i + length (fieldOf (drop i s) 0)
+      → length (fieldOf s 0) ≡ i + 1 + length (fieldOf (drop (i + 1) s) 0)
+  first-step h t q = q ∙ rw (next s i h, field-zero, ne-eqb _ _ t) (omega arith)
+
+  pub first-end : length s ≤ i → length (fieldOf s 0) ≡ i + length (fieldOf (drop i s) 0) → i ≡ length (fieldOf s 0)
+  unfolding fieldOf
+  first-end h q = sym (q ∙ rw (drop-of-length-le s h) (omega arith))
+
+pub ruleset first-cases = (first-stop, first-step, first-end)
+
+-- ## The start of a field
+
+start-suc : (b : ℕ) (s : List ℕ) (i : ℕ) → (i ≡ 0 → ⊥) → startOf (b ∷ s) i ≡ suc (startOf s (i - tabAt b))
+start-suc b s zero h = absurd (h refl)
+start-suc b s (suc i) h = refl
+
+start-zero : (s : List ℕ) → startOf s 0 ≡ 0
+start-zero [] = refl
+start-zero (b ∷ s) = refl
+
+module _ (s : List ℕ) (i a n : ℕ) where
+  pub start-stop : a ≤ length s → n ≡ 0 → startOf s i ≡ a + startOf (drop a s) n → Within a (startOf s i) (length s)
+  start-stop h z q = record { is = sym (q ∙ rw (z, start-zero) (omega arith)); most = h }
+
+  pub start-step : (r : ℕ) → a < length s → (n ≡ 0 → ⊥) → Within r (tabAt (getD s a 0)) 1 → startOf s i ≡ a + startOf (drop a s) n
+      → startOf s i ≡ a + 1 + startOf (drop (a + 1) s) (n - r)
+  start-step r h z w q = q ∙ rw (next s a h) (rw (start-suc (getD s a 0) (drop (a + 1) s) n z) (rw (← w .is) (omega arith)))
+
+  pub start-end : length s ≤ a → a ≤ length s → startOf s i ≡ a + startOf (drop a s) n → Within a (startOf s i) (length s)
+  start-end h k q = record { is = sym (q ∙ rw (drop-of-length-le s h) (omega arith)); most = k }
+
+pub ruleset start-cases = (start-stop, start-step, start-end)
+
+-- ## The place of a field
+
+first-most : (s : List ℕ) → length (fieldOf s 0) ≤ length s
+unfolding fieldOf
+first-most [] = omega arith
+first-most (b ∷ s) = rw (field-zero b s) (go (eqb b 9) (first-most s))
+  where
+    go : (t : Bool) → length (fieldOf s 0) ≤ length s → length (pick t [] (b ∷ fieldOf s 0)) ≤ suc (length s)
+    go true h = omega arith
+    go false h = omega arith
+
+first-taken : (s : List ℕ) → take (length (fieldOf s 0)) s ≡ fieldOf s 0
+unfolding fieldOf
+first-taken [] = refl
+first-taken (b ∷ s) = rw (field-zero b s) (go (eqb b 9) (first-taken s))
+  where
+    go : (t : Bool) → take (length (fieldOf s 0)) s ≡ fieldOf s 0 → take (length (pick t [] (b ∷ fieldOf s 0))) (b ∷ s) ≡ pick t [] (b ∷ fieldOf s 0)
+    go true h = refl
+    go false h = ap (λ (l : List ℕ). b ∷ l) h
+
+-- Field i is the first field of what stands from its start on.
+from-start : (s : List ℕ) (i : ℕ) → fieldOf (drop (startOf s i) s) 0 ≡ fieldOf s i
+unfolding fieldOf
+from-start [] zero = refl
+from-start [] (suc i) = refl
+from-start (b ∷ s) zero = refl
+from-start (b ∷ s) (suc i) = from-start s (suc i - tabAt b) ∙ sym (field-suc b s i)
+
+start-most : (s : List ℕ) (i : ℕ) → startOf s i ≤ length s
+start-most [] i = omega arith
+start-most (b ∷ s) zero = omega arith
+start-most (b ∷ s) (suc i) = let h = start-most s (suc i - tabAt b) in omega arith
+
+-- A place lies within its line.
+pub place-within : (s : List ℕ) (i : ℕ) → placeOf s i .start + placeOf s i .len ≤ length s
+unfolding placeOf
+place-within s i =
+    let e = ap length (from-start s i) in
+    let m = first-most (drop (startOf s i) s) in
+    let d = length-drop (startOf s i) s in
+    let k = start-most s i in
+    omega arith
+
+-- The part of a line at a field's place is the field.
+pub place-field : (s : List ℕ) (i : ℕ) → partOf s (placeOf s i) ≡ fieldOf s i
+unfolding placeOf
+place-field s i = rw (← from-start s i) (first-taken (drop (startOf s i) s))
+
+pub found : (s : List ℕ) (i a r : ℕ) → Within a (startOf s i) (length s) → r ≡ length (fieldOf (take (length s - a) (drop a s)) 0)
+    → Found s i (record { start = a; len = r })
+unfolding placeOf
+found s i a r w e =
+    let q : r ≡ length (fieldOf s i) = e ∙ rw (rest-all a s, w .is, from-start s i) in
+    let p : _≡_ {A = Place} (record { start = a; len = r }) (placeOf s i) = rw (w .is, q) in
+    let m : startOf s i + length (fieldOf s i) ≤ length s = place-within s i in
+    record { is = p; within = omega arith }
+
+-- A part, as the code cuts it out.
+pub part-cut : (s : List ℕ) (p : Place) → take (p .start + p .len - p .start) (drop (p .start) s) ≡ partOf s p
+part-cut s p = let q : p .start + p .len - p .start ≡ p .len = omega arith in ap (λ (k : ℕ). take k (drop (p .start) s)) q
+
+pub field-found : (s : List ℕ) (i : ℕ) (p : Place) (t : List ℕ) → Found s i p → t ≡ partOf s p → t ≡ fieldOf s i
+field-found s i p t f e = e ∙ ap (λ (x : Place). partOf s x) (f .is) ∙ place-field s i
+
+-- ## What is true of fields
+
+-- A line is its fields, parted by tabs.
+pub fields-tabbed : (s : List ℕ) → tabbed (fields s) ≡ 9 ∷ s
+fields-tabbed [] = refl
+fields-tabbed (b ∷ s) =
+    elim (either (eqb b 9)) [
+      | inl t ↦ rw t (ap (λ (l : List ℕ). 9 ∷ l) (fields-tabbed s) ∙ rw (eqb-true b 9 t))
+      | inr t ↦ rw t (on (fields s) (fields-tabbed s))
+    ]
+  where
+    on : (fs : List (List ℕ)) → tabbed fs ≡ 9 ∷ s → tabbed (onFirst b fs) ≡ 9 ∷ b ∷ s
+    on [] e = absurd (nil≢cons e)
+    on (f ∷ fs) e = let q : f ++ tabbed fs ≡ s = cc in cc
+
+-- A line has one field more than tabs.
+pub fields-count : (s : List ℕ) → length (fields s) ≡ suc (tabsIn s)
+fields-count [] = refl
+fields-count (b ∷ s) = go (eqb b 9) (fields-count s)
+  where
+    on : (fs : List (List ℕ)) → length fs ≡ suc (tabsIn s) → length (onFirst b fs) ≡ suc (tabsIn s)
+    on [] e = absurd (omega arith)
+    on (f ∷ fs) e = e
+
+    go : (t : Bool) → length (fields s) ≡ suc (tabsIn s) → length (pick t ([] ∷ fields s) (onFirst b (fields s))) ≡ suc (pick t 1 0 + tabsIn s)
+    go true e = omega arith
+    go false e = let q = on (fields s) e in omega arith
+
+-- A field has no tab in it.
+pub field-no-tab : (s : List ℕ) (i : ℕ) → has (fieldOf s i) 9 ≡ false
+unfolding fieldOf
+field-no-tab [] zero = refl
+field-no-tab [] (suc i) = refl
+field-no-tab (b ∷ s) zero =
+    elim (either (eqb b 9)) [
+      | inl t ↦ rw (field-zero b s, t)
+      | inr t ↦ rw (field-zero b s, t, t) (field-no-tab s 0)
+    ]
+field-no-tab (b ∷ s) (suc i) = rw (field-suc b s i) (field-no-tab s (suc i - tabAt b))

@@ -1,0 +1,12 @@
+-- `field` meets its contract.
+use Rattle.text.proofs.Fields.{field-found}
+use borrow.Author.Needs.{needs}
+use Rattle.text.proofs.field.Statement.{statement}
+use Rattle.text.proofs.field.Tie as tie
+
+pub field-spec : {M : Type 1} → statement M
+field-spec = tie.close
+    (tie.spec
+    (λ c κs. search needs)
+    (λ c κs. search needs)
+    (λ c. search (needs, field-found)))

@@ -1,0 +1,55 @@
+-- The fields of a line, parted by tabs (0x09), and where they stand in it.
+use Prim.Native.Nat.{ℕ, zero, suc, _+_, _-_, _≤_}
+use mathlib.Core.Path.{_≡_}
+use mathlib.Core.List.{List, [], _∷_, _++_}
+use lib.Dec.{eqb}
+use lib.ListN.{length, getD, take, drop}
+use Rattle.buffers.specs.Choices.{pick}
+use Rattle.text.specs.declared.Place.{Place}
+
+-- the first field with one byte more at its front
+abbrev pub onFirst : ℕ → List (List ℕ) → List (List ℕ)
+onFirst b [] = (b ∷ []) ∷ []
+onFirst b (f ∷ fs) = (b ∷ f) ∷ fs
+
+-- the fields of a line: a tab ends one, every other byte belongs to one
+abbrev pub fields : List ℕ → List (List ℕ)
+fields [] = [] ∷ []
+fields (b ∷ s) = pick (eqb b 9) ([] ∷ fields s) (onFirst b (fields s))
+
+-- fields, each behind a tab
+abbrev pub tabbed : List (List ℕ) → List ℕ
+tabbed [] = []
+tabbed (f ∷ fs) = 9 ∷ f ++ tabbed fs
+
+-- field i, counted from 0; empty where the line has fewer
+unfoldable pub fieldOf : List ℕ → ℕ → List ℕ
+fieldOf s i = getD (fields s) i []
+
+-- 1 for a tab, 0 for any other byte
+abbrev pub tabAt : ℕ → ℕ
+tabAt b = pick (eqb b 9) 1 0
+
+-- the tabs of a line, one fewer than its fields
+abbrev pub tabsIn : List ℕ → ℕ
+tabsIn [] = 0
+tabsIn (b ∷ s) = tabAt b + tabsIn s
+
+-- where field i starts: behind i tabs, or at the line's end
+abbrev pub startOf : List ℕ → ℕ → ℕ
+startOf [] i = 0
+startOf (b ∷ s) zero = 0
+startOf (b ∷ s) (suc i) = suc (startOf s (suc i - tabAt b))
+
+-- the place of field i
+unfoldable pub placeOf : List ℕ → ℕ → Place
+placeOf s i = record { start = startOf s i; len = length (fieldOf s i) }
+
+-- the part of a line at a place
+abbrev pub partOf : List ℕ → Place → List ℕ
+partOf s p = take (p .len) (drop (p .start) s)
+
+-- the place of field i, which lies within the line
+pub record Found (s : List ℕ) (i : ℕ) (p : Place) : Type 0 where
+  pub is : p ≡ placeOf s i
+  pub within : p .start + p .len ≤ length s
