@@ -5,7 +5,7 @@ use mathlib.Core.Option.{Option, some, none}
 use Rattle.buffers.specs.Texts.{bytes}
 use Rattle.text.specs.Numbers.{isDigit}
 use Rattle.calendar.specs.Calendar.{day, leap, yearsLength, monthStart, monthLength, validDay, daysOf, guessOf, yearOf, monthOf, dateIn, civilOf}
-use Rattle.calendar.specs.Reading.{digitOf, twoDigits, fourDigits, dayNumber, dayAt, secondOfDay, secondAt, milliseconds, fractionOf, readDate}
+use Rattle.calendar.specs.Reading.{digitOf, twoDigits, fourDigits, dayNumber, dayAt, secondOfDay, secondAt, placeOf, milliseconds, fractionOf, readDate}
 use Rattle.calendar.specs.Printing.{dateText, printDate}
 use Rattle.calendar.specs.Periods.{periodEnd, expiresAt}
 
@@ -23,7 +23,7 @@ pub record Starred : Type 0 where
   pub threeDays : expiresAt 1709251200000 3 ≡ 1709510400000
 
 pub starred : Starred
-unfolding isDigit leap yearsLength monthStart monthLength validDay daysOf guessOf yearOf monthOf dateIn civilOf digitOf twoDigits fourDigits dayNumber dayAt secondOfDay secondAt milliseconds fractionOf readDate dateText printDate periodEnd expiresAt
+unfolding isDigit leap yearsLength monthStart monthLength validDay daysOf guessOf yearOf monthOf dateIn civilOf digitOf twoDigits fourDigits dayNumber dayAt secondOfDay secondAt placeOf milliseconds fractionOf readDate dateText printDate periodEnd expiresAt
 starred =
     record {
       epoch = refl;

@@ -66,13 +66,17 @@ secondAt s =
     secondOfDay hour minute second))))
     none) none
 
+-- the value of the digit at a place, 0 where it is missing
+unfoldable pub placeOf : List ℕ → ℕ → ℕ
+placeOf ds i = pick (ltb i (length ds)) (getD ds i 0 - 48) 0
+
 -- the milliseconds that 1 to 9 digits say: the first three count, missing ones are zero
 unfoldable pub milliseconds : List ℕ → Option ℕ
 milliseconds ds =
     pick (ltb (length ds) 1) none
     (pick (ltb 9 (length ds)) none
     (pick (all isDigit ds)
-    (some ((getD ds 0 48 - 48) * 100 + (getD ds 1 48 - 48) * 10 + (getD ds 2 48 - 48)))
+    (some (placeOf ds 0 * 100 + placeOf ds 1 * 10 + placeOf ds 2))
     none))
 
 -- what stands between the seconds and the `Z`: nothing, or a point and digits

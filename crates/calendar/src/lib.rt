@@ -3,13 +3,13 @@ use text::Value;
 ghost use mathlib.Core.Path.{_≡_};
 ghost use mathlib.Core.Bool.{true};
 ghost use Prim.Native.Nat.{_+_, _-_, _*_, _≤_, _<_};
-ghost use lib.ListN.{length, getD};
+ghost use lib.ListN.{length};
 ghost use Rattle.buffers.specs.Lists.{all};
 ghost use Rattle.buffers.specs.Ranges.{Within, Span};
 ghost use Rattle.buffers.specs.Writes.{Wrote};
 ghost use Rattle.text.specs.Numbers.{valueOf, isDigit};
 ghost use Rattle.calendar.specs.Calendar.{Bounded, latest, leap, yearLength, yearStart, monthStart, monthLength, validDay, daysOf, yearOf, monthOf, dateIn, civilOf};
-ghost use Rattle.calendar.specs.Reading.{instantOf, digitOf, twoDigits, fourDigits, dayNumber, dayAt, secondOfDay, secondAt, milliseconds, fractionOf, readDate};
+ghost use Rattle.calendar.specs.Reading.{instantOf, digitOf, twoDigits, fourDigits, dayNumber, dayAt, secondOfDay, secondAt, placeOf, milliseconds, fractionOf, readDate};
 ghost use Rattle.calendar.specs.Printing.{dateText, printDate};
 ghost use Rattle.calendar.specs.Periods.{periodEnd, expiresAt};
 
@@ -121,19 +121,21 @@ pub fn days_of(date: Civil) -> u64
     year_start(year) + in_year + (day - 1)
 }
 
+// The value of a byte that is a digit.
+fn value_of(b: u8) -> u64
+    requires { ⌜ isDigit b ≡ true ⌝ }
+    ensures { λ r. ⌜ Within r (b - 48) 9 ⌝ }
+{
+    (b - 48) as u64
+}
+
 fn digit(b: u8) -> Value
     ensures { λ r. ⌜ valueOf r ≡ digitOf b ⌝ }
 {
     if text::is_digit(b) {
-        return Value::Is(wide(b) - 48);
+        return Value::Is(value_of(b));
     }
     Value::Bad
-}
-
-fn wide(b: u8) -> u64
-    ensures { λ r. ⌜ r ≡ b ⌝ }
-{
-    b as u64
 }
 
 fn two_digits(text: &[u8], at: usize) -> Value
@@ -249,10 +251,10 @@ fn all_digits(digits: &[u8]) -> bool
 // The value of the digit at a place, 0 where it is missing.
 fn place(digits: &[u8], at: usize) -> u64
     requires { ⌜ all isDigit (now digits) ≡ true ⌝ }
-    ensures { λ r. ⌜ Within r (getD (now (digits .entry)) at 48 - 48) 9 ⌝ }
+    ensures { λ r. ⌜ Within r (placeOf (now (digits .entry)) at) 9 ⌝ }
 {
     if at < digits.len() {
-        return wide(digits[at]) - 48;
+        return value_of(digits[at]);
     }
     0
 }
