@@ -1,11 +1,11 @@
 -- Days: the date of a day is a valid one, and its days are the day again.
-use Prim.Native.Nat.{ℕ, zero, suc, _+_, _-_, _*_, _/_, _%_, _≤_, _<_}
+use Prim.Native.Nat.{ℕ, _+_, _-_, _≤_, _<_}
 use mathlib.Core.Path.{_≡_, refl, sym, _∙_}
-use mathlib.Core.Bool.{Bool, true, false, true≢false, false≢true}
+use mathlib.Core.Bool.{Bool, true, false, false≢true}
 use native.Mathlib.Omega.{arith}
 use mir.Val.{Fits}
 use mir.Syntax.{w64}
-use lib.Dec.{leb, ltb}
+use lib.Dec.{leb}
 use borrow.Author.Tests.{le-ltb, le-leb, ltb-false, leb-true}
 use Rattle.buffers.specs.Choices.{pick}
 use Rattle.buffers.specs.Ranges.{Within, Span}
@@ -38,14 +38,14 @@ valid-is c e =
     let fits : c .day ≤ monthLength (leap (c .year)) (c .month) = leb-true _ _ (g .1) in
     record {
       bounds =
-        record {
-          from = ltb-false _ _ (a .0);
-          to = ltb-false _ _ (b .0);
-          first = ltb-false _ _ (d .0);
-          last = l;
-          one = ltb-false _ _ (g .0);
-          most = omega (arith, month-31 (leap (c .year)) (c .month) l);
-        };
+          record {
+            from = ltb-false _ _ (a .0);
+            to = ltb-false _ _ (b .0);
+            first = ltb-false _ _ (d .0);
+            last = l;
+            one = ltb-false _ _ (g .0);
+            most = omega (arith, month-31 (leap (c .year)) (c .month) l);
+          };
       fits = fits;
     }
 
@@ -138,14 +138,11 @@ module _ (n y : ℕ) (ey : y ≡ yearOf n) (h : n ≤ 2932896) where
   pub civil-in-year : (s : ℕ) → Within s (yearStart y) 2932897 → n - s < yearLength (leap y)
   civil-in-year s es = rw (es .is, ey) (in-year n h)
 
-  civil-is-days : (s : ℕ) (r : Civil) → Within s (yearStart y) 2932897 → r ≡ dateIn y (n - s) → r ≡ civilOf n
-  unfolding civilOf
-  civil-is-days s r es er = er ∙ rw (es .is, ey)
-
   pub civil-is : (s : ℕ) (r : Civil) → Within s (yearStart y) 2932897 → r ≡ dateIn y (n - s) → r ≡ civilOf n
-  civil-is s r es er = civil-is-days s r es er
+  unfolding civilOf
+  civil-is s r es er = er ∙ rw (es .is, ey)
 
   pub civil-bounds : (s : ℕ) (r : Civil) → Within s (yearStart y) 2932897 → r ≡ dateIn y (n - s) → Bounded r
-  civil-bounds s r es er = rw (civil-is-days s r es er) (valid-is (civilOf n) (civil-valid n h) .bounds)
+  civil-bounds s r es er = rw (civil-is s r es er) (valid-is (civilOf n) (civil-valid n h) .bounds)
 
 pub ruleset civils = (civil-span, civil-low, civil-in-year, civil-is, civil-bounds)

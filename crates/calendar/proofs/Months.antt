@@ -1,6 +1,6 @@
 -- Months: their days by the twelve-entry table, and the month of a day is the right one.
-use Prim.Native.Nat.{ℕ, zero, suc, _+_, _-_, _*_, _/_, _%_, _≤_, _<_}
-use mathlib.Core.Path.{_≡_, refl, sym}
+use Prim.Native.Nat.{ℕ, _+_, _≤_, _<_}
+use mathlib.Core.Path.{_≡_, refl}
 use mathlib.Core.Bool.{Bool, true, false, _&&_}
 use native.Mathlib.Omega.{arith}
 use mir.Val.{Fits}
@@ -9,8 +9,8 @@ use lib.Dec.{leb, ltb}
 use borrow.Author.Tests.{leb-true, ltb-true}
 use Rattle.buffers.specs.Ranges.{Within, Span}
 use Rattle.buffers.proofs.Tests.{and-l, and-r}
-use Rattle.calendar.specs.Calendar.{leap, yearLength, monthTable, commonStart, monthStart, monthLength, monthOf}
-use Rattle.calendar.proofs.Tables.{upto, upto-at}
+use Rattle.calendar.specs.Calendar.{yearLength, commonStart, monthStart, monthLength, monthOf}
+use Rattle.calendar.proofs.Tables.{upto-at}
 use Rattle.calendar.proofs.Years.{year-least}
 
 -- ## The table

@@ -1,7 +1,7 @@
 -- Laws of reading: a text's parts as the code takes them, and how large a value that was read can be.
 use Prim.Native.Nat.{ℕ, zero, suc, _+_, _-_, _*_, _≤_, _<_}
 use mathlib.Core.Path.{_≡_, refl, sym, ap, _∙_}
-use mathlib.Core.Logic.{_⊎_, inl, inr}
+use mathlib.Core.Logic.{inl, inr}
 use mathlib.Core.Bool.{Bool, true, false, _&&_}
 use mathlib.Core.List.{List, [], _∷_}
 use mathlib.Core.Option.{Option, some, none}
@@ -12,20 +12,20 @@ use mir.Val.{Fits}
 use mir.Syntax.{w64}
 use lib.ListN.{length, getD, take, drop, length-drop, drop-of-length-le}
 use lib.Seq.{take-all, drop-cons}
-use lib.Dec.{ltb, leb, eqb}
+use lib.Dec.{ltb}
 use borrow.Author.Tests.{ltb-true, ltb-false, leb-true, lt-ltb, le-ltb}
 use Rattle.buffers.specs.Choices.{pick, thenSome}
 use Rattle.buffers.specs.Lists.{all}
 use Rattle.buffers.specs.Ranges.{Within}
 use Rattle.buffers.proofs.Tests.{either, and-l, and-r}
 use Rattle.text.specs.declared.Value.{Value}
-use Rattle.text.specs.declared.Value.the-variants.{Is, Bad}
+use Rattle.text.specs.declared.Value.the-variants.{Is}
 use Rattle.text.specs.Numbers.{valueOf, isDigit}
 use Rattle.calendar.specs.declared.Civil.{Civil}
 use Rattle.calendar.specs.declared.DateRead.{DateRead}
 use Rattle.calendar.specs.declared.DateRead.the-variants.{At, Unreadable}
 use Rattle.calendar.specs.Calendar.{latest, validDay, daysOf}
-use Rattle.calendar.specs.Reading.{instantOf, digitOf, twoDigits, fourDigits, dayNumber, dayAt, secondOfDay, secondAt, placeOf, milliseconds, fractionOf, readDate}
+use Rattle.calendar.specs.Reading.{instantOf, digitOf, twoDigits, dayNumber, dayAt, secondOfDay, secondAt, placeOf, milliseconds, fractionOf, readDate}
 use Rattle.calendar.proofs.Days.{days-most}
 
 -- ## Definitions by `thenSome`
@@ -141,9 +141,6 @@ pub run-at : (s : List ℕ) (i : ℕ) → all isDigit s ≡ true → i < length 
 run-at [] i e h = absurd (not-suc-le-zero h)
 run-at (x ∷ xs) zero e h = and-l (isDigit x) _ e
 run-at (x ∷ xs) (suc i) e h = run-at xs i (and-r (isDigit x) _ e) (le-of-suc-le-suc h)
-
-pub run-test : (s : List ℕ) (r : Bool) → r ≡ all isDigit s → r ≡ true → all isDigit s ≡ true
-run-test s r e t = sym e ∙ t
 
 -- ## The fraction
 

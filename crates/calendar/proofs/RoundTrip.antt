@@ -1,18 +1,17 @@
 -- Every printed date reads back as the same instant.
-use Prim.Native.Nat.{ℕ, zero, suc, _+_, _-_, _*_, _/_, _%_, _≤_, _<_}
-use mathlib.Core.Path.{_≡_, refl, sym, ap, _∙_}
-use mathlib.Core.Bool.{Bool, true, false}
+use Prim.Native.Nat.{ℕ, _+_, _-_, _*_, _/_, _%_, _≤_, _<_}
+use mathlib.Core.Path.{_≡_, refl, ap, _∙_}
+use mathlib.Core.Bool.{true}
 use mathlib.Core.List.{List, [], _∷_}
-use mathlib.Core.Option.{Option, some, none}
+use mathlib.Core.Option.{some}
 use native.Mathlib.Omega.{arith}
-use lib.Dec.{leb, ltb, eqb}
-use lib.ListN.{length, getD, drop}
+use lib.ListN.{getD}
 use borrow.Author.Tests.{le-ltb, le-leb}
 use Rattle.text.specs.Numbers.{isDigit}
 use Rattle.calendar.specs.declared.Civil.{Civil}
-use Rattle.calendar.specs.Calendar.{latest, day, civilOf, daysOf}
+use Rattle.calendar.specs.Calendar.{latest, day, civilOf}
 use Rattle.calendar.specs.Reading.{digitOf, twoDigits, fourDigits, dayNumber, dayAt, secondOfDay, secondAt, placeOf, milliseconds, fractionOf, readDate}
-use Rattle.calendar.specs.Printing.{lastDigit, lastThree, dateText, printDate}
+use Rattle.calendar.specs.Printing.{lastDigit, dateText, printDate}
 use Rattle.calendar.proofs.Days.{valid-is, civil-valid, civil-days}
 
 -- ## Digits
@@ -52,9 +51,9 @@ module _ (c : Civil) (t : ℕ) where
       let s : List ℕ = dateText c t in
       rw (
         four-printed s 0 y (y / 100) (y % 100)
-          (two-printed s 0 (y / 100) (y / 1000 % 10) (y / 100 % 10) refl refl (omega arith) (omega arith) (omega arith))
-          (two-printed s 2 (y % 100) (y / 10 % 10) (y % 10) refl refl (omega arith) (omega arith) (omega arith))
-          (omega arith),
+            (two-printed s 0 (y / 100) (y / 1000 % 10) (y / 100 % 10) refl refl (omega arith) (omega arith) (omega arith))
+            (two-printed s 2 (y % 100) (y / 10 % 10) (y % 10) refl refl (omega arith) (omega arith) (omega arith))
+            (omega arith),
         two-back s 5 (c .month) refl refl hm,
         two-back s 8 (c .day) refl refl hd,
       )

@@ -1,7 +1,7 @@
 -- Years: the closed formula of their first days agrees with the leap rule, and the year of a day is the right one.
 use Prim.Native.Nat.{ℕ, zero, suc, _+_, _-_, _*_, _/_, _%_, _≤_, _<_}
 use mathlib.Core.Path.{_≡_, refl, sym, ap, _∙_}
-use mathlib.Core.Logic.{_⊎_, inl, inr}
+use mathlib.Core.Logic.{inl, inr}
 use mathlib.Core.Bool.{Bool, true, false}
 use native.Mathlib.Omega.{arith}
 use lib.Dec.{ltb, eqb}
@@ -131,7 +131,7 @@ year-is n h =
     elim (either (ltb n (yearStart (guessOf n + 1)))) [
       | inl e ↦ rw e (record { from = g .from; to = g .to; low = guess-low n h; high = ltb-true _ _ e })
       | inr e ↦ let l = ltb-false n (yearStart (guessOf n + 1)) e in
-        rw e (record { from = omega arith; to = before-10000 (guessOf n + 1) n (omega arith) h l; low = l; high = guess-high n h })
+          rw e (record { from = omega arith; to = before-10000 (guessOf n + 1) n (omega arith) h l; low = l; high = guess-high n h })
     ]
 
 -- No year up to 9999 ends after the last day.

@@ -1,6 +1,5 @@
 -- Periods of days and years, and days after an instant.
 use Prim.Native.Nat.{ℕ, _+_, _*_}
-use mathlib.Core.Bool.{Bool, true, false}
 use lib.Dec.{eqb}
 use Rattle.buffers.specs.Choices.{pick}
 use Rattle.calendar.specs.Calendar.{day}

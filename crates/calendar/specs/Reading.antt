@@ -1,6 +1,5 @@
 -- What a date's text says, as `2020-08-10T21:46:00.123Z`. What can't be read is `none`.
 use Prim.Native.Nat.{ℕ, _+_, _-_, _*_}
-use mathlib.Core.Bool.{Bool, true, false}
 use mathlib.Core.List.{List}
 use mathlib.Core.Option.{Option, some, none}
 use lib.ListN.{length, getD, take, drop}

@@ -22,11 +22,11 @@ all-digits-spec =
     (tie.spec
     Inv-loop
     μ-loop
-    (λ c. search (needs, runs, not-true, not-false))
-    (λ c. search (needs, runs, not-true, not-false))
-    (λ c κs. search (needs, runs, not-true, not-false))
-    (λ c. search (needs, runs, not-true, not-false))
-    (λ c. search (needs, runs, not-true, not-false))
-    (λ c. search (needs, runs, not-true, not-false))
-    (λ c. search (needs, runs, not-true, not-false))
-    (λ c. search (needs, runs, not-true, not-false)))
+    (λ c. search needs)
+    (λ c. search needs)
+    (λ c κs. search needs)
+    (λ c. search (needs, runs, not-true))
+    (λ c. search needs)
+    (λ c. search needs)
+    (λ c. search (needs, runs, not-false))
+    (λ c. search (needs, runs)))

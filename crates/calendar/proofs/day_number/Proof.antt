@@ -13,6 +13,6 @@ day-number-spec =
     tie.close
     (tie.spec
     (λ c κs. search needs)
-    (λ c κs. search (needs, picks, valid-bounds, some-is))
-    (λ c. search (needs, picks, valid-bounds, some-is))
-    (λ c. search (needs, picks, valid-bounds, some-is)))
+    (λ c κs. search (needs, picks, valid-bounds))
+    (λ c. search (needs, picks, some-is))
+    (λ c. search (needs, picks)))

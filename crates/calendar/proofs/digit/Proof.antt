@@ -12,6 +12,6 @@ digit-spec =
     tie.close
     (tie.spec
     (λ c κs. search needs)
-    (λ c κs. search (needs, picks, digit-test, some-is))
-    (λ c. search (needs, picks, digit-test, some-is))
-    (λ c. search (needs, picks, digit-test, some-is)))
+    (λ c κs. search (needs, picks, digit-test))
+    (λ c. search (needs, picks, some-is))
+    (λ c. search (needs, picks)))

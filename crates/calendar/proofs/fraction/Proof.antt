@@ -11,9 +11,9 @@ unfolding fractionOf
 fraction-spec =
     tie.close
     (tie.spec
-    (λ c. search (needs, picks, rest-is))
+    (λ c. search (needs, picks))
     (λ c. search needs)
-    (λ c. search (needs, picks, rest-is))
+    (λ c. search (needs, picks))
     (λ c. search needs)
     (λ c. search needs)
     (λ c. search needs)

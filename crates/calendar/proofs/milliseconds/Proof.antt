@@ -1,6 +1,6 @@
 -- `milliseconds` meets its contract.
 use Rattle.buffers.proofs.Choices.{picks}
-use Rattle.calendar.proofs.Reading.{run-test, places-sum}
+use Rattle.calendar.proofs.Reading.{places-sum}
 use Rattle.calendar.specs.Reading.{milliseconds}
 use borrow.Author.Needs.{needs}
 use Rattle.calendar.proofs.milliseconds.Statement.{statement}
@@ -11,8 +11,8 @@ unfolding milliseconds
 milliseconds-spec =
     tie.close
     (tie.spec
-    (λ c. search (needs, picks, run-test, places-sum))
-    (λ c. search (needs, picks, run-test, places-sum))
+    (λ c. search (needs, picks))
+    (λ c. search (needs, picks))
     (λ c κs. search needs)
     (λ c κs. search needs)
     (λ c. search needs)
@@ -21,5 +21,5 @@ milliseconds-spec =
     (λ c. search needs)
     (λ c κs. search needs)
     (λ c. search needs)
-    (λ c. search (needs, picks, run-test, places-sum))
-    (λ c. search (needs, picks, run-test, places-sum)))
+    (λ c. search (needs, picks, places-sum))
+    (λ c. search (needs, picks)))

@@ -8,6 +8,6 @@ pub value-of-spec : {M : Type 1} → statement M
 value-of-spec =
     tie.close
     (tie.spec
-    (λ c. search (needs, digit-least, digit-value))
+    (λ c. search (needs, digit-least))
     (λ c. search needs)
-    (λ c. search (needs, digit-least, digit-value)))
+    (λ c. search (needs, digit-value)))
