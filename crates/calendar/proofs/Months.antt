@@ -1,0 +1,85 @@
+-- Months: their days by the twelve-entry table, and the month of a day is the right one.
+use Prim.Native.Nat.{ℕ, _+_, _≤_, _<_}
+use mathlib.Core.Path.{_≡_, refl}
+use mathlib.Core.Bool.{Bool, true, false, _&&_}
+use native.Mathlib.Omega.{arith}
+use mir.Val.{Fits}
+use mir.Syntax.{w64}
+use lib.Dec.{leb, ltb}
+use borrow.Author.Tests.{leb-true, ltb-true}
+use Rattle.buffers.specs.Ranges.{Within, Span}
+use Rattle.buffers.proofs.Tests.{and-l, and-r}
+use Rattle.calendar.specs.Calendar.{yearLength, commonStart, monthStart, monthLength, monthOf}
+use Rattle.calendar.proofs.Tables.{upto-at}
+use Rattle.calendar.proofs.Years.{year-least}
+
+-- ## The table
+
+common-most : (m : ℕ) → m ≤ 12 → commonStart m ≤ 334
+common-most m h = leb-true _ _ (upto-at 13 (λ k. leb (commonStart k) 334) refl m (omega arith))
+
+pub common-0 : (m : ℕ) → Span 1 m 12 → commonStart m ≤ 335
+common-0 m s = omega (arith, common-most m (s .to))
+
+pub common-1 : (m : ℕ) → Span 1 m 12 → commonStart m + 1 ≤ 335
+common-1 m s = omega (arith, common-most m (s .to))
+
+pub common-fits : (m : ℕ) → Span 1 m 12 → Fits w64 (commonStart m + 1)
+common-fits m s = omega (arith, common-most m (s .to))
+
+pub ruleset starts = (common-0, common-1, common-fits)
+
+-- ## The days of a month
+
+rising : (l : Bool) (m : ℕ) → m < 12 → monthStart l m ≤ monthStart l (m + 1)
+unfolding monthStart
+rising true m h = leb-true _ _ (upto-at 12 (λ k. leb (monthStart true k) (monthStart true (k + 1))) refl m h)
+rising false m h = leb-true _ _ (upto-at 12 (λ k. leb (monthStart false k) (monthStart false (k + 1))) refl m h)
+
+pub month-before : (l : Bool) (m s t : ℕ) → m < 12 → Within s (monthStart l m) 335 → Within t (monthStart l (m + 1)) 335 → s ≤ t
+month-before l m s t h es et = omega (arith, rising l m h)
+
+pub year-end-after : (l : Bool) (m s t : ℕ) → Within s (monthStart l m) 335 → Within t (yearLength l) 366 → s ≤ t
+year-end-after l m s t es et = omega (arith, year-least l)
+
+pub ruleset lengths = (month-before, year-end-after)
+
+pub month-31 : (l : Bool) (m : ℕ) → m ≤ 12 → monthLength l m ≤ 31
+unfolding monthStart monthLength
+month-31 true m h = leb-true _ _ (upto-at 13 (λ k. leb (monthLength true k) 31) refl m (omega arith))
+month-31 false m h = leb-true _ _ (upto-at 13 (λ k. leb (monthLength false k) 31) refl m (omega arith))
+
+-- A month ends within its year.
+pub month-in-year : (l : Bool) (m : ℕ) → m ≤ 12 → monthStart l m + monthLength l m ≤ yearLength l
+unfolding monthStart monthLength
+month-in-year true m h = leb-true _ _ (upto-at 13 (λ k. leb (monthStart true k + monthLength true k) 366) refl m (omega arith))
+month-in-year false m h = leb-true _ _ (upto-at 13 (λ k. leb (monthStart false k + monthLength false k) 365) refl m (omega arith))
+
+-- ## The month of a day
+
+-- m is a month and the year's day n lies in it
+abbrev inMonth : Bool → ℕ → ℕ → Bool
+inMonth l n m = leb 1 m && (leb m 12 && (leb (monthStart l m) n && ltb n (monthStart l m + monthLength l m)))
+
+pub record MonthIs (l : Bool) (n m : ℕ) : Type 0 where
+  pub from : 1 ≤ m
+  pub to : m ≤ 12
+  pub low : monthStart l m ≤ n
+  pub high : n < monthStart l m + monthLength l m
+
+in-month : (l : Bool) (n m : ℕ) → inMonth l n m ≡ true → MonthIs l n m
+in-month l n m t =
+    let a = and-r (leb 1 m) _ t in
+    let b = and-r (leb m 12) _ a in
+    record {
+      from = leb-true 1 m (and-l (leb 1 m) _ t);
+      to = leb-true m 12 (and-l (leb m 12) _ a);
+      low = leb-true (monthStart l m) n (and-l (leb (monthStart l m) n) _ b);
+      high = ltb-true n (monthStart l m + monthLength l m) (and-r (leb (monthStart l m) n) _ b);
+    }
+
+-- Both kinds of year, day by day.
+pub month-is : (l : Bool) (n : ℕ) → n < yearLength l → MonthIs l n (monthOf l n)
+unfolding monthOf monthStart monthLength
+month-is true n h = in-month true n (monthOf true n) (upto-at 366 (λ k. inMonth true k (monthOf true k)) refl n h)
+month-is false n h = in-month false n (monthOf false n) (upto-at 365 (λ k. inMonth false k (monthOf false k)) refl n h)

@@ -1,0 +1,139 @@
+-- Years: the closed formula of their first days agrees with the leap rule, and the year of a day is the right one.
+use Prim.Native.Nat.{ℕ, zero, suc, _+_, _-_, _*_, _/_, _%_, _≤_, _<_}
+use mathlib.Core.Path.{_≡_, refl, sym, ap, _∙_}
+use mathlib.Core.Logic.{inl, inr}
+use mathlib.Core.Bool.{Bool, true, false}
+use native.Mathlib.Omega.{arith}
+use lib.Dec.{ltb, eqb}
+use borrow.Author.Tests.{eqb-true, eqb-false, ltb-true, ltb-false}
+use Rattle.buffers.specs.Choices.{pick}
+use Rattle.buffers.specs.Ranges.{Within, Span}
+use Rattle.buffers.proofs.Tests.{either}
+use Rattle.calendar.specs.Calendar.{leap, yearLength, yearsLength, yearStart, guessOf, yearOf}
+
+pub year-most : (l : Bool) → yearLength l ≤ 366
+year-most true = omega arith
+year-most false = omega arith
+
+pub year-least : (l : Bool) → 365 ≤ yearLength l
+year-least true = omega arith
+year-least false = omega arith
+
+-- ## The closed formula
+
+-- the days from 1970-01-01 to the first day of year y, by the leap years before it
+abbrev pub closedStart : ℕ → ℕ
+closedStart y = 365 * (y - 1970) + (y - 1) / 4 + (y - 1) / 400 - ((y - 1) / 100 + 477)
+
+step4 : (y : ℕ) → 1 ≤ y → y % 4 ≡ 0 → y / 4 ≡ (y - 1) / 4 + 1
+step4 y h e = omega arith
+
+stay4 : (y : ℕ) → (y % 4 ≡ 0 → ⊥) → y / 4 ≡ (y - 1) / 4 + 0
+stay4 y e = omega arith
+
+step100 : (y : ℕ) → 1 ≤ y → y % 100 ≡ 0 → y / 100 ≡ (y - 1) / 100 + 1
+step100 y h e = omega arith
+
+stay100 : (y : ℕ) → (y % 100 ≡ 0 → ⊥) → y / 100 ≡ (y - 1) / 100 + 0
+stay100 y e = omega arith
+
+step400 : (y : ℕ) → 1 ≤ y → y % 400 ≡ 0 → y / 400 ≡ (y - 1) / 400 + 1
+step400 y h e = omega arith
+
+stay400 : (y : ℕ) → (y % 400 ≡ 0 → ⊥) → y / 400 ≡ (y - 1) / 400 + 0
+stay400 y e = omega arith
+
+room : (y : ℕ) → 1970 ≤ y → (y - 1) / 100 + 477 ≤ 365 * (y - 1970) + (y - 1) / 4 + (y - 1) / 400
+room y h = omega arith
+
+-- a year's turn, over the counts of leap years before it (a, b, d) and with it (a′, b′, d′)
+turn : (y a b d a′ b′ d′ l : ℕ) → 1970 ≤ y → b + 477 ≤ 365 * (y - 1970) + a + d → a′ + d′ + b + 365 ≡ a + d + b′ + l
+    → 365 * (y + 1 - 1970) + a′ + d′ - (b′ + 477) ≡ 365 * (y - 1970) + a + d - (b + 477) + l
+turn y a b d a′ b′ d′ l h r e = omega arith
+
+sums : (a b d a′ b′ d′ l i j k : ℕ) → a′ ≡ a + i → b′ ≡ b + j → d′ ≡ d + k → i + k + 365 ≡ j + l → a′ + d′ + b + 365 ≡ a + d + b′ + l
+sums a b d a′ b′ d′ l i j k ea eb ed e = omega arith
+
+closed-next : (y : ℕ) → 1970 ≤ y → closedStart (y + 1) ≡ closedStart y + yearLength (leap y)
+unfolding leap
+closed-next y h = rw p (go (eqb (y % 4) 0) refl (eqb (y % 100) 0) refl (eqb (y % 400) 0) refl)
+  where
+    p : y + 1 - 1 ≡ y
+    p = omega arith
+
+    by : (l i j k : ℕ) → y / 4 ≡ (y - 1) / 4 + i → y / 100 ≡ (y - 1) / 100 + j → y / 400 ≡ (y - 1) / 400 + k → i + k + 365 ≡ j + l
+        → 365 * (y + 1 - 1970) + y / 4 + y / 400 - (y / 100 + 477) ≡ closedStart y + l
+    by l i j k ea eb ed e = turn y _ _ _ _ _ _ l h (room y h) (sums _ _ _ _ _ _ l i j k ea eb ed e)
+
+    go : (a : Bool) → eqb (y % 4) 0 ≡ a → (b : Bool) → eqb (y % 100) 0 ≡ b → (d : Bool) → eqb (y % 400) 0 ≡ d
+        → 365 * (y + 1 - 1970) + y / 4 + y / 400 - (y / 100 + 477) ≡ closedStart y + yearLength (pick a (pick b d true) false)
+    go true ea true eb true ed = by 366 1 1 1 (step4 y (omega arith) (eqb-true _ _ ea)) (step100 y (omega arith) (eqb-true _ _ eb)) (step400 y (omega arith) (eqb-true _ _ ed)) refl
+    go true ea true eb false ed = by 365 1 1 0 (step4 y (omega arith) (eqb-true _ _ ea)) (step100 y (omega arith) (eqb-true _ _ eb)) (stay400 y (eqb-false _ _ ed)) refl
+    go true ea false eb true ed = absurd (eqb-false (y % 100) 0 eb (omega (arith, eqb-true (y % 400) 0 ed)))
+    go true ea false eb false ed = by 366 1 0 0 (step4 y (omega arith) (eqb-true _ _ ea)) (stay100 y (eqb-false _ _ eb)) (stay400 y (eqb-false _ _ ed)) refl
+    go false ea true eb d ed = absurd (eqb-false (y % 4) 0 ea (omega (arith, eqb-true (y % 100) 0 eb)))
+    go false ea false eb true ed = absurd (eqb-false (y % 4) 0 ea (omega (arith, eqb-true (y % 400) 0 ed)))
+    go false ea false eb false ed = by 365 0 0 0 (stay4 y (eqb-false _ _ ea)) (stay100 y (eqb-false _ _ eb)) (stay400 y (eqb-false _ _ ed)) refl
+
+years-closed : (n : ℕ) → yearsLength n ≡ closedStart (1970 + n)
+unfolding yearsLength
+years-closed zero = refl
+years-closed (suc n) =
+    let q : 1970 + suc n ≡ 1970 + n + 1 = omega arith in
+    ap (λ (k : ℕ). k + yearLength (leap (1970 + n))) (years-closed n) ∙ sym (closed-next (1970 + n) (omega arith)) ∙ ap closedStart (sym q)
+
+-- The closed formula counts the days that the leap rule gives.
+pub year-start-closed : (y : ℕ) → 1970 ≤ y → yearStart y ≡ closedStart y
+year-start-closed y h =
+    let q : 1970 + (y - 1970) ≡ y = omega arith in
+    years-closed (y - 1970) ∙ ap closedStart q
+
+-- The next year starts a year's length later.
+pub year-next : (y : ℕ) → 1970 ≤ y → yearStart (y + 1) ≡ yearStart y + yearLength (leap y)
+year-next y h = rw (year-start-closed y h, year-start-closed (y + 1) (omega arith)) (closed-next y h)
+
+pub year-start-is : (y : ℕ) → Span 1970 y 10000 → Within (closedStart y) (yearStart y) 2932897
+year-start-is y s = record { is = sym (year-start-closed y (s .from)); most = omega arith }
+
+-- ## The year of a day
+
+-- a year starts at most 75 days before as many mean Julian years
+closed-low : (y : ℕ) → 1970 ≤ y → y ≤ 10001 → 1461 * (y - 1970) ≤ 4 * closedStart y + 300
+closed-low y h k = omega arith
+
+pub guess-range : (n : ℕ) → n ≤ 2932896 → Span 1970 (guessOf n) 9999
+unfolding guessOf
+guess-range n h = record { from = omega arith; to = omega arith }
+
+guess-low : (n : ℕ) → n ≤ 2932896 → yearStart (guessOf n) ≤ n
+unfolding guessOf
+guess-low n h = rw (year-start-closed (guessOf n) (omega arith)) (omega arith)
+
+guess-high : (n : ℕ) → n ≤ 2932896 → n < yearStart (guessOf n + 1 + 1)
+unfolding guessOf
+guess-high n h = rw (year-start-closed (guessOf n + 1 + 1) (omega arith)) (omega (arith, closed-low (guessOf n + 1 + 1) (omega arith) (omega arith)))
+
+-- year 10000 starts after the last day
+before-10000 : (y n : ℕ) → 1970 ≤ y → n ≤ 2932896 → yearStart y ≤ n → y ≤ 9999
+before-10000 y n f h l = let k : closedStart y ≤ n = rw (year-start-closed y f) at l in omega arith
+
+-- day n lies in year y
+pub record YearIs (n y : ℕ) : Type 0 where
+  pub from : 1970 ≤ y
+  pub to : y ≤ 9999
+  pub low : yearStart y ≤ n
+  pub high : n < yearStart (y + 1)
+
+pub year-is : (n : ℕ) → n ≤ 2932896 → YearIs n (yearOf n)
+unfolding yearOf
+year-is n h =
+    let g = guess-range n h in
+    elim (either (ltb n (yearStart (guessOf n + 1)))) [
+      | inl e ↦ rw e (record { from = g .from; to = g .to; low = guess-low n h; high = ltb-true _ _ e })
+      | inr e ↦ let l = ltb-false n (yearStart (guessOf n + 1)) e in
+          rw e (record { from = omega arith; to = before-10000 (guessOf n + 1) n (omega arith) h l; low = l; high = guess-high n h })
+    ]
+
+-- No year up to 9999 ends after the last day.
+pub year-end : (y : ℕ) → 1970 ≤ y → y ≤ 9999 → yearStart (y + 1) ≤ 2932897
+year-end y h k = rw (year-start-closed (y + 1) (omega arith)) (omega arith)

@@ -1,0 +1,5 @@
+pub mod Calendar
+pub mod Reading
+pub mod Printing
+pub mod Periods
+pub mod Examples
