@@ -1,0 +1,182 @@
+-- 01's whole printed run, its starred lock examples, and uses of the lock clause, computed.
+use Prim.Native.Nat.{ℕ, _+_, _-_, _<_}
+use mathlib.Core.Path.{_≡_, refl}
+use mathlib.Core.Bool.{Bool, true, false}
+use mathlib.Core.List.{List, [], _∷_, _++_}
+use mathlib.Core.Option.{Option, some, none}
+use lib.Dec.{lit<}
+use Rattle.buffers.specs.Texts.{bytes}
+use Rattle.text.specs.Keys.{isKeyByte, isKey, isPrefix}
+use Rattle.calendar.specs.Periods.{periodEnd, expiresAt}
+use Rattle.model.specs.Rows.{Row, governance, compliance, soundRow}
+use Rattle.model.specs.Settings.{Rule, fresh, days, soundRules, soundConfig, fits, sound}
+use Rattle.model.specs.Requests.{
+  Rights,
+  Version,
+  numbered,
+  Name,
+  name,
+  Retention,
+  noRetention,
+  Terms,
+  Period,
+  Setting,
+  DefaultRetention,
+  LifecycleRule,
+  Query,
+  Get,
+  Verb,
+  Put,
+  Copy,
+  Retain,
+  Hold,
+  AddMarker,
+  DeleteVersion,
+  Set,
+  Sweep,
+  Ask,
+  Line,
+  reads,
+  inRange,
+}
+use Rattle.model.specs.Time.{defaultEnd}
+use Rattle.model.specs.Locks.{locked, admits}
+use Rattle.model.specs.Effects.{added, removed as rowsRemoved, rowsAfter, setConfig, configAfter}
+use Rattle.model.specs.Refusals.{halfGiven, needs, granted, lacksRight, pastDate, missing, namesMarker, barred, tooLate, spends, full, refusal}
+use Rattle.model.specs.Answers.{Answer, done, made, marked, removed, sweptCounts, shown, reply}
+use Rattle.model.specs.Run.{Event, Reply, no, ok, replies, run, accepted}
+use Rattle.model.specs.LockClause.{Held, InCompliance, InGovernance, OnHold}
+use Rattle.model.proofs.LockClause.{lock-clause}
+
+-- ## 01's run
+
+abbrev letters : Rights
+letters = record { r = true; w = true; d = true; t = true; h = true; b = true; c = true }
+
+abbrev line : ℕ → Verb → Line
+line t v = reads (record { call = record { room = 256; clock = t; who = letters }; verb = v })
+
+abbrev key : List ℕ
+key = bytes "q/7"
+
+abbrev first : Option Version
+first = some (numbered 1)
+
+abbrev plain : Terms
+plain = record { retention = noRetention; hold = none }
+
+-- 2024-03-01T00:00:00Z, the same day at 6 and at 12, and the day after.
+abbrev lines : List Line
+lines =
+    line 1709251200000 (Set (DefaultRetention (some compliance) (some (record { count = 1; unit = days }))))
+    ∷ line 1709251200000 (Put key 41 300 plain)
+    ∷ line 1709294400000 (DeleteVersion key (numbered 1) true)
+    ∷ line 1709294400000 (AddMarker key false)
+    ∷ line 1709272800000 (Ask (Get (name key first)))
+    ∷ line 1709337600000 (DeleteVersion key (numbered 1) false)
+    ∷ line 1709337600000 (Ask (Get (name key none)))
+    ∷ []
+
+pub whole-run : replies 1024 fresh lines ≡
+    ok done
+    ∷ ok (made (numbered 1))
+    ∷ no 9
+    ∷ ok (marked (numbered 2))
+    ∷ ok (shown (record { number = 1; kind = 1; created = 1709251200000; body = 41; size = 300; mode = 2; until = 1709337600000; hold = 0; key = key }))
+    ∷ ok (removed (numbered 1))
+    ∷ no 8
+    ∷ []
+unfolding isKeyByte isKey isPrefix periodEnd expiresAt soundRow soundRules soundConfig fits sound inRange defaultEnd locked admits added rowsRemoved rowsAfter setConfig configAfter halfGiven needs granted lacksRight pastDate missing namesMarker barred tooLate spends full refusal reply
+whole-run = refl
+
+-- ## The starred lock examples
+
+-- D, and a PUT under COMPLIANCE until D.
+abbrev D : ℕ
+D = 1000000
+
+abbrev until : ℕ → ℕ → Option Bool → Terms
+until m d h = record { retention = record { mode = some m; date = some d }; hold = h }
+
+abbrev putUntil : Line
+putUntil = line 1 (Put key 41 300 (until compliance D none))
+
+abbrev retainUntil : ℕ → Verb
+retainUntil d = Retain (name key first) (record { mode = some compliance; date = some d }) true
+
+-- What the second of two lines gets.
+abbrev second : Line → Line → List Reply
+second l m = replies 4 fresh (l ∷ m ∷ [])
+
+pub record Starred : Type 0 where
+  -- COMPLIANCE until D: DELETE at D less 1 ms with bypass is 9,
+  pub before-date : second putUntil (line (D - 1) (DeleteVersion key (numbered 1) true)) ≡ ok (made (numbered 1)) ∷ no 9 ∷ []
+  -- at D it is accepted.
+  pub at-date : second putUntil (line D (DeleteVersion key (numbered 1) true)) ≡ ok (made (numbered 1)) ∷ ok (removed (numbered 1)) ∷ []
+  -- RETAIN to the same date is accepted,
+  pub same-date : second putUntil (line 2 (retainUntil D)) ≡ ok (made (numbered 1)) ∷ ok done ∷ []
+  -- 1 ms earlier with bypass is 9, now being earlier still,
+  pub earlier-date : second putUntil (line 2 (retainUntil (D - 1))) ≡ ok (made (numbered 1)) ∷ no 9 ∷ []
+  -- otherwise 6.
+  pub no-later-now : second putUntil (line (D - 1) (retainUntil (D - 1))) ≡ ok (made (numbered 1)) ∷ no 6 ∷ []
+
+pub starred : Starred
+unfolding isKeyByte isKey isPrefix periodEnd expiresAt soundRow soundRules soundConfig fits sound inRange defaultEnd locked admits added rowsRemoved rowsAfter setConfig configAfter halfGiven needs granted lacksRight pastDate missing namesMarker barred tooLate spends full refusal reply
+starred = record { before-date = refl; at-date = refl; same-date = refl; earlier-date = refl; no-later-now = refl }
+
+-- ## SWEEP
+
+-- SWEEP at creation plus current days marks; 1 ms before, it doesn't.
+abbrev sweptAt : ℕ → List Reply
+sweptAt t =
+    replies 4 fresh
+    (line 1 (Set (LifecycleRule 0 (record { prefix = bytes "q/"; currentDays = 1; noncurrentDays = 0 })))
+    ∷ line 1 (Put key 41 300 plain)
+    ∷ line t Sweep
+    ∷ [])
+
+pub sweep-marks : sweptAt 86400001 ≡ ok done ∷ ok (made (numbered 1)) ∷ ok (sweptCounts 0 1) ∷ []
+unfolding isKeyByte isKey isPrefix periodEnd expiresAt soundRow soundRules soundConfig fits sound inRange defaultEnd locked admits added rowsRemoved rowsAfter setConfig configAfter halfGiven needs granted lacksRight pastDate missing namesMarker barred tooLate spends full refusal reply
+sweep-marks = refl
+
+pub sweep-waits : sweptAt 86400000 ≡ ok done ∷ ok (made (numbered 1)) ∷ ok (sweptCounts 0 0) ∷ []
+unfolding isKeyByte isKey isPrefix periodEnd expiresAt soundRow soundRules soundConfig fits sound inRange defaultEnd locked admits added rowsRemoved rowsAfter setConfig configAfter halfGiven needs granted lacksRight pastDate missing namesMarker barred tooLate spends full refusal reply
+sweep-waits = refl
+
+-- ## The lock clause at lists of lines
+
+-- After a DELETE that is refused and a marker, version 1, under COMPLIANCE by the default, is still held.
+abbrev four : List Line
+four =
+    line 1709251200000 (Set (DefaultRetention (some compliance) (some (record { count = 1; unit = days }))))
+    ∷ line 1709251200000 (Put key 41 300 plain)
+    ∷ line 1709294400000 (DeleteVersion key (numbered 1) true)
+    ∷ line 1709294400000 (AddMarker key false)
+    ∷ []
+
+pub compliance-held : Held (run 1024 fresh four) (accepted 1024 fresh four) 1 (InCompliance 1709337600000)
+unfolding isKeyByte isKey isPrefix periodEnd expiresAt soundRow soundRules soundConfig fits sound inRange defaultEnd locked admits added rowsRemoved rowsAfter setConfig configAfter halfGiven needs granted lacksRight pastDate missing namesMarker barred tooLate spends full refusal reply
+compliance-held = (lock-clause 1024 four) .inCompliance (_ ∷ []) (_ ∷ []) _ 1 1709337600000 refl refl (lit< tt)
+
+-- A GOVERNANCE lock outlasts a RETAIN of its own that lengthens it, and a refused one that shortens it.
+abbrev governed : List Line
+governed =
+    line 1 (Put key 41 300 (until governance D none))
+    ∷ line 2 (Retain (name key none) (record { mode = some governance; date = some (D + 5) }) false)
+    ∷ line 3 (Retain (name key none) (record { mode = some governance; date = some D }) false)
+    ∷ []
+
+pub governance-held : Held (run 1 fresh governed) (accepted 1 fresh governed) 1 (InGovernance D)
+unfolding isKeyByte isKey isPrefix periodEnd expiresAt soundRow soundRules soundConfig fits sound inRange defaultEnd locked admits added rowsRemoved rowsAfter setConfig configAfter halfGiven needs granted lacksRight pastDate missing namesMarker barred tooLate spends full refusal reply
+governance-held = (lock-clause 1 governed) .inGovernance [] (_ ∷ []) _ 1 D refl refl refl (lit< tt)
+
+-- A hold outlasts a DELETE with bypass.
+abbrev on-hold : List Line
+on-hold =
+    line 1 (Put key 41 300 (record { retention = noRetention; hold = some true }))
+    ∷ line 2 (DeleteVersion key (numbered 1) true)
+    ∷ []
+
+pub hold-held : Held (run 1 fresh on-hold) (accepted 1 fresh on-hold) 1 OnHold
+unfolding isKeyByte isKey isPrefix periodEnd expiresAt soundRow soundRules soundConfig fits sound inRange defaultEnd locked admits added rowsRemoved rowsAfter setConfig configAfter halfGiven needs granted lacksRight pastDate missing namesMarker barred tooLate spends full refusal reply
+hold-held = (lock-clause 1 on-hold) .onHold [] [] _ 1 refl refl refl

@@ -1,0 +1,132 @@
+-- Facts on a line and on a list of lines: the refusal's number, the first condition that holds, what a refusal leaves, time, and version numbers.
+use Prim.Native.Nat.{ℕ, _≤_, max}
+use mathlib.Core.Path.{_≡_, refl, sym, _∙_, ap, ap₂}
+use mathlib.Core.Logic.{_⊎_, inl, inr}
+use mathlib.Core.Bool.{Bool, true, false, not, _&&_}
+use mathlib.Core.List.{List, [], _∷_, _++_, cons≢nil, tail-eq-of-cons-eq}
+use native.Mathlib.Omega.{arith}
+use native.Mathlib.Nat.{le-trans}
+use lib.Dec.{eqb, leb}
+use borrow.Author.Tests.{eq-eqb, ne-eqb, leb-true, not-true}
+use Rattle.buffers.specs.Choices.{pick}
+use Rattle.buffers.specs.Lists.{all}
+use Rattle.buffers.proofs.Tests.{either, and-i, and-l, and-r}
+use Rattle.model.specs.Rows.{Row}
+use Rattle.model.specs.Settings.{Bucket, fresh, sound}
+use Rattle.model.specs.Requests.{Line, unreadable, reads}
+use Rattle.model.specs.Refusals.{Check, check, firstOf, checks, refusal}
+use Rattle.model.specs.Run.{Event, serve, run, accepted}
+use Rattle.model.specs.LockClause.{timeAfter, versions, distinct}
+use Rattle.model.proofs.Versions.{cons-none}
+use Rattle.model.proofs.LockClause.{good-fresh}
+
+-- ## The refusal
+
+abbrev atMost : ℕ → Check → Bool
+atMost k x = leb (x .number) k
+
+first-most : (k : ℕ) (xs : List Check) → all (atMost k) xs ≡ true → firstOf xs ≤ k
+first-most k [] e = omega arith
+first-most k (x ∷ xs) e =
+    elim (either (x .holds)) [
+      | inl h ↦ rw h (leb-true (x .number) k (and-l _ _ e))
+      | inr h ↦ rw h (first-most k xs (and-r (atMost k x) _ e))
+    ]
+
+-- A line returns 0 to 12.
+pub refusal-range : (c : ℕ) (b : Bucket) (l : Line) → refusal c b l ≤ 12
+unfolding refusal
+refusal-range c b (unreadable room) = first-most 12 (checks (sound c b) c b (unreadable room)) refl
+refusal-range c b (reads q) = first-most 12 (checks (sound c b) c b (reads q)) refl
+
+-- The condition of this number holds, and none before it in the list.
+pub record FirstHolds (xs : List Check) (n : ℕ) : Type 0 where
+  pub before : List Check
+  pub after : List Check
+  pub at : xs ≡ before ++ (check n true ∷ after)
+  pub none-before : all (λ x. not (x .holds)) before ≡ true
+
+first-holds : (xs : List Check) (n : ℕ) → firstOf xs ≡ n → (n ≡ 0 → ⊥) → FirstHolds xs n
+first-holds [] n e z = absurd (z (sym e))
+first-holds (x ∷ xs) n e z =
+    elim (either (x .holds)) [
+      | inl h ↦
+          let same : x ≡ check n true = ap₂ check (rw h at e) h in
+          record { before = []; after = xs; at = ap (λ (y : Check). y ∷ xs) same; none-before = refl }
+      | inr h ↦
+          let s = first-holds xs n (rw h at e) z in
+          record { before = x ∷ s .before; after = s .after; at = ap (λ (ys : List Check). x ∷ ys) (s .at); none-before = rw h (s .none-before) }
+    ]
+
+-- A refusal comes where its condition is the first in order to hold.
+pub refusal-first : (c : ℕ) (b : Bucket) (l : Line) (n : ℕ) → refusal c b l ≡ n → (n ≡ 0 → ⊥) → FirstHolds (checks (sound c b) c b l) n
+unfolding refusal
+refusal-first c b l n e z = first-holds (checks (sound c b) c b l) n e z
+
+-- A refused line changes nothing.
+pub refused-unchanged : (c : ℕ) (b : Bucket) (l : Line) → (refusal c b l ≡ 0 → ⊥) → serve c b l ≡ b
+refused-unchanged c b l n = rw (ne-eqb (refusal c b l) 0 n)
+
+-- ## Time
+
+-- Time never falls.
+pub time-line : (c : ℕ) (b : Bucket) (l : Line) → b .settings .time ≤ (serve c b l) .settings .time
+time-line c b (unreadable room) =
+    elim (either (eqb (refusal c b (unreadable room)) 0)) [
+      | inl e ↦ rw e (omega arith)
+      | inr e ↦ rw e (omega arith)
+    ]
+time-line c b (reads q) =
+    elim (either (eqb (refusal c b (reads q)) 0)) [
+      | inl e ↦ rw e (omega arith)
+      | inr e ↦ rw e (omega arith)
+    ]
+
+pub time-run : (c : ℕ) (b : Bucket) (ls : List Line) → b .settings .time ≤ (run c b ls) .settings .time
+time-run c b [] = omega arith
+time-run c b (l ∷ ls) = le-trans (time-line c b l) (time-run c (serve c b l) ls)
+
+-- ## Version numbers
+
+-- The table has at most one row of each number.
+abbrev AtMostOnce : List Row → Type 0
+AtMostOnce xs = (v : ℕ) → (versions v xs ≡ []) ⊎ ((x : Row) × (versions v xs ≡ x ∷ []))
+
+none-numbered : (v : ℕ) (xs : List Row) → versions v xs ≡ [] → all (λ y. not (eqb (y .number) v)) xs ≡ true
+none-numbered v [] e = refl
+none-numbered v (x ∷ xs) e =
+    let other = cons-none v x xs e in
+    rw (other .0) (none-numbered v xs (other .1))
+
+rest-once : (x : Row) (xs : List Row) → AtMostOnce (x ∷ xs) → versions (x .number) xs ≡ []
+rest-once x xs h =
+    let here : versions (x .number) (x ∷ xs) ≡ x ∷ versions (x .number) xs = rw (eq-eqb (x .number) (x .number) refl) in
+    elim (h (x .number)) [
+      | inl e ↦ absurd (cons≢nil (sym here ∙ e))
+      | inr e ↦ tail-eq-of-cons-eq (sym here ∙ e .1)
+    ]
+
+tail-once : (x : Row) (xs : List Row) → AtMostOnce (x ∷ xs) → AtMostOnce xs
+tail-once x xs h v =
+    elim (either (eqb (x .number) v)) [
+      | inl e ↦ elim (h v) [
+        | inl n ↦ absurd (cons≢nil (rw e at n))
+        | inr n ↦ inl (tail-eq-of-cons-eq (rw e at (n .1)))
+      ]
+      | inr e ↦ rw e at (h v)
+    ]
+
+distinct-once : (xs : List Row) → AtMostOnce xs → distinct xs ≡ true
+distinct-once [] h = refl
+distinct-once (x ∷ xs) h =
+    and-i (all (λ y. not (eqb (y .number) (x .number))) xs) _ (none-numbered (x .number) xs (rest-once x xs h)) (distinct-once xs (tail-once x xs h))
+
+-- From a fresh bucket all version numbers differ.
+pub always-distinct : (c : ℕ) (ls : List Line) → distinct ((run c fresh ls) .rows) ≡ true
+always-distinct c ls =
+    let i = (good-fresh c ls) .invariant in
+    distinct-once ((run c fresh ls) .rows) (λ v. elim (i .single v) [ inl e ↦ inl e | inr e ↦ inr (e .0, e .1) ])
+
+-- The bucket's time is the largest clock reading of the accepted lines.
+pub always-time : (c : ℕ) (ls : List Line) → (run c fresh ls) .settings .time ≡ timeAfter (accepted c fresh ls)
+always-time c ls = (good-fresh c ls) .invariant .time

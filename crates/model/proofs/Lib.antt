@@ -1,0 +1,15 @@
+pub mod Order
+pub mod Sweeping
+pub mod Versions
+pub mod Accepted
+pub mod Line
+pub mod History
+pub mod Invariant
+pub mod Locks
+pub mod Placing
+pub mod LockClause
+pub mod SoundRows
+pub mod Sound
+pub mod Room
+pub mod Facts
+pub mod Examples

@@ -1,0 +1,85 @@
+-- How many rows a line leaves: the used ones, less those removed, plus those added.
+use Prim.Native.Nat.{ℕ, _+_}
+use mathlib.Core.Path.{_≡_, refl, sym, _∙_, ap}
+use mathlib.Core.Logic.{_⊎_, inl, inr}
+use mathlib.Core.Bool.{Bool, true, false, not, _&&_, true≢false}
+use mathlib.Core.List.{List, [], _∷_, _++_}
+use mathlib.Core.Option.{Option, some, none}
+use native.Mathlib.Omega.{arith}
+use lib.Dec.{eqb}
+use lib.ListN.{length, length-append}
+use Rattle.buffers.specs.Choices.{pick, thenSome, isSome}
+use Rattle.buffers.specs.Lists.{all, keep, first, change}
+use Rattle.buffers.proofs.Tests.{either, and-l, and-r}
+use Rattle.buffers.proofs.Lists.{all-first, all-as, first-passes}
+use Rattle.model.specs.Rows.{Row, before, ahead, ordered}
+use Rattle.model.specs.Settings.{Rule, Bucket}
+use Rattle.model.specs.Requests.{Name, name, Verb, Put, Copy, Retain, Hold, AddMarker, DeleteVersion, Set, Sweep, Ask}
+use Rattle.model.specs.Time.{Now}
+use Rattle.model.specs.Sweep.{Fate, stays, goes, gains, fate, inPlace, marks, removes, swept, counted}
+use Rattle.model.specs.Effects.{rowOf, sameVersion, isNamed, insert, added, removed, rowsAfter}
+use Rattle.model.specs.Refusals.{missing}
+use Rattle.model.proofs.SoundRows.{apart, version-refl}
+
+pub length-insert : (x : Row) (xs : List Row) → length (insert x xs) ≡ length xs + 1
+length-insert x [] = refl
+length-insert x (y ∷ ys) =
+    elim (either (before (y .key) (x .key))) [
+      | inl t ↦ rw t (omega (arith, length-insert x ys))
+      | inr t ↦ rw t (omega arith)
+    ]
+
+pub length-change : (q : Row → Bool) (f : Row → Row) (xs : List Row) → length (change q f xs) ≡ length xs
+length-change q f [] = refl
+length-change q f (x ∷ xs) = omega (arith, length-change q f xs)
+
+keep-all : (x : Row) (xs : List Row) → all (λ y. not (sameVersion x y)) xs ≡ true → keep (λ y. not (sameVersion x y)) xs ≡ xs
+keep-all x [] e = refl
+keep-all x (y ∷ ys) e = rw (and-l (not (sameVersion x y)) _ e) (ap (λ (l : List Row). y ∷ l) (keep-all x ys (and-r (not (sameVersion x y)) _ e)))
+
+-- In an ordered table only the row itself is of its key and number.
+length-remove : (p : Row → Bool) (xs : List Row) (x : Row) → ordered xs ≡ true → first p xs ≡ some x → length (keep (λ y. not (sameVersion x y)) xs) + 1 ≡ length xs
+length-remove p [] x o f = cc
+length-remove p (y ∷ ys) x o f =
+    elim (either (p y)) [
+      | inl t ↦
+          let g : some y ≡ some x = rw t at f in
+          let s : y ≡ x = cc in
+          let others : all (λ z. not (sameVersion x z)) ys ≡ true = all-as (ahead y) (λ z. not (sameVersion x z)) (λ z d. rw (sym s) (rw ((apart y z d) .0))) ys (and-l _ _ o) in
+          let here : sameVersion x y ≡ true = rw s (version-refl x) in
+          simp (here, keep-all x ys others) (omega arith)
+      | inr t ↦
+          let g : first p ys ≡ some x = rw t at f in
+          let d : ahead y x ≡ true = all-first (ahead y) p ys x (and-l _ _ o) g in
+          simp ((apart y x d) .1) (omega (arith, length-remove p ys x (and-r (all (ahead y) ys) _ o) g))
+    ]
+
+length-in-place : (f : Fate) (made n : ℕ) (x : Row) → length (inPlace f made n x) + removes f ≡ 1 + marks f
+length-in-place stays made n x = refl
+length-in-place goes made n x = refl
+length-in-place gains made n x = refl
+
+pub length-swept : (rules : List Rule) (now : Now) (n : ℕ) (y : Option Row) (xs : List Row) → length (swept rules now n y xs) + counted removes rules (now .judge) y xs ≡ length xs + counted marks rules (now .judge) y xs
+length-swept rules now n y [] = refl
+length-swept rules now n y (x ∷ xs) =
+    let here = length-in-place (fate rules (now .judge) y x) (now .stamp) n x in
+    let rest = length-swept rules now (n + marks (fate rules (now .judge) y x)) (some x) xs in
+    let joined = length-append (inPlace (fate rules (now .judge) y x) (now .stamp) n x) (swept rules now (n + marks (fate rules (now .judge) y x)) (some x) xs) in
+    omega arith
+
+-- Refusal 12 in 01's words.
+pub rows-left : (b : Bucket) (now : Now) (w : Verb) → ordered (b .rows) ≡ true → missing (b .rows) w ≡ false → length (rowsAfter b now w) + removed b now w ≡ length (b .rows) + added b now w
+unfolding rowsAfter removed added missing
+rows-left b now (Put k body size t) o m = rw length-insert (omega arith)
+rows-left b now (Copy n k t) o m = rw length-insert (omega arith)
+rows-left b now (Retain n r y) o m = rw length-change (omega arith)
+rows-left b now (Hold n on) o m = rw length-change (omega arith)
+rows-left b now (AddMarker k y) o m = rw length-insert (omega arith)
+rows-left b now (DeleteVersion k v y) o m = go (rowOf (b .rows) (name k (some v))) refl
+  where
+    go : (r : Option Row) → rowOf (b .rows) (name k (some v)) ≡ r → length (keep (λ x. not (isNamed (b .rows) (name k (some v)) x)) (b .rows)) + 1 ≡ length (b .rows) + 0
+    go none q = absurd (true≢false (rw q at m))
+    go (some x) q = simp q (omega (arith, length-remove _ (b .rows) x o q))
+rows-left b now (Set s) o m = refl
+rows-left b now Sweep o m = length-swept (b .settings .config .rules) now (b .settings .next) none (b .rows)
+rows-left b now (Ask q) o m = refl

@@ -1,0 +1,62 @@
+-- 01, "Request lines": what an accepted line answers after `ok`, as values.
+use Prim.Native.Nat.{ℕ}
+use mathlib.Core.Bool.{Bool, true, false}
+use mathlib.Core.List.{List}
+use mathlib.Core.Option.{Option, some, none}
+use Rattle.buffers.specs.Choices.{pick, thenSome}
+use Rattle.model.specs.Rows.{Row, isMarker}
+use Rattle.model.specs.Settings.{Bucket}
+use Rattle.model.specs.Requests.{
+  Version,
+  numbered,
+  Name,
+  name,
+  Query,
+  Get,
+  Verb,
+  Put,
+  Copy,
+  Retain,
+  Hold,
+  AddMarker,
+  DeleteVersion,
+  Set,
+  Sweep,
+  Ask,
+  Request,
+}
+use Rattle.model.specs.Time.{Now, nowOf}
+use Rattle.model.specs.Effects.{rowOf, added}
+use Rattle.model.specs.Effects.{removed as rowsRemoved}
+
+pub data Answer : Type 0 where
+  -- nothing after `ok`
+  done : Answer
+  -- PUT and COPY: the number
+  made : Version → Answer
+  -- DELETE: the number and `marker`, `removed` or `removed-marker`
+  marked : Version → Answer
+  removed : Version → Answer
+  removedMarker : Version → Answer
+  -- SWEEP: rows removed and markers added
+  sweptCounts : (gone new : ℕ) → Answer
+  -- GET: the row
+  shown : Row → Answer
+
+-- How answers name the row that the line adds.
+abbrev pub newVersion : Bucket → Version
+newVersion b = numbered (b .settings .next)
+
+unfoldable pub reply : Bucket → Now → Verb → Answer
+reply b now (Put k body size t) = made (newVersion b)
+reply b now (Copy n k t) = made (newVersion b)
+reply b now (Retain n r y) = done
+reply b now (Hold n on) = done
+reply b now (AddMarker k y) = marked (newVersion b)
+reply b now (DeleteVersion k v y) = pick (thenSome (rowOf (b .rows) (name k (some v))) false isMarker) (removedMarker v) (removed v)
+reply b now (Set s) = done
+reply b now Sweep = sweptCounts (rowsRemoved b now Sweep) (added b now Sweep)
+reply b now (Ask (Get n)) = thenSome (rowOf (b .rows) n) done (λ x. shown x)
+
+abbrev pub answerTo : Bucket → Request → Answer
+answerTo b q = reply b (nowOf b (q .call)) (q .verb)

@@ -1,0 +1,12 @@
+-- One file for each section of document 01, in the order in which they build on each other.
+pub mod Rows
+pub mod Settings
+pub mod Requests
+pub mod Time
+pub mod Locks
+pub mod Sweep
+pub mod Effects
+pub mod Refusals
+pub mod Answers
+pub mod Run
+pub mod LockClause

@@ -1,0 +1,198 @@
+-- 01, "Request lines": what a line asks for, once it is read. A field with `-` is `none`.
+use Prim.Native.Nat.{ℕ}
+use mathlib.Core.Bool.{Bool, true, false, _&&_}
+use mathlib.Core.List.{List, [], _∷_}
+use mathlib.Core.Option.{Option, some, none}
+use lib.Dec.{eqb, leb, ltb}
+use Rattle.text.specs.Keys.{isKey, isPrefix}
+use Rattle.calendar.specs.Calendar.{latest}
+use Rattle.model.specs.Rows.{isMode, largestSize, bodies}
+use Rattle.model.specs.Settings.{Rule, isPeriod, isDays, spentNumber}
+
+-- The letters of rights: r w d t h b c.
+pub data Letter : Type 0 where
+  reading writing deleting retaining holding bypassing configuring : Letter
+
+-- Some of the letters.
+pub record Rights : Type 0 where
+  pub r : Bool
+  pub w : Bool
+  pub d : Bool
+  pub t : Bool
+  pub h : Bool
+  pub b : Bool
+  pub c : Bool
+
+abbrev pub has : Rights → Letter → Bool
+has a reading = a .r
+has a writing = a .w
+has a deleting = a .d
+has a retaining = a .t
+has a holding = a .h
+has a bypassing = a .b
+has a configuring = a .c
+
+-- How lines and answers name a version.
+pub data Version : Type 0 where
+  numbered : ℕ → Version
+
+-- A key and a version field, where `-` is the key's current version.
+pub record Name : Type 0 where
+  pub key : List ℕ
+  pub version : Option Version
+
+abbrev pub name : List ℕ → Option Version → Name
+name k v = record { key = k; version = v }
+
+-- The fields mode and date.
+pub record Retention : Type 0 where
+  pub mode : Option ℕ
+  pub date : Option ℕ
+
+abbrev pub noRetention : Retention
+noRetention = record { mode = none; date = none }
+
+-- The lock fields of a PUT or COPY; a hold is ON (true) or OFF (false).
+pub record Terms : Type 0 where
+  pub retention : Retention
+  pub hold : Option Bool
+
+-- A count, and its unit.
+pub record Period : Type 0 where
+  pub count : ℕ
+  pub unit : ℕ
+
+-- The verbs that set what the config holds.
+pub data Setting : Type 0 where
+  DefaultRetention : (mode : Option ℕ) (period : Option Period) → Setting
+  LifecycleRule : (place : ℕ) (rule : Rule) → Setting
+
+-- The verbs that only ask.
+pub data Query : Type 0 where
+  Get : Name → Query
+
+-- A verb with its fields. DELETE is two: with `-` it adds a marker, with a number it removes that version.
+pub data Verb : Type 0 where
+  Put : (key : List ℕ) (body size : ℕ) (terms : Terms) → Verb
+  Copy : (source : Name) (target : List ℕ) (terms : Terms) → Verb
+  Retain : (of : Name) (retention : Retention) (bypass : Bool) → Verb
+  Hold : (of : Name) (on : Bool) → Verb
+  AddMarker : (key : List ℕ) (bypass : Bool) → Verb
+  DeleteVersion : (key : List ℕ) (version : Version) (bypass : Bool) → Verb
+  Set : Setting → Verb
+  Sweep : Verb
+  Ask : Query → Verb
+
+-- What comes with any verb: the answer buffer's length, the clock's reading, the rights.
+pub record Call : Type 0 where
+  pub room : ℕ
+  pub clock : ℕ
+  pub who : Rights
+
+pub record Request : Type 0 where
+  pub call : Call
+  pub verb : Verb
+
+-- A line can't be read, or it reads as a request; its answer buffer has a length in either case.
+pub data Line : Type 0 where
+  unreadable : (room : ℕ) → Line
+  reads : Request → Line
+
+abbrev pub roomOf : Line → ℕ
+roomOf (unreadable room) = room
+roomOf (reads q) = q .call .room
+
+-- ## The fields that several verbs have
+
+-- The field is given, and is this.
+abbrev pub isThe : ℕ → Option ℕ → Bool
+isThe n none = false
+isThe n (some m) = eqb m n
+
+-- The version field; DELETE with `-` names no version.
+abbrev pub nameOf : Verb → Option Name
+nameOf (Put k body size t) = none
+nameOf (Copy n k t) = some n
+nameOf (Retain n r y) = some n
+nameOf (Hold n on) = some n
+nameOf (AddMarker k y) = none
+nameOf (DeleteVersion k v y) = some (name k (some v))
+nameOf (Set s) = none
+nameOf Sweep = none
+nameOf (Ask (Get n)) = some n
+
+-- The lock fields of a PUT or COPY.
+abbrev pub termsOf : Verb → Option Terms
+termsOf (Put k body size t) = some t
+termsOf (Copy n k t) = some t
+termsOf (Retain n r y) = none
+termsOf (Hold n on) = none
+termsOf (AddMarker k y) = none
+termsOf (DeleteVersion k v y) = none
+termsOf (Set s) = none
+termsOf Sweep = none
+termsOf (Ask a) = none
+
+-- Mode and date, both missing where the verb has no such fields.
+abbrev pub retentionOf : Verb → Retention
+retentionOf (Put k body size t) = t .retention
+retentionOf (Copy n k t) = t .retention
+retentionOf (Retain n r y) = r
+retentionOf (Hold n on) = noRetention
+retentionOf (AddMarker k y) = noRetention
+retentionOf (DeleteVersion k v y) = noRetention
+retentionOf (Set s) = noRetention
+retentionOf Sweep = noRetention
+retentionOf (Ask a) = noRetention
+
+-- Bypass, no where the verb has no such field.
+abbrev pub bypassOf : Verb → Bool
+bypassOf (Put k body size t) = false
+bypassOf (Copy n k t) = false
+bypassOf (Retain n r y) = y
+bypassOf (Hold n on) = false
+bypassOf (AddMarker k y) = y
+bypassOf (DeleteVersion k v y) = y
+bypassOf (Set s) = false
+bypassOf Sweep = false
+bypassOf (Ask a) = false
+
+-- ## Ranges
+
+abbrev pub isVersion : Option Version → Bool
+isVersion none = true
+isVersion (some (numbered n)) = leb 1 n && ltb n spentNumber
+
+abbrev pub isName : Name → Bool
+isName n = isKey (n .key) && isVersion (n .version)
+
+abbrev pub isModeField : Option ℕ → Bool
+isModeField none = true
+isModeField (some m) = isMode m
+
+abbrev pub isDateField : Option ℕ → Bool
+isDateField none = true
+isDateField (some d) = leb d latest
+
+abbrev pub isRetention : Retention → Bool
+isRetention r = isModeField (r .mode) && isDateField (r .date)
+
+abbrev pub isPeriodField : Option Period → Bool
+isPeriodField none = true
+isPeriodField (some p) = isPeriod (p .count) (p .unit)
+
+abbrev pub isSetting : Setting → Bool
+isSetting (DefaultRetention m p) = isModeField m && isPeriodField p
+isSetting (LifecycleRule i u) = ltb i 8 && (isPrefix (u .prefix) && (isDays (u .currentDays) && isDays (u .noncurrentDays)))
+
+-- Every field of the verb is within its range.
+unfoldable pub inRange : Verb → Bool
+inRange (Put k body size t) = isKey k && (ltb body bodies && (leb size largestSize && isRetention (t .retention)))
+inRange (Copy n k t) = isName n && (isKey k && isRetention (t .retention))
+inRange (Retain n r y) = isName n && isRetention r
+inRange (Hold n on) = isName n
+inRange (AddMarker k y) = isKey k
+inRange (DeleteVersion k v y) = isName (name k (some v))
+inRange (Set s) = isSetting s
+inRange Sweep = true
+inRange (Ask (Get n)) = isName n

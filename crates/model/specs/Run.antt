@@ -1,0 +1,52 @@
+-- A list of lines: each is handed the bucket that the one before it left.
+use Prim.Native.Nat.{ℕ}
+use mathlib.Core.Bool.{Bool, true, false}
+use mathlib.Core.List.{List, [], _∷_, _++_}
+use lib.Dec.{eqb}
+use Rattle.buffers.specs.Choices.{pick}
+use Rattle.model.specs.Settings.{Bucket}
+use Rattle.model.specs.Requests.{Request, Line, unreadable, reads}
+use Rattle.model.specs.Effects.{after}
+use Rattle.model.specs.Refusals.{refusal}
+use Rattle.model.specs.Answers.{Answer, answerTo}
+
+-- The bucket after an accepted line.
+abbrev pub accept : Bucket → Line → Bucket
+accept b (unreadable room) = b
+accept b (reads q) = after b q
+
+-- The bucket after a line: nothing changes where it is refused.
+abbrev pub serve : ℕ → Bucket → Line → Bucket
+serve c b l = pick (eqb (refusal c b l) 0) (accept b l) b
+
+-- The bucket after a list of lines.
+abbrev pub run : ℕ → Bucket → List Line → Bucket
+run c b [] = b
+run c b (l ∷ ls) = run c (serve c b l) ls
+
+-- An accepted line: the bucket that the lines before it left, and what it says.
+pub record Event : Type 0 where
+  pub before : Bucket
+  pub request : Request
+
+abbrev pub event : Bucket → Line → List Event
+event b (unreadable room) = []
+event b (reads q) = record { before = b; request = q } ∷ []
+
+-- The accepted lines of a list, in order.
+abbrev pub accepted : ℕ → Bucket → List Line → List Event
+accepted c b [] = []
+accepted c b (l ∷ ls) = pick (eqb (refusal c b l) 0) (event b l) [] ++ accepted c (serve c b l) ls
+
+-- What a line gets back: a refusal's number, or an answer.
+pub data Reply : Type 0 where
+  no : ℕ → Reply
+  ok : Answer → Reply
+
+abbrev pub replyTo : ℕ → Bucket → Line → Reply
+replyTo c b (unreadable room) = no (refusal c b (unreadable room))
+replyTo c b (reads q) = pick (eqb (refusal c b (reads q)) 0) (ok (answerTo b q)) (no (refusal c b (reads q)))
+
+abbrev pub replies : ℕ → Bucket → List Line → List Reply
+replies c b [] = []
+replies c b (l ∷ ls) = replyTo c b l ∷ replies c (serve c b l) ls

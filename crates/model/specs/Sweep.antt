@@ -1,0 +1,71 @@
+-- 01, SWEEP: what becomes of each row, judged on the table before the line, and what stands in its place after it.
+use Prim.Native.Nat.{ℕ, _+_}
+use mathlib.Core.Bool.{Bool, true, false, not, _&&_}
+use mathlib.Core.List.{List, [], _∷_, _++_}
+use mathlib.Core.Option.{Option, some, none}
+use lib.Dec.{eqb, leb}
+use Rattle.buffers.specs.Choices.{pick, thenSome}
+use Rattle.buffers.specs.Lists.{keep, any, same, begins}
+use Rattle.calendar.specs.Periods.{expiresAt}
+use Rattle.model.specs.Rows.{Row, isData}
+use Rattle.model.specs.Settings.{Rule, isSet}
+use Rattle.model.specs.Time.{Now}
+use Rattle.model.specs.Locks.{locked}
+
+-- A delete marker.
+abbrev pub marker : ℕ → ℕ → List ℕ → Row
+marker created n k = record { number = n; kind = 2; created = created; body = 0; size = 0; mode = 0; until = 0; hold = 0; key = k }
+
+-- The rules whose prefix begins the key.
+abbrev pub applying : List Rule → List ℕ → List Rule
+applying rules k = keep (λ u. isSet u && begins (u .prefix) k) rules
+
+-- By any of these rules now is at least the instant plus the rule's days, of which 0 stand for no action.
+abbrev pub due : (Rule → ℕ) → List Rule → ℕ → ℕ → Bool
+due days us now since = any (λ u. not (eqb (days u) 0) && leb (expiresAt since (days u)) now) us
+
+-- What a sweep does to a row: it stays, it goes, or it gains a marker.
+pub data Fate : Type 0 where
+  stays goes gains : Fate
+
+-- A current data row gains a marker if now is at least its creation plus the current days.
+abbrev pub currentFate : List Rule → ℕ → Row → Fate
+currentFate us now x = pick (isData x && due (λ u. u .currentDays) us now (x .created)) gains stays
+
+-- A row that isn't current goes if now is at least the creation of the next newer row plus the noncurrent days, unless locked without bypass.
+abbrev pub noncurrentFate : List Rule → ℕ → Row → Row → Fate
+noncurrentFate us now newer x = pick (due (λ u. u .noncurrentDays) us now (newer .created) && not (locked now false x)) goes stays
+
+-- The fate of a row, by the row before it in the table: the next newer one, or one of another key.
+abbrev pub fate : List Rule → ℕ → Option Row → Row → Fate
+fate rules now none x = currentFate (applying rules (x .key)) now x
+fate rules now (some y) x =
+    pick (same (y .key) (x .key)) (noncurrentFate (applying rules (x .key)) now y x) (currentFate (applying rules (x .key)) now x)
+
+-- The rows in a row's place after the sweep; n is the next version number.
+abbrev pub inPlace : Fate → ℕ → ℕ → Row → List Row
+inPlace stays created n x = x ∷ []
+inPlace goes created n x = []
+inPlace gains created n x = marker created n (x .key) ∷ x ∷ []
+
+-- The markers that a fate adds, and the rows that it removes.
+abbrev pub marks : Fate → ℕ
+marks stays = 0
+marks goes = 0
+marks gains = 1
+
+abbrev pub removes : Fate → ℕ
+removes stays = 0
+removes goes = 1
+removes gains = 0
+
+-- The table after a sweep, from the row after y on; markers are numbered in key order.
+abbrev pub swept : List Rule → Now → ℕ → Option Row → List Row → List Row
+swept rules now n y [] = []
+swept rules now n y (x ∷ xs) =
+    inPlace (fate rules (now .judge) y x) (now .stamp) n x ++ swept rules now (n + marks (fate rules (now .judge) y x)) (some x) xs
+
+-- How many a sweep counts of its fates: markers added, rows removed.
+abbrev pub counted : (Fate → ℕ) → List Rule → ℕ → Option Row → List Row → ℕ
+counted of rules now y [] = 0
+counted of rules now y (x ∷ xs) = of (fate rules now y x) + counted of rules now (some x) xs

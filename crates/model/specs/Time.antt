@@ -1,0 +1,28 @@
+-- 01, "Time and dates" and PUT: the now of a line, and the retention that a new row gets.
+use Prim.Native.Nat.{ℕ, max}
+use mathlib.Core.Bool.{Bool, true, false}
+use mathlib.Core.Option.{Option, some, none}
+use Rattle.buffers.specs.Choices.{pick, thenSome, orZero}
+use Rattle.calendar.specs.Periods.{periodEnd}
+use Rattle.model.specs.Settings.{Bucket, Config, hasDefault}
+use Rattle.model.specs.Requests.{Call, Retention}
+
+-- The now of a line: locks and expiry are judged by the one, creation and dates are taken from the other. They are the same.
+pub record Now : Type 0 where
+  pub judge : ℕ
+  pub stamp : ℕ
+
+-- The larger of the bucket's time and the line's reading.
+abbrev pub nowOf : Bucket → Call → Now
+nowOf b g = record { judge = max (b .settings .time) (g .clock); stamp = max (b .settings .time) (g .clock) }
+
+-- The date from the default: now plus its period.
+unfoldable pub defaultEnd : Config → ℕ → ℕ
+defaultEnd s now = periodEnd now (s .default .count) (s .default .unit)
+
+-- The mode and the date of a new row: those given, or, with no mode given, the default's.
+abbrev pub newMode : Config → Retention → ℕ
+newMode s r = thenSome (r .mode) (s .default .mode) (λ m. m)
+
+abbrev pub newUntil : Config → ℕ → Retention → ℕ
+newUntil s now r = thenSome (r .mode) (pick (hasDefault (s .default)) (defaultEnd s now) 0) (λ m. orZero (r .date))
