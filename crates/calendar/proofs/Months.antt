@@ -1,33 +1,43 @@
 -- Months: their days by the twelve-entry table, and the month of a day is the right one.
-use Prim.Native.Nat.{ℕ, _+_, _≤_, _<_}
+use Prim.Native.Nat.{ℕ, zero, suc, _+_, _≤_, _<_, zero-le}
 use mathlib.Core.Path.{_≡_, refl}
 use mathlib.Core.Bool.{Bool, true, false, _&&_}
+use mathlib.Core.List.{List, [], _∷_}
 use native.Mathlib.Omega.{arith}
+use lib.ListN.{getD}
 use mir.Val.{Fits}
 use mir.Syntax.{w64}
 use lib.Dec.{leb, ltb}
 use borrow.Author.Tests.{leb-true, ltb-true}
-use Rattle.buffers.specs.Ranges.{Within, Span}
+use Rattle.buffers.specs.Lists.{all}
+use Rattle.buffers.specs.Ranges.{Within}
 use Rattle.buffers.proofs.Tests.{and-l, and-r}
-use Rattle.calendar.specs.Calendar.{yearLength, commonStart, monthStart, monthLength, monthOf}
+use Rattle.calendar.specs.Calendar.{yearLength, monthStart, monthLength, monthOf}
 use Rattle.calendar.proofs.Tables.{upto-at}
 use Rattle.calendar.proofs.Years.{year-least}
 
 -- ## The table
 
-common-most : (m : ℕ) → m ≤ 12 → commonStart m ≤ 334
-common-most m h = leb-true _ _ (upto-at 13 (λ k. leb (commonStart k) 334) refl m (omega arith))
+-- no month starts after more days than December
+abbrev low : List ℕ → Bool
+low xs = all (λ x. leb x 334) xs
 
-pub common-0 : (m : ℕ) → Span 1 m 12 → commonStart m ≤ 335
-common-0 m s = omega (arith, common-most m (s .to))
+entry-most : (xs : List ℕ) (i : ℕ) → low xs ≡ true → getD xs i 0 ≤ 334
+entry-most [] i e = zero-le
+entry-most (x ∷ xs) zero e = leb-true x 334 (and-l (leb x 334) _ e)
+entry-most (x ∷ xs) (suc i) e = entry-most xs i (and-r (leb x 334) _ e)
 
-pub common-1 : (m : ℕ) → Span 1 m 12 → commonStart m + 1 ≤ 335
-common-1 m s = omega (arith, common-most m (s .to))
+module _ (xs : List ℕ) (i : ℕ) (e : low xs ≡ true) where
+  pub entry-0 : getD xs i 0 ≤ 335
+  entry-0 = omega (arith, entry-most xs i e)
 
-pub common-fits : (m : ℕ) → Span 1 m 12 → Fits w64 (commonStart m + 1)
-common-fits m s = omega (arith, common-most m (s .to))
+  pub entry-1 : getD xs i 0 + 1 ≤ 335
+  entry-1 = omega (arith, entry-most xs i e)
 
-pub ruleset starts = (common-0, common-1, common-fits)
+  pub entry-fits : Fits w64 (getD xs i 0 + 1)
+  entry-fits = omega (arith, entry-most xs i e)
+
+pub ruleset entries = (entry-0, entry-1, entry-fits)
 
 -- ## The days of a month
 

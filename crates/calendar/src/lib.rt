@@ -29,6 +29,7 @@ pub enum DateRead {
 // The days before each month in a common year.
 const MONTHS: [u64; 12] = [0, 31, 59, 90, 120, 151, 181, 212, 243, 273, 304, 334];
 
+// Leap years are every fourth year, of the centuries every fourth.
 pub fn is_leap(year: u64) -> bool
     ensures { λ r. ⌜ r ≡ leap year ⌝ }
 {
@@ -41,6 +42,7 @@ pub fn is_leap(year: u64) -> bool
     year % 400 == 0
 }
 
+// The days of a year.
 fn year_length(leap_year: bool) -> u64
     ensures { λ r. ⌜ Within r (yearLength «leap_year») 366 ⌝ }
 {
@@ -74,6 +76,7 @@ fn month_start(leap_year: bool, month: u64) -> u64
     before
 }
 
+// The days of a month, 1 to 12.
 fn month_length(leap_year: bool, month: u64) -> u64
     requires { ⌜ Span 1 month 12 ⌝ }
     ensures { λ r. ⌜ r ≡ monthLength «leap_year» month ⌝ }
@@ -85,6 +88,7 @@ fn month_length(leap_year: bool, month: u64) -> u64
     year_length(leap_year) - start
 }
 
+// The calendar has this date, in the years 1970 to 9999.
 fn valid_day(date: Civil) -> bool
     ensures { λ r. ⌜ r ≡ validDay date ⌝ }
 {
@@ -129,6 +133,7 @@ fn value_of(b: u8) -> u64
     (b - 48) as u64
 }
 
+// The value of a byte, where it is a digit.
 fn digit(b: u8) -> Value
     ensures { λ r. ⌜ valueOf r ≡ digitOf b ⌝ }
 {
@@ -138,6 +143,7 @@ fn digit(b: u8) -> Value
     Value::Bad
 }
 
+// The number that two digits from `at` on spell.
 fn two_digits(text: &[u8], at: usize) -> Value
     requires { ⌜ at + 1 < length (now text) ⌝ }
     ensures { λ r. ⌜ valueOf r ≡ twoDigits (now (text .entry)) at ⌝ }
@@ -151,6 +157,7 @@ fn two_digits(text: &[u8], at: usize) -> Value
     Value::Is(a * 10 + b)
 }
 
+// The number that four digits from `at` on spell.
 fn four_digits(text: &[u8], at: usize) -> Value
     requires { ⌜ at + 3 < length (now text) ⌝ }
     ensures { λ r. ⌜ valueOf r ≡ fourDigits (now (text .entry)) at ⌝ }
@@ -197,6 +204,7 @@ fn day_at(text: &[u8]) -> Value
     day_number(Civil { year, month, day })
 }
 
+// The second of the day, where the clock has that time.
 fn second_of_day(hour: u64, minute: u64, second: u64) -> Value
     ensures { λ r. ⌜ valueOf r ≡ secondOfDay hour minute second ⌝ }
 {
@@ -235,6 +243,7 @@ fn second_at(text: &[u8]) -> Value
     second_of_day(hour, minute, second)
 }
 
+// All the bytes are digits.
 fn all_digits(digits: &[u8]) -> bool
     ensures { λ r. ⌜ r ≡ all isDigit (now (digits .entry)) ⌝ }
 {
@@ -288,6 +297,7 @@ fn fraction(part: &[u8]) -> Value
     milliseconds(&part[1..])
 }
 
+// The instant of a day, a second of it and a millisecond of that.
 fn instant(days: u64, seconds: u64, millis: u64) -> u64
     requires { ⌜ (days ≤ 2932896) × (seconds ≤ 86399) × (millis ≤ 999) ⌝ }
     ensures { λ r. ⌜ r ≡ days * 86400000 + seconds * 1000 + millis ⌝ }

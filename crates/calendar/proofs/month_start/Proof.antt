@@ -1,6 +1,6 @@
 -- `month_start` meets its contract.
 use Rattle.buffers.proofs.Choices.{picks}
-use Rattle.calendar.proofs.Months.{starts}
+use Rattle.calendar.proofs.Months.{entries}
 use Rattle.calendar.specs.Calendar.{monthStart}
 use borrow.Author.Needs.{needs}
 use Rattle.calendar.proofs.month_start.Statement.{statement}
@@ -14,7 +14,7 @@ month-start-spec =
     (λ c. search needs)
     (λ c. search needs)
     (λ c. search needs)
-    (λ c. search (needs, picks, starts))
-    (λ c. search (needs, picks, starts))
-    (λ c. search (needs, picks, starts))
-    (λ c. search (needs, picks, starts)))
+    (λ c. search (needs, picks, entries))
+    (λ c. search (needs, picks, entries))
+    (λ c. search (needs, picks, entries))
+    (λ c. search (needs, picks, entries)))
