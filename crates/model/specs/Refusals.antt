@@ -1,7 +1,7 @@
 -- 01, "The twelve refusals": each condition by its own name, and the list of them in 01's order.
 use Prim.Native.Nat.{ℕ, _+_}
 use mathlib.Core.Bool.{Bool, true, false, not, _&&_, _||_}
-use mathlib.Core.List.{List, [], _∷_}
+use mathlib.Core.List.{List, [], _∷_, _++_}
 use mathlib.Core.Option.{Option, some, none}
 use lib.Dec.{eqb, leb, ltb}
 use Rattle.buffers.specs.Choices.{pick, thenSome, isSome}
@@ -199,24 +199,30 @@ abbrev pub firstOf : List Check → ℕ
 firstOf [] = 0
 firstOf (x ∷ xs) = pick (x .holds) (x .number) (firstOf xs)
 
--- The conditions on what the line says.
-abbrev pub requestChecks : ℕ → Bucket → Line → List Check
-requestChecks c b (unreadable room) = check 3 true ∷ []
-requestChecks c b (reads q) =
-    let g = q .call in
-    let v = q .verb in
-    let now = nowOf b g in
-    check 3 (outOfRange g v)
-    ∷ check 4 (halfGiven v)
-    ∷ check 5 (lacksRight (b .settings .config) (g .who) v)
-    ∷ check 6 (pastDate (now .stamp) v)
-    ∷ check 7 (missing (b .rows) v)
+-- The conditions that only the request's own fields decide.
+abbrev pub fieldChecks : Bucket → Request → List Check
+fieldChecks b q =
+    check 4 (halfGiven (q .verb))
+    ∷ check 5 (lacksRight (b .settings .config) (q .call .who) (q .verb))
+    ∷ check 6 (pastDate ((nowOf b (q .call)) .stamp) (q .verb))
+    ∷ []
+
+-- The conditions on the table and the settings.
+abbrev pub tableChecks : ℕ → Bucket → Now → Verb → List Check
+tableChecks c b now v =
+    check 7 (missing (b .rows) v)
     ∷ check 8 (namesMarker (b .rows) v)
     ∷ check 9 (barred (b .rows) (now .judge) v)
     ∷ check 10 (tooLate (b .settings .config) (now .stamp) v)
     ∷ check 11 (spends b now v)
     ∷ check 12 (full c b now v)
     ∷ []
+
+-- The conditions on what the line says.
+abbrev pub requestChecks : ℕ → Bucket → Line → List Check
+requestChecks c b (unreadable room) = check 3 true ∷ []
+requestChecks c b (reads q) =
+    check 3 (outOfRange (q .call) (q .verb)) ∷ fieldChecks b q ++ tableChecks c b (nowOf b (q .call)) (q .verb)
 
 -- The twelve conditions in 01's order; whether the whole is sound is told apart, since buffers hold more than the bucket.
 abbrev pub checks : Bool → ℕ → Bucket → Line → List Check
