@@ -13,12 +13,12 @@ use Rattle.buffers.proofs.Tests.{and-i}
 use Rattle.buffers.proofs.Lists.{all-append, all-set}
 use Rattle.blocks.specs.Blocks.{blockOf}
 use Rattle.model.specs.Rows.{Row}
-use Rattle.table.specs.Layout.{numbersOfRow, numbersOf, keysOf, keysFit, Holds}
+use Rattle.table.specs.Layout.{numbersOfRow, keysOf, keysFit, Holds}
 use Rattle.table.specs.Changes.{insertAt, removeAt}
 use Rattle.table.specs.Moves.{opened, closed}
 use Rattle.table.proofs.Lists.{all-take, all-drop}
 use Rattle.table.proofs.Laying.{Laying, lay-insert, lay-double, lay-remove, lay-rewrite}
-use Rattle.table.proofs.Held.{blockOfRow, numbers-laying, keys-laying, held-fit}
+use Rattle.table.proofs.Held.{numbers-laying, keys-laying, held-fit}
 
 -- ## The changed list
 

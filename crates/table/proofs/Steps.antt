@@ -1,10 +1,10 @@
 -- What each function of the crate leaves is what its contract says.
 use Prim.Native.Nat.{ℕ, suc, _+_, _-_, _*_, _≤_, _<_}
-use mathlib.Core.Path.{_≡_, refl, sym, ap, _∙_}
+use mathlib.Core.Path.{_≡_, ap, _∙_}
 use mathlib.Core.List.{List, [], _∷_}
 use native.Mathlib.Omega.{arith}
 use native.Mathlib.Nat.{mul-le-mul-left, mul-suc}
-use lib.ListN.{length, getD, take, drop, set, length-take, length-drop}
+use lib.ListN.{length, getD, take, drop, set, length-drop}
 use lib.Seq.{getD-take, getD-drop, sets-eq, length-take-le}
 use borrow.Rule.Slice.PartMut.{midOf, putMid}
 use Rattle.buffers.specs.Moves.{movedUp, movedDown}
@@ -109,9 +109,6 @@ wrote-open l m out vs i k r e w = written-open l m out vs i e (w .holds)
 module _ (n b : List ℕ) (used at : ℕ) where
   pub insert-numbers-room : Insertable n b used at → 8 * used + 8 ≤ length n
   insert-numbers-room p = let e = held-numbers (p .held) in omega arith
-
-  pub insert-keys-room : Insertable n b used at → 64 * used + 64 ≤ length b
-  insert-keys-room p = let e = held-keys (p .held) in omega arith
 
   pub used-numbers-room : InUse n b used at → 8 * used ≤ length n
   used-numbers-room p = let e = held-numbers (p .held) in let r = p .held .room in let l = rows-length n b used in omega arith

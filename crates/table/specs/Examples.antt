@@ -1,8 +1,7 @@
 -- Rows in small buffers, computed.
 use mathlib.Core.Path.{_≡_, refl}
-use mathlib.Core.List.{List, [], _∷_, _++_}
-use Prim.Native.Nat.{ℕ}
-use lib.ListN.{length, replicate}
+use mathlib.Core.List.{[], _∷_}
+use lib.ListN.{replicate}
 use Rattle.buffers.specs.Texts.{bytes}
 use Rattle.blocks.specs.Blocks.{blockOf}
 use Rattle.model.specs.Rows.{Row}

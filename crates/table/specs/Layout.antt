@@ -1,7 +1,7 @@
 -- 01, "Rows and settings": the rows as numbers and key bytes in two buffers, and the rows that two buffers hold.
 use Prim.Native.Nat.{ℕ, zero, suc, _*_, _/_, _≤_}
 use mathlib.Core.Path.{_≡_}
-use mathlib.Core.Bool.{Bool, true, false}
+use mathlib.Core.Bool.{Bool, true}
 use mathlib.Core.List.{List, [], _∷_, _++_}
 use lib.Dec.{leb}
 use lib.ListN.{length, getD, take, drop, replicate}

@@ -1,7 +1,7 @@
 -- A row at a position of the buffers, and when a change may be made there.
 use Prim.Native.Nat.{ℕ, _*_, _≤_, _<_}
 use mathlib.Core.List.{List}
-use lib.ListN.{length, getD, take, drop}
+use lib.ListN.{getD, take, drop}
 use Rattle.blocks.specs.Blocks.{keyIn}
 use Rattle.model.specs.Rows.{Row}
 use Rattle.table.specs.Layout.{rowsOf, capacity, Holds}
