@@ -1,2 +1,4 @@
 pub mod Decoding
 pub mod Encoding
+pub mod Checking
+pub mod Storing

@@ -1,10 +1,14 @@
 // The bucket's settings by value, and as bytes. The definitions are in specs/.
 ghost use mathlib.Core.Path.{_≡_};
-ghost use Prim.Native.Nat.{_+_, _≤_};
+ghost use Prim.Native.Nat.{_+_, _≤_, _<_};
+ghost use mathlib.Core.Bool.{_&&_};
 ghost use mathlib.Core.List.{_++_};
 ghost use lib.ListN.{length, take, drop};
 ghost use Rattle.buffers.specs.Words.{spelled};
 ghost use Rattle.buffers.specs.Writes.{Wrote};
+ghost use Rattle.model.specs.Settings.{soundDefault, soundRules};
+ghost use Rattle.settings.specs.Meaning.{rulesMean, prefixesAre, settingsSound};
+ghost use Rattle.settings.specs.Changes.{Fresh, ruleSound, withDefault, withProgress, Stored, WithRule};
 ghost use Rattle.settings.specs.Bytes.{ruleAt, settingsOf, ruleBytes, rulesBytes, settingsBytes};
 
 // A lifecycle rule; its prefix is 64 bytes like a key, with length 0 allowed.
@@ -128,4 +132,120 @@ pub fn encode(s: Settings, b: &mut [u8])
     let at = buffers::put_word(b, at, s.unit);
     let rules = s.rules;
     put_rules(b, at, rules);
+}
+
+// The settings of a bucket that no line has changed yet.
+pub fn fresh() -> Settings
+    ensures { λ r. ⌜ Fresh r ⌝ }
+{
+    let rule = Rule {
+        prefix: [0u8; 64],
+        current: 0,
+        noncurrent: 0,
+    };
+    Settings {
+        time: 0,
+        used: 0,
+        next: 1,
+        mode: 0,
+        count: 0,
+        unit: 0,
+        rules: [rule; 8],
+    }
+}
+
+fn is_sound_default(mode: u64, count: u64, unit: u64) -> bool
+    ensures { λ r. ⌜ r ≡ soundDefault (record { mode = mode; count = count; unit = unit }) ⌝ }
+{
+    let absent = (mode == 0) & ((count == 0) & (unit == 0));
+    let days = (unit == 1) & (count <= 36500);
+    let years = (unit == 2) & (count <= 100);
+    absent | (((mode == 1) | (mode == 2)) & ((1 <= count) & (days | years)))
+}
+
+fn is_sound_rule(prefix: [u8; 64], current: u64, noncurrent: u64) -> bool
+    ensures { λ r. ⌜ r ≡ ruleSound (record { prefix = prefix; current = current; noncurrent = noncurrent }) ⌝ }
+{
+    let is_prefix = blocks::is_prefix_block(&prefix);
+    let is_set = !((current == 0) & (noncurrent == 0));
+    is_prefix & ((current <= 36500) & ((noncurrent <= 36500) & (is_set | (prefix[0] == 0))))
+}
+
+fn are_sound(rules: [Rule; 8]) -> bool
+    ensures { λ r. ⌜ r ≡ prefixesAre rules && soundRules (rulesMean rules) ⌝ }
+{
+    let mut k = 0;
+    while k < 8 {
+        let rule = rules[k];
+        let prefix = rule.prefix;
+        if !is_sound_rule(prefix, rule.current, rule.noncurrent) {
+            return false;
+        }
+        k += 1;
+    }
+    true
+}
+
+// Whether the settings by themselves are sound.
+pub fn is_sound(s: Settings) -> bool
+    ensures { λ r. ⌜ r ≡ settingsSound s ⌝ }
+{
+    let rules = s.rules;
+    let default = is_sound_default(s.mode, s.count, s.unit);
+    let config = default & are_sound(rules);
+    (s.time <= 253402300799999) & ((1 <= s.next) & ((s.next <= 4294967296) & config))
+}
+
+// The settings with another default retention.
+pub fn with_default(s: Settings, mode: u64, count: u64, unit: u64) -> Settings
+    ensures { λ r. ⌜ r ≡ withDefault s mode count unit ⌝ }
+{
+    let mut r = s;
+    r.mode = mode;
+    r.count = count;
+    r.unit = unit;
+    r
+}
+
+// The rule as it is stored: where it has no action, all zero.
+fn stored_rule(prefix: &[u8], current: u64, noncurrent: u64) -> Rule
+    requires { ⌜ length (now prefix) ≤ 63 ⌝ }
+    ensures { λ r. ⌜ Stored (record { prefix = now (prefix .entry); currentDays = current; noncurrentDays = noncurrent }) r ⌝ }
+{
+    let mut block = [0u8; 64];
+    if (current == 0) & (noncurrent == 0) {
+        return Rule {
+            prefix: block,
+            current: 0,
+            noncurrent: 0,
+        };
+    }
+    blocks::put_block(&mut block, 0, prefix);
+    Rule {
+        prefix: block,
+        current,
+        noncurrent,
+    }
+}
+
+// The settings with another rule at a place.
+pub fn with_rule(s: Settings, place: usize, prefix: &[u8], current: u64, noncurrent: u64) -> Settings
+    requires { ⌜ (place < 8) × (length (now prefix) ≤ 63) ⌝ }
+    ensures { λ r. ⌜ WithRule s place (record { prefix = now (prefix .entry); currentDays = current; noncurrentDays = noncurrent }) r ⌝ }
+{
+    let rule = stored_rule(prefix, current, noncurrent);
+    let mut r = s;
+    r.rules[place] = rule;
+    r
+}
+
+// The settings with another time, other used rows and another next number.
+pub fn with_progress(s: Settings, time: u64, used: u64, next: u64) -> Settings
+    ensures { λ r. ⌜ r ≡ withProgress s time used next ⌝ }
+{
+    let mut r = s;
+    r.time = time;
+    r.used = used;
+    r.next = next;
+    r
 }

@@ -1,4 +1,4 @@
-use Rattle.settings.proofs.Encoding.{rule-put}
+use Rattle.settings.proofs.Encoding.{rule-written}
 use borrow.Author.Needs.{needs}
 use Rattle.settings.proofs.put_rule.Statement.{statement}
 use Rattle.settings.proofs.put_rule.Tie as tie
@@ -29,7 +29,7 @@ same-length c = search needs
 
 -- src/lib.rt:95:1
 returns : tie.Need-returns
-returns c = search (needs, rule-put)
+returns c = search (needs, rule-written)
 
 pub put-rule-spec : {M : Type 1} → statement M
 put-rule-spec =

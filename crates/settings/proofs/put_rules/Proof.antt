@@ -3,7 +3,7 @@ use Prim.Native.Nat.{_+_, _*_, _-_, _≤_}
 use lib.ListN.{take}
 use Rattle.buffers.specs.Writes.{Wrote}
 use Rattle.settings.specs.Bytes.{rulesBytes}
-use Rattle.settings.proofs.Encoding.{rules-put}
+use Rattle.settings.proofs.Encoding.{rules-put, rules-step}
 use borrow.Author.Needs.{needs}
 use Rattle.settings.proofs.put_rules.Statement.{statement}
 use Rattle.settings.proofs.put_rules.Tie as tie
@@ -51,7 +51,7 @@ loop-less c = search (needs, rules-put)
 
 -- src/lib.rt:110:5
 loop-again : tie.Need-loop-again Inv-loop μ-loop
-loop-again c = search (needs, rules-put)
+loop-again c = (search needs, rules-step _ _ _ _ _ _ (search needs) (search needs) (c .before .before .before .before .before .before .before .loop .inv .1) (c .before .before .put-rule .ensures))
 
 -- src/lib.rt:105:1
 same-length : tie.Need-same-length Inv-loop μ-loop
