@@ -66,8 +66,8 @@ module _ (us : List Rule) (k : ℕ) where
   pub sound-step : (r : Bool) → k < length us → r ≡ ruleSound (at-place us k) → r ≡ true → all ruleSound us ≡ all ruleSound (drop k us) → all ruleSound us ≡ all ruleSound (drop (k + 1) us)
   sound-step r h e t q = q ∙ rw (add-one, drop-cons us k no-rule h, sym e ∙ t)
 
-  pub sound-end : length us ≡ 8 → length us ≤ k → all ruleSound us ≡ all ruleSound (drop k us) → true ≡ (prefixesAre us && model.soundRules (rulesMean us))
-  sound-end n h q = sym (q ∙ rw (drop-of-length-le us h)) ∙ rules-sound us n
+  pub sound-end : all ruleSound us ≡ all ruleSound (drop k us) → length us ≡ 8 → 8 ≤ k → true ≡ (prefixesAre us && model.soundRules (rulesMean us))
+  sound-end q n h = let l : length us ≤ k = omega arith in sym (q ∙ rw (drop-of-length-le us l)) ∙ rules-sound us n
 
 pub ruleset rules-checked = (sound-stop, sound-step, sound-end)
 

@@ -178,10 +178,11 @@ fn are_sound(rules: [Rule; 8]) -> bool
     while k < 8 {
         let rule = rules[k];
         let prefix = rule.prefix;
-        if !is_sound_rule(prefix, rule.current, rule.noncurrent) {
+        if is_sound_rule(prefix, rule.current, rule.noncurrent) {
+            k += 1;
+        } else {
             return false;
         }
-        k += 1;
     }
     true
 }
