@@ -63,11 +63,10 @@ rules-start out at =
     record { next = refl; holds = rw (e, append-nil) (sym (take-append-drop at out)); long = refl; most = omega arith }
 
 module _ (us : List Rule) (out : List ℕ) (at k : ℕ) (exit : List ℕ) where
-  pub rules-step : (m : List ℕ) → k < length us → at ≤ length out
-      → Wrote out at (rulesBytes (take k us)) (80 * k) m (at + 80 * k)
-      → Wrote m (at + 80 * k) (ruleBytes (at-place us k)) 80 exit (at + 80 * k + 80)
+  pub rules-step : (m : List ℕ) → Wrote out at (rulesBytes (take k us)) (80 * k) m (at + 80 * k)
+      → Wrote m (at + 80 * k) (ruleBytes (at-place us k)) 80 exit (at + 80 * k + 80) → k < length us → at ≤ length out
       → Wrote out at (rulesBytes (take (k + 1) us)) (80 * (k + 1)) exit (at + 80 * (k + 1))
-  rules-step m h l v w =
+  rules-step m v w h l =
       let u = at-place us k in
       let b = wrote-both out at (rulesBytes (take k us)) (80 * k) m (at + 80 * k) (ruleBytes u) 80 exit (at + 80 * k + 80) l v w in
       let n : length (rulesBytes (take k us) ++ ruleBytes u) ≡ 80 * (k + 1) = omega (arith, b .next) in

@@ -2,3 +2,4 @@ pub mod Decoding
 pub mod Encoding
 pub mod Checking
 pub mod Storing
+pub mod RoundTrip

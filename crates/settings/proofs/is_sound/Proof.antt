@@ -1,3 +1,4 @@
+-- `is_sound` meets its contract.
 use Rattle.settings.proofs.Checking.{settings-checked}
 use borrow.Author.Needs.{needs}
 use Rattle.settings.proofs.is_sound.Statement.{statement}

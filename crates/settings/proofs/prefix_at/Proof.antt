@@ -1,3 +1,4 @@
+-- `prefix_at` meets its contract.
 use Rattle.settings.proofs.Decoding.{made}
 use borrow.Author.Needs.{needs}
 use Rattle.settings.proofs.prefix_at.Statement.{statement}

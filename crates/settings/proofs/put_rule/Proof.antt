@@ -1,3 +1,4 @@
+-- `put_rule` meets its contract.
 use Rattle.settings.proofs.Encoding.{rule-written}
 use borrow.Author.Needs.{needs}
 use Rattle.settings.proofs.put_rule.Statement.{statement}

@@ -51,7 +51,7 @@ loop-less c = search (needs, rules-put)
 
 -- src/lib.rt:110:5
 loop-again : tie.Need-loop-again Inv-loop μ-loop
-loop-again c = (search needs, rules-step _ _ _ _ _ _ (search needs) (search needs) (c .before .before .before .before .before .before .before .loop .inv .1) (c .before .before .put-rule .ensures))
+loop-again c = (search needs, rules-step _ _ _ _ _ _ (c .before .before .before .before .before .before .before .loop .inv .1) (c .before .before .put-rule .ensures) (search needs) (search needs))
 
 -- src/lib.rt:105:1
 same-length : tie.Need-same-length Inv-loop μ-loop

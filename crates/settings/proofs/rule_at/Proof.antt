@@ -1,3 +1,4 @@
+-- `rule_at` meets its contract.
 use Rattle.settings.proofs.Decoding.{made}
 use borrow.Author.Needs.{needs}
 use Rattle.settings.proofs.rule_at.Statement.{statement}
