@@ -9,7 +9,7 @@ use lib.Seq.{take-suc, take-all}
 use Rattle.buffers.specs.Words.{spelled}
 use Rattle.buffers.specs.Writes.{Wrote}
 use Rattle.buffers.proofs.Words.{length-spelled}
-use Rattle.buffers.proofs.Writes.{wrote-both, wrote-as}
+use Rattle.buffers.proofs.Writes.{wrote-both}
 use Rattle.settings.specs.declared.Settings.{Settings}
 use Rattle.settings.specs.declared.Rule.{Rule}
 use Rattle.settings.specs.Bytes.{ruleBytes, rulesBytes, settingsBytes}

@@ -1,12 +1,12 @@
 -- Settings that are written read as themselves, and 688 bytes that are read are written as themselves.
 use Prim.Native.Nat.{ℕ, zero, suc, _+_, _*_, _≤_}
-use mathlib.Core.Path.{_≡_, refl, sym, ap, _∙_}
-use mathlib.Core.Bool.{Bool, true, _&&_}
+use mathlib.Core.Path.{_≡_, refl, sym}
+use mathlib.Core.Bool.{true}
 use mathlib.Core.List.{List, [], _∷_, _++_, append-assoc}
 use native.Mathlib.Omega.{arith}
 use lib.Dec.{eqb}
 use lib.ListN.{length, take, drop, length-append, length-take, length-drop, take-append-drop, drop-of-length-le}
-use lib.Seq.{take-at, drop-at, drop-drop, getD-take, getD-drop}
+use lib.Seq.{take-at, drop-at, drop-drop, getD-drop}
 use borrow.Author.Tests.{eqb-true, ltb-true}
 use Rattle.buffers.specs.Lists.{all}
 use Rattle.buffers.specs.Words.{number, spelled, AllBytes}
@@ -168,7 +168,18 @@ pub bytes-back : (b : List ℕ) → length b ≡ 688 → AllBytes b → settings
 unfolding settingsOf settingsBytes rulesAt
 bytes-back b h k =
     let r : rulesBytes (rulesAt 8 48 b) ≡ drop 48 b = rules-again 8 48 b (omega arith) k in
-    rw (word-again 0 b (omega arith) k, word-again 8 b (omega arith) k, word-again 16 b (omega arith) k, word-again 24 b (omega arith) k,
-    word-again 32 b (omega arith) k, word-again 40 b (omega arith) k, r,
-    cut 40 8 48 b refl, cut 32 8 40 b refl, cut 24 8 32 b refl, cut 16 8 24 b refl, cut 8 8 16 b refl)
+    rw (
+      word-again 0 b (omega arith) k,
+      word-again 8 b (omega arith) k,
+      word-again 16 b (omega arith) k,
+      word-again 24 b (omega arith) k,
+      word-again 32 b (omega arith) k,
+      word-again 40 b (omega arith) k,
+      r,
+      cut 40 8 48 b refl,
+      cut 32 8 40 b refl,
+      cut 24 8 32 b refl,
+      cut 16 8 24 b refl,
+      cut 8 8 16 b refl,
+    )
     (cut 0 8 8 b refl)

@@ -1,13 +1,13 @@
 -- Laws of storing a rule: its 64 prefix bytes, and its place among the eight.
 use Prim.Native.Nat.{ℕ, zero, suc, _≤_}
 use mathlib.Core.Path.{_≡_, refl, sym, ap, _∙_}
-use mathlib.Core.Bool.{Bool, true, false, _&&_}
+use mathlib.Core.Bool.{true, false, _&&_}
 use mathlib.Core.List.{List, [], _∷_}
 use lib.Dec.{eqb}
 use lib.ListN.{length, set, replicate}
 use Rattle.buffers.specs.Writes.{Wrote}
 use Rattle.buffers.proofs.Lists.{all-set}
-use Rattle.blocks.specs.Blocks.{blockOf, keyIn, isBlock}
+use Rattle.blocks.specs.Blocks.{blockOf, isBlock}
 use Rattle.blocks.proofs.Blocks.{block-length, key-back, block-block}
 use Rattle.model.specs.Settings as model
 use Rattle.settings.specs.declared.Settings.{Settings}

@@ -46,7 +46,7 @@ settingsOf b =
       mode = wordAt b 24;
       count = wordAt b 32;
       unit = wordAt b 40;
-      rules = ruleAt b 48 ∷ ruleAt b 128 ∷ ruleAt b 208 ∷ ruleAt b 288 ∷ ruleAt b 368 ∷ ruleAt b 448 ∷ ruleAt b 528 ∷ ruleAt b 608 ∷ []
+      rules = ruleAt b 48 ∷ ruleAt b 128 ∷ ruleAt b 208 ∷ ruleAt b 288 ∷ ruleAt b 368 ∷ ruleAt b 448 ∷ ruleAt b 528 ∷ ruleAt b 608 ∷ [];
     }
 
 -- ## What the bytes can hold

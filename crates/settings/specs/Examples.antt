@@ -2,7 +2,7 @@
 use Prim.Native.Nat.{ℕ}
 use mathlib.Core.Path.{_≡_, refl}
 use mathlib.Core.Bool.{true, false}
-use mathlib.Core.List.{List, [], _∷_, _++_}
+use mathlib.Core.List.{_∷_, _++_}
 use lib.ListN.{replicate}
 use Rattle.buffers.specs.Words.{number, spelled}
 use Rattle.buffers.specs.Texts.{bytes}

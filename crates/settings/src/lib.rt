@@ -9,7 +9,7 @@ ghost use Rattle.buffers.specs.Writes.{Wrote};
 ghost use Rattle.model.specs.Settings.{soundDefault, soundRules};
 ghost use Rattle.settings.specs.Meaning.{rulesMean, prefixesAre, settingsSound};
 ghost use Rattle.settings.specs.Changes.{Fresh, ruleSound, withDefault, withProgress, Stored, WithRule};
-ghost use Rattle.settings.specs.Bytes.{ruleAt, settingsOf, ruleBytes, rulesBytes, settingsBytes};
+ghost use Rattle.settings.specs.Bytes.{ruleAt, settingsOf, rulesBytes, settingsBytes};
 
 // A lifecycle rule; its prefix is 64 bytes like a key, with length 0 allowed.
 #[repr(C)]
@@ -230,7 +230,13 @@ fn stored_rule(prefix: &[u8], current: u64, noncurrent: u64) -> Rule
 }
 
 // The settings with another rule at a place.
-pub fn with_rule(s: Settings, place: usize, prefix: &[u8], current: u64, noncurrent: u64) -> Settings
+pub fn with_rule(
+    s: Settings,
+    place: usize,
+    prefix: &[u8],
+    current: u64,
+    noncurrent: u64,
+) -> Settings
     requires { ⌜ (place < 8) × (length (now prefix) ≤ 63) ⌝ }
     ensures { λ r. ⌜ WithRule s place (record { prefix = now (prefix .entry); currentDays = current; noncurrentDays = noncurrent }) r ⌝ }
 {

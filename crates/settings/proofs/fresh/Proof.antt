@@ -6,13 +6,9 @@ use Rattle.model.specs.Settings.{soundConfig, soundRules}
 use Rattle.settings.specs.Meaning.{settingsSound}
 use Rattle.settings.proofs.fresh.Statement.{statement}
 use Rattle.settings.proofs.fresh.Tie as tie
-use Rattle.settings.proofs.fresh.Reads as reads
-use Rattle.settings.proofs.fresh.Lts as lts
-
--- src/lib.rt:138:1
-returns : tie.Need-returns
-unfolding settingsSound isBlock blockOf isPrefix soundConfig soundRules
-returns c = record { means = refl; unused = refl; sound = refl }
 
 pub fresh-spec : {M : Type 1} → statement M
-fresh-spec = tie.close (tie.spec returns)
+unfolding blockOf isBlock isPrefix settingsSound soundConfig soundRules
+fresh-spec = tie.close
+    (tie.spec
+    (λ c. record { means = refl; unused = refl; sound = refl }))
