@@ -27,7 +27,7 @@ whole-length s h = simp (length-append, length-spelled) (omega arith)
 -- ## A rule
 
 -- Exactly n elements are written.
-pub exact : (out : List ℕ) (a : ℕ) (vs : List ℕ) (n k : ℕ) (exit : List ℕ) (r : ℕ) → Wrote out a vs k exit r → length vs ≡ n → Wrote out a vs n exit (a + n)
+exact : (out : List ℕ) (a : ℕ) (vs : List ℕ) (n k : ℕ) (exit : List ℕ) (r : ℕ) → Wrote out a vs k exit r → length vs ≡ n → Wrote out a vs n exit (a + n)
 exact out a vs n k exit r w e = record { next = ap (λ (i : ℕ). a + i) (sym e); holds = w .holds; long = w .long; most = omega arith }
 
 pub rule-written : (out : List ℕ) (at : ℕ) (p : List ℕ) (x y k : ℕ) (l m exit : List ℕ) (q r t : ℕ) → length p ≡ 64 → at + 80 ≤ length out

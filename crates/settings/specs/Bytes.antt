@@ -55,6 +55,7 @@ settingsOf b =
 abbrev pub isWord : ℕ → Bool
 isWord n = ltb n 18446744073709551616
 
+-- a prefix of 64 bytes, and two such numbers
 abbrev pub ruleFits : Rule → Bool
 ruleFits u = eqb (length (u .prefix)) 64 && (isWord (u .current) && isWord (u .noncurrent))
 

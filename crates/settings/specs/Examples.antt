@@ -14,6 +14,7 @@ use Rattle.settings.specs.declared.Rule.{Rule}
 use Rattle.settings.specs.Bytes.{ruleBytes, settingsBytes, settingsOf, settingsFit}
 use Rattle.settings.specs.Meaning.{settingsSound}
 
+-- no rule
 abbrev absent : Rule
 absent = record { prefix = replicate 64 0; current = 0; noncurrent = 0 }
 
@@ -34,6 +35,7 @@ idle = record { prefix = blockOf (bytes "logs/"); current = 0; noncurrent = 0 }
 abbrev dirty : Rule
 dirty = record { prefix = 1 ∷ 97 ∷ 98 ∷ replicate 61 0; current = 30; noncurrent = 0 }
 
+-- a day more than a rule may have
 abbrev late : Rule
 late = record { prefix = replicate 64 0; current = 36501; noncurrent = 0 }
 

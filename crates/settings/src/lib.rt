@@ -56,6 +56,7 @@ fn rule_at(b: &[u8], at: usize) -> Rule
     }
 }
 
+// The eight rules behind the six numbers.
 fn rules_in(b: &[u8]) -> [Rule; 8]
     requires { ⌜ length (now b) ≡ 688 ⌝ }
     ensures { λ r. ⌜ r ≡ settingsOf (now (b .entry)) .rules ⌝ }
@@ -154,6 +155,7 @@ pub fn fresh() -> Settings
     }
 }
 
+// Whether a default retention is within its limits, or absent and all zero.
 fn is_sound_default(mode: u64, count: u64, unit: u64) -> bool
     ensures { λ r. ⌜ r ≡ soundDefault (record { mode = mode; count = count; unit = unit }) ⌝ }
 {
@@ -163,6 +165,7 @@ fn is_sound_default(mode: u64, count: u64, unit: u64) -> bool
     absent | (((mode == 1) | (mode == 2)) & ((1 <= count) & (days | years)))
 }
 
+// Whether a rule has a prefix and days within their limits, and is all zero where it has no action.
 fn is_sound_rule(prefix: [u8; 64], current: u64, noncurrent: u64) -> bool
     ensures { λ r. ⌜ r ≡ ruleSound (record { prefix = prefix; current = current; noncurrent = noncurrent }) ⌝ }
 {
@@ -171,6 +174,7 @@ fn is_sound_rule(prefix: [u8; 64], current: u64, noncurrent: u64) -> bool
     is_prefix & ((current <= 36500) & ((noncurrent <= 36500) & (is_set | (prefix[0] == 0))))
 }
 
+// Whether every rule is sound.
 fn are_sound(rules: [Rule; 8]) -> bool
     ensures { λ r. ⌜ r ≡ prefixesAre rules && soundRules (rulesMean rules) ⌝ }
 {
