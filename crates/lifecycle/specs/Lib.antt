@@ -1,1 +1,4 @@
 pub mod Fates
+pub mod Days
+pub mod Judging
+pub mod Stand

@@ -1,1 +1,168 @@
-// to come
+// SWEEP's judgement: the fate of every row of a table, on the table as it stands. The definitions are in specs/.
+use settings::Rule;
+ghost use mathlib.Core.Path.{_≡_};
+ghost use mathlib.Core.Bool.{Bool, true, false};
+ghost use mathlib.Core.List.{List};
+ghost use mathlib.Core.Option.{none};
+ghost use Prim.Native.Nat.{ℕ, _+_, _*_, _≤_, _<_};
+ghost use lib.ListN.{length, getD, take, drop};
+ghost use Rattle.buffers.specs.Lists.{begins};
+ghost use Rattle.buffers.specs.Ranges.{Within};
+ghost use Rattle.calendar.specs.Calendar.{latest};
+ghost use Rattle.blocks.specs.Blocks.{keyIn, isBlock};
+ghost use Rattle.model.specs.Locks.{locked};
+ghost use Rattle.model.specs.Settings.{isSet};
+ghost use Rattle.model.specs.Sweep.{marks, removes};
+ghost use Rattle.settings.specs.Meaning.{ruleMeans, rulesMean, prefixesAre};
+ghost use Rattle.table.specs.Layout.{rowAt, rowsOf};
+ghost use Rattle.lifecycle.specs.Stand.{rowFrom, rowWith};
+ghost use Rattle.lifecycle.specs.Days.{lesser, limitsOf, tightened, over};
+ghost use Rattle.lifecycle.specs.Fates.{fateOf};
+ghost use Rattle.lifecycle.specs.Judging.{currentBy, noncurrentBy, keyAt, rowBefore, sameKey, Known, Judgeable, JudgedRow, JudgedRows};
+
+pub struct Numbers {
+    pub number: u64,
+    pub kind: u64,
+    pub created: u64,
+    pub body: u64,
+    pub size: u64,
+    pub mode: u64,
+    pub until: u64,
+    pub hold: u64,
+}
+
+fn numbers_at(rows: &[u64], at: usize) -> Numbers
+    requires { ⌜ 8 * at + 8 ≤ length (now rows) ⌝ }
+    ensures { λ r. ⌜ ((k : List ℕ) → rowFrom r k ≡ rowWith (take 8 (drop (8 * at) (now (rows .entry)))) k) ⌝ }
+{
+    let i = 8 * at;
+    Numbers {
+        number: rows[i],
+        kind: rows[i + 1],
+        created: rows[i + 2],
+        body: rows[i + 3],
+        size: rows[i + 4],
+        mode: rows[i + 5],
+        until: rows[i + 6],
+        hold: rows[i + 7],
+    }
+}
+
+fn key_in(block: &[u8]) -> &[u8]
+    requires { ⌜ (64 ≤ length (now block)) × (getD (now block) 0 0 ≤ 63) ⌝ }
+    ensures { λ r. ⌜ now r ≡ keyIn (now (block .entry)) ⌝ }
+{
+    let end = block[0] as usize + 1;
+    &block[1..end]
+}
+
+fn key_at(keys: &[u8], at: usize) -> &[u8]
+    requires { ⌜ (64 * at + 64 ≤ length (now keys)) × (getD (now keys) (64 * at) 0 ≤ 63) ⌝ }
+    ensures { λ r. ⌜ now r ≡ keyIn (take 64 (drop (64 * at) (now (keys .entry)))) ⌝ }
+{
+    let start = 64 * at;
+    let end = start + 64;
+    key_in(&keys[start..end])
+}
+
+// The least days that the rules set for a key's rows, 0 for none.
+pub struct Limits {
+    pub current: u64,
+    pub noncurrent: u64,
+}
+
+// A row's fate, and the limits of its key.
+pub struct Judged {
+    pub limits: Limits,
+    pub fate: u8,
+}
+
+// The rows that go and the markers that come.
+pub struct Counts {
+    pub removed: usize,
+    pub added: usize,
+}
+
+// The lesser of two numbers of days, of which 0 stand for no action.
+fn lesser(a: u64, b: u64) -> u64
+    ensures { λ r. ⌜ r ≡ lesser a b ⌝ }
+{
+    if a == 0 {
+        return b;
+    }
+    if b == 0 {
+        return a;
+    }
+    if a < b {
+        return a;
+    }
+    b
+}
+
+// The rule has an action.
+fn is_set(rule: Rule) -> bool
+    ensures { λ r. ⌜ r ≡ isSet (ruleMeans rule) ⌝ }
+{
+    !((rule.current == 0) & (rule.noncurrent == 0))
+}
+
+// The prefix in 64 bytes begins the key.
+fn begins_with(prefix: [u8; 64], key: &[u8]) -> bool
+    requires { ⌜ isBlock prefix ≡ true ⌝ }
+    ensures { λ r. ⌜ r ≡ begins (keyIn prefix) (now (key .entry)) ⌝ }
+{
+    text::begins_with(key, key_in(&prefix))
+}
+
+// A key's limits with one rule more.
+fn tighten(rule: Rule, key: &[u8], limits: Limits) -> Limits
+    requires { ⌜ isBlock (rule .prefix) ≡ true ⌝ }
+    ensures { λ r. ⌜ r ≡ tightened (ruleMeans rule) (now (key .entry)) limits ⌝ }
+{
+    if is_set(rule) {
+        let prefix = rule.prefix;
+        if begins_with(prefix, key) {
+            return Limits {
+                current: lesser(rule.current, limits.current),
+                noncurrent: lesser(rule.noncurrent, limits.noncurrent),
+            };
+        }
+    }
+    limits
+}
+
+// The limits of a key. The prefix of each rule with an action is compared once.
+fn limits_of(rules: [Rule; 8], key: &[u8]) -> Limits
+    requires { ⌜ prefixesAre rules ≡ true ⌝ }
+    ensures { λ r. ⌜ r ≡ limitsOf (rulesMean rules) (now (key .entry)) ⌝ }
+{
+    let mut limits = Limits {
+        current: 0,
+        noncurrent: 0,
+    };
+    let mut i = 8;
+    while 0 < i {
+        i -= 1;
+        let rule = rules[i];
+        limits = tighten(rule, key, limits);
+    }
+    limits
+}
+
+// The days stand for an action, and they are over since an instant.
+fn is_over(days: u64, since: u64, instant: u64) -> bool
+    requires { ⌜ (since ≤ latest) × (days ≤ 36500) ⌝ }
+    ensures { λ r. ⌜ r ≡ over days since instant ⌝ }
+{
+    if days == 0 {
+        return false;
+    }
+    calendar::expiry(since, days) <= instant
+}
+
+// The row is locked at an instant, for one with or without bypass; its key does not matter.
+pub fn is_locked(n: Numbers, instant: u64, bypass: bool) -> bool
+    ensures { λ r. ⌜ ((k : List ℕ) → r ≡ locked instant «bypass» (rowFrom n k)) ⌝ }
+{
+    (n.hold == 1) | ((instant < n.until) & ((n.mode == 2) | ((n.mode == 1) & !bypass)))
+}

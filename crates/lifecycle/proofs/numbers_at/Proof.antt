@@ -1,0 +1,135 @@
+use borrow.Author.Needs.{needs}
+use Rattle.lifecycle.proofs.numbers_at.Statement.{statement}
+use Rattle.lifecycle.proofs.numbers_at.Tie as tie
+use Rattle.lifecycle.proofs.numbers_at.Reads as reads
+use Rattle.lifecycle.proofs.numbers_at.Lts as lts
+
+-- src/lib.rt:38:13
+mul-i : tie.Need-mul-i
+mul-i c = search needs
+
+-- src/lib.rt:40:17
+mul-t4 : tie.Need-mul-t4
+mul-t4 c = search needs
+
+-- src/lib.rt:40:17
+shared-slice-read-t6 : tie.Need-shared-slice-read-t6
+shared-slice-read-t6 c = search needs
+
+-- src/lib.rt:41:20
+add-t7 : tie.Need-add-t7
+add-t7 c = search needs
+
+-- src/lib.rt:41:15
+mul-t8 : tie.Need-mul-t8
+mul-t8 c = search needs
+
+-- src/lib.rt:41:15
+shared-slice-read-t10 : tie.Need-shared-slice-read-t10
+shared-slice-read-t10 c = search needs
+
+-- src/lib.rt:42:23
+add-t11 : tie.Need-add-t11
+add-t11 c = search needs
+
+-- src/lib.rt:42:18
+mul-t12 : tie.Need-mul-t12
+mul-t12 c = search needs
+
+-- src/lib.rt:42:18
+shared-slice-read-t14 : tie.Need-shared-slice-read-t14
+shared-slice-read-t14 c = search needs
+
+-- src/lib.rt:43:20
+add-t15 : tie.Need-add-t15
+add-t15 c = search needs
+
+-- src/lib.rt:43:15
+mul-t16 : tie.Need-mul-t16
+mul-t16 c = search needs
+
+-- src/lib.rt:43:15
+shared-slice-read-t18 : tie.Need-shared-slice-read-t18
+shared-slice-read-t18 c = search needs
+
+-- src/lib.rt:44:20
+add-t19 : tie.Need-add-t19
+add-t19 c = search needs
+
+-- src/lib.rt:44:15
+mul-t20 : tie.Need-mul-t20
+mul-t20 c = search needs
+
+-- src/lib.rt:44:15
+shared-slice-read-t22 : tie.Need-shared-slice-read-t22
+shared-slice-read-t22 c = search needs
+
+-- src/lib.rt:45:20
+add-t23 : tie.Need-add-t23
+add-t23 c = search needs
+
+-- src/lib.rt:45:15
+mul-t24 : tie.Need-mul-t24
+mul-t24 c = search needs
+
+-- src/lib.rt:45:15
+shared-slice-read-t26 : tie.Need-shared-slice-read-t26
+shared-slice-read-t26 c = search needs
+
+-- src/lib.rt:46:21
+add-t27 : tie.Need-add-t27
+add-t27 c = search needs
+
+-- src/lib.rt:46:16
+mul-t28 : tie.Need-mul-t28
+mul-t28 c = search needs
+
+-- src/lib.rt:46:16
+shared-slice-read-t30 : tie.Need-shared-slice-read-t30
+shared-slice-read-t30 c = search needs
+
+-- src/lib.rt:47:20
+add-t31 : tie.Need-add-t31
+add-t31 c = search needs
+
+-- src/lib.rt:47:15
+mul-t32 : tie.Need-mul-t32
+mul-t32 c = search needs
+
+-- src/lib.rt:47:15
+shared-slice-read-t34 : tie.Need-shared-slice-read-t34
+shared-slice-read-t34 c = search needs
+
+-- src/lib.rt:34:1
+returns : tie.Need-returns
+returns c = ?
+
+pub numbers-at-spec : {M : Type 1} → statement M
+numbers-at-spec =
+    tie.close
+    (tie.spec
+    mul-i
+    mul-t4
+    shared-slice-read-t6
+    add-t7
+    mul-t8
+    shared-slice-read-t10
+    add-t11
+    mul-t12
+    shared-slice-read-t14
+    add-t15
+    mul-t16
+    shared-slice-read-t18
+    add-t19
+    mul-t20
+    shared-slice-read-t22
+    add-t23
+    mul-t24
+    shared-slice-read-t26
+    add-t27
+    mul-t28
+    shared-slice-read-t30
+    add-t31
+    mul-t32
+    shared-slice-read-t34
+    returns)
