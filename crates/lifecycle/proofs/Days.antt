@@ -68,7 +68,13 @@ module _ (s t : ℕ) where
   due-least days [] = sym (over-none 0 refl)
   due-least days (u ∷ us) = ap₂ (λ (a b : Bool). a || b) (over-some (days u)) (due-least days us) ∙ over-lesser (days u) (least days us)
 
+pub over-last : (s t d r : ℕ) → r ≡ expiresAt s d → leb r t ≡ leb (expiresAt s d) t
+over-last s t d r e = rw e
+
 -- ## The limits of a key
+
+pub limits-both : (a b c d : ℕ) → a ≡ c → b ≡ d → _≡_ {A = Limits} (record { current = a; noncurrent = b }) (record { current = c; noncurrent = d })
+limits-both a b c d e f = rw (e, f)
 
 limits-more : (u : model.Rule) (us : List model.Rule) (k : List ℕ) → tightened u k (limitsOf us k) ≡ limitsOf (u ∷ us) k
 unfolding tightened limitsOf
@@ -116,6 +122,9 @@ block-first b e =
     let q : b ≡ blockOf (keyIn b) = same-path _ _ e in
     let f : getD b 0 0 ≡ length (take 63 (keyIn b)) = ap (λ (l : List ℕ). getD l 0 0) q in
     omega (arith, length-take 63 (keyIn b))
+
+pub begins-in : (p q k : List ℕ) (r : Bool) → r ≡ begins p k → p ≡ q → r ≡ begins q k
+begins-in p q k r e f = cc
 
 all-at : {A : Type 0} (p : A → Bool) (xs : List A) (i : ℕ) (d : A) → all p xs ≡ true → i < length xs → p (getD xs i d) ≡ true
 all-at p [] i d e h = absurd (omega arith)

@@ -5,12 +5,11 @@ use mathlib.Core.Bool.{Bool, true, false}
 use mathlib.Core.List.{List}
 use mathlib.Core.Option.{Option, some, none}
 use lib.Dec.{eqb}
-use lib.ListN.{length, getD, take, drop}
+use lib.ListN.{length, getD, take}
 use Rattle.buffers.specs.Choices.{pick}
 use Rattle.buffers.specs.Lists.{all, same}
 use Rattle.buffers.specs.Ranges.{Within}
 use Rattle.calendar.specs.Calendar.{latest}
-use Rattle.blocks.specs.Blocks.{keyIn}
 use Rattle.model.specs.Rows.{Row, isData}
 use Rattle.model.specs.Settings as model
 use Rattle.model.specs.Locks.{locked}
@@ -21,6 +20,7 @@ use Rattle.table.specs.Layout.{rowAt, rowsOf}
 use Rattle.lifecycle.specs.declared.Limits.{Limits}
 use Rattle.lifecycle.specs.declared.Judged.{Judged}
 use Rattle.lifecycle.specs.declared.Counts.{Counts}
+use Rattle.lifecycle.specs.Stand.{keyAt}
 use Rattle.lifecycle.specs.Days.{limitsOf, over, fewDays}
 use Rattle.lifecycle.specs.Fates.{fateOf, fatesIn, fates}
 
@@ -35,10 +35,6 @@ unfoldable pub noncurrentBy : ℕ → ℕ → ℕ → Row → Fate
 noncurrentBy days since now x = pick (over days since now) (pick (locked now false x) stays goes) stays
 
 -- ## A row of the buffers
-
--- the key of the row at a position
-abbrev pub keyAt : List ℕ → ℕ → List ℕ
-keyAt keys i = keyIn (take 64 (drop (64 * i) keys))
 
 -- the row before a position
 abbrev pub rowBefore : List ℕ → List ℕ → ℕ → Option Row
@@ -55,6 +51,12 @@ Known us none l = Unit {0}
 Known us (some y) l = l ≡ limitsOf us (y .key)
 
 -- ## Contracts
+
+-- The key at a position can be read, and the one before it.
+pub record Keys (keys : List ℕ) (at : ℕ) : Type 0 where
+  pub blocks : 64 * at + 64 ≤ length keys
+  pub own : getD keys (64 * at) 0 ≤ 63
+  pub before : getD keys (64 * (at - 1)) 0 ≤ 63
 
 -- The first `used` rows and the rules can be read, and no sum of an instant and days is too large.
 pub record Judgeable (rows keys : List ℕ) (used : ℕ) (rules : List Rule) : Type 0 where

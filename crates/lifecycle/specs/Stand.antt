@@ -1,6 +1,7 @@
 use Prim.Native.Nat.{ℕ, _*_}
 use mathlib.Core.List.{List}
 use lib.ListN.{getD, take, drop}
+use Rattle.blocks.specs.Blocks.{keyIn}
 use Rattle.model.specs.Rows.{Row}
 use Rattle.lifecycle.specs.declared.Numbers.{Numbers}
 
@@ -8,9 +9,10 @@ use Rattle.lifecycle.specs.declared.Numbers.{Numbers}
 abbrev pub rowFrom : Numbers → List ℕ → Row
 rowFrom n k = record { number = n .number; kind = n .kind; created = n .created; body = n .body; size = n .size; mode = n .mode; until = n .until; hold = n .hold; key = k }
 
-abbrev pub rowWith : List ℕ → List ℕ → Row
-rowWith ns k =
-    record {
-      number = getD ns 0 0; kind = getD ns 1 0; created = getD ns 2 0; body = getD ns 3 0;
-      size = getD ns 4 0; mode = getD ns 5 0; until = getD ns 6 0; hold = getD ns 7 0; key = k
-    }
+abbrev pub numbersIn : List ℕ → Numbers
+numbersIn ns =
+    record { number = getD ns 0 0; kind = getD ns 1 0; created = getD ns 2 0; body = getD ns 3 0; size = getD ns 4 0; mode = getD ns 5 0; until = getD ns 6 0; hold = getD ns 7 0 }
+
+-- the key at a position, counted from 0
+abbrev pub keyAt : List ℕ → ℕ → List ℕ
+keyAt keys i = keyIn (take 64 (drop (64 * i) keys))

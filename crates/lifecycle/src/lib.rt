@@ -15,10 +15,10 @@ ghost use Rattle.model.specs.Settings.{isSet};
 ghost use Rattle.model.specs.Sweep.{marks, removes};
 ghost use Rattle.settings.specs.Meaning.{ruleMeans, rulesMean, prefixesAre};
 ghost use Rattle.table.specs.Layout.{rowAt, rowsOf};
-ghost use Rattle.lifecycle.specs.Stand.{rowFrom, rowWith};
+ghost use Rattle.lifecycle.specs.Stand.{rowFrom, numbersIn, keyAt};
 ghost use Rattle.lifecycle.specs.Days.{lesser, limitsOf, tightened, over};
 ghost use Rattle.lifecycle.specs.Fates.{fateOf};
-ghost use Rattle.lifecycle.specs.Judging.{currentBy, noncurrentBy, keyAt, rowBefore, sameKey, Known, Judgeable, JudgedRow, JudgedRows};
+ghost use Rattle.lifecycle.specs.Judging.{Keys, currentBy, noncurrentBy, rowBefore, sameKey, Known, Judgeable, JudgedRow, JudgedRows};
 
 pub struct Numbers {
     pub number: u64,
@@ -33,7 +33,7 @@ pub struct Numbers {
 
 fn numbers_at(rows: &[u64], at: usize) -> Numbers
     requires { ⌜ 8 * at + 8 ≤ length (now rows) ⌝ }
-    ensures { λ r. ⌜ ((k : List ℕ) → rowFrom r k ≡ rowWith (take 8 (drop (8 * at) (now (rows .entry)))) k) ⌝ }
+    ensures { λ r. ⌜ r ≡ numbersIn (take 8 (drop (8 * at) (now (rows .entry)))) ⌝ }
 {
     let i = 8 * at;
     Numbers {
@@ -48,21 +48,13 @@ fn numbers_at(rows: &[u64], at: usize) -> Numbers
     }
 }
 
-fn key_in(block: &[u8]) -> &[u8]
-    requires { ⌜ (64 ≤ length (now block)) × (getD (now block) 0 0 ≤ 63) ⌝ }
-    ensures { λ r. ⌜ now r ≡ keyIn (now (block .entry)) ⌝ }
-{
-    let end = block[0] as usize + 1;
-    &block[1..end]
-}
-
 fn key_at(keys: &[u8], at: usize) -> &[u8]
     requires { ⌜ (64 * at + 64 ≤ length (now keys)) × (getD (now keys) (64 * at) 0 ≤ 63) ⌝ }
-    ensures { λ r. ⌜ now r ≡ keyIn (take 64 (drop (64 * at) (now (keys .entry)))) ⌝ }
+    ensures { λ r. ⌜ now r ≡ keyAt (now (keys .entry)) at ⌝ }
 {
     let start = 64 * at;
     let end = start + 64;
-    key_in(&keys[start..end])
+    blocks::key_in(&keys[start..end])
 }
 
 // The least days that the rules set for a key's rows, 0 for none.
@@ -111,7 +103,7 @@ fn begins_with(prefix: [u8; 64], key: &[u8]) -> bool
     requires { ⌜ isBlock prefix ≡ true ⌝ }
     ensures { λ r. ⌜ r ≡ begins (keyIn prefix) (now (key .entry)) ⌝ }
 {
-    text::begins_with(key, key_in(&prefix))
+    text::begins_with(key, blocks::key_in(&prefix))
 }
 
 // A key's limits with one rule more.
@@ -165,4 +157,119 @@ pub fn is_locked(n: Numbers, instant: u64, bypass: bool) -> bool
     ensures { λ r. ⌜ ((k : List ℕ) → r ≡ locked instant «bypass» (rowFrom n k)) ⌝ }
 {
     (n.hold == 1) | ((instant < n.until) & ((n.mode == 2) | ((n.mode == 1) & !bypass)))
+}
+
+// A current row's fate by its key's days.
+fn current_fate(n: Numbers, days: u64, instant: u64) -> u8
+    requires { ⌜ (n .created ≤ latest) × (days ≤ 36500) ⌝ }
+    ensures { λ r. ⌜ ((k : List ℕ) → fateOf r ≡ currentBy days instant (rowFrom n k)) ⌝ }
+{
+    if n.kind != 1 {
+        return 0;
+    }
+    if is_over(days, n.created, instant) {
+        return 2;
+    }
+    0
+}
+
+// The fate of a row that isn't current; `since` is the creation of the next newer row.
+fn noncurrent_fate(n: Numbers, days: u64, since: u64, instant: u64) -> u8
+    requires { ⌜ (since ≤ latest) × (days ≤ 36500) ⌝ }
+    ensures { λ r. ⌜ ((k : List ℕ) → fateOf r ≡ noncurrentBy days since instant (rowFrom n k)) ⌝ }
+{
+    if is_over(days, since, instant) {
+        if is_locked(n, instant, false) {
+            return 0;
+        }
+        return 1;
+    }
+    0
+}
+
+// The row has the key of the row before it.
+fn same_key(keys: &[u8], at: usize) -> bool
+    requires { ⌜ Keys (now keys) at ⌝ }
+    ensures { λ r. ⌜ r ≡ sameKey (now (keys .entry)) at ⌝ }
+{
+    if at == 0 {
+        return false;
+    }
+    text::is_word(key_at(keys, at - 1), key_at(keys, at))
+}
+
+// Judges the row at a position; the limits are those of the row before it.
+fn judge_row(
+    rows: &[u64],
+    keys: &[u8],
+    at: usize,
+    rules: [Rule; 8],
+    limits: Limits,
+    instant: u64,
+) -> Judged
+    requires { ⌜ Judgeable (now rows) (now keys) (at + 1) rules ⌝ }
+    requires { ⌜ Known (rulesMean rules) (rowBefore (now rows) (now keys) at) limits ⌝ }
+    ensures { λ r. ⌜ JudgedRow (rulesMean rules) instant (rowBefore (now (rows .entry)) (now (keys .entry)) at) (rowAt (now (rows .entry)) (now (keys .entry)) at) r ⌝ }
+{
+    let n = numbers_at(rows, at);
+    if same_key(keys, at) {
+        let newer = numbers_at(rows, at - 1);
+        let fate = noncurrent_fate(n, limits.noncurrent, newer.created, instant);
+        return Judged { limits, fate };
+    }
+    let own = limits_of(rules, key_at(keys, at));
+    let fate = current_fate(n, own.current, instant);
+    Judged { limits: own, fate }
+}
+
+// How many rows a fate removes.
+fn removes(fate: u8) -> usize
+    ensures { λ r. ⌜ Within r (removes (fateOf fate)) 1 ⌝ }
+{
+    if fate == 1 {
+        return 1;
+    }
+    0
+}
+
+// How many markers a fate adds.
+fn marks(fate: u8) -> usize
+    ensures { λ r. ⌜ Within r (marks (fateOf fate)) 1 ⌝ }
+{
+    if fate == 2 {
+        return 1;
+    }
+    0
+}
+
+// Judges every row, each key's rules once, and counts. A fate is 0 for a row that stays, 1 for one that goes, 2 for one that gains a marker.
+pub fn judge(
+    rows: &[u64],
+    keys: &[u8],
+    used: usize,
+    rules: [Rule; 8],
+    instant: u64,
+    fates: &mut [u8],
+) -> Counts
+    requires { ⌜ Judgeable (now rows) (now keys) used rules ⌝ }
+    requires { ⌜ used ≤ length (now fates) ⌝ }
+    ensures { λ r. ⌜ JudgedRows (rulesMean rules) instant (rowsOf (now (rows .entry)) (now (keys .entry)) used) used (now (fates .entry)) (now (fates .exit)) r ⌝ }
+{
+    let mut limits = Limits {
+        current: 0,
+        noncurrent: 0,
+    };
+    let mut removed = 0;
+    let mut added = 0;
+    let mut i = 0;
+    while i < used {
+        let judged = judge_row(rows, keys, i, rules, limits, instant);
+        fates[i] = judged.fate;
+        removed += removes(judged.fate);
+        added += marks(judged.fate);
+        let own = judged.limits;
+        limits = own;
+        i += 1;
+    }
+    Counts { removed, added }
 }

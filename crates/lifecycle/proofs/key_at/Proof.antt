@@ -3,33 +3,33 @@ use Rattle.lifecycle.proofs.key_at.Statement.{statement}
 use Rattle.lifecycle.proofs.key_at.Tie as tie
 use Rattle.lifecycle.proofs.key_at.Reads as reads
 use Rattle.lifecycle.proofs.key_at.Lts as lts
-use Rattle.lifecycle.proofs.key_in.Reads as key-in-reads
+use Rattle.blocks.proofs.key_in.Reads as key-in-reads
 
--- src/lib.rt:63:17
+-- src/lib.rt:55:17
 mul-start : tie.Need-mul-start
 mul-start c = search needs
 
--- src/lib.rt:64:15
+-- src/lib.rt:56:15
 add-end : tie.Need-add-end
 add-end c = search needs
 
--- src/lib.rt:65:12
+-- src/lib.rt:57:20
 sub-key-in : tie.Need-sub-key-in
 sub-key-in c = search needs
 
--- src/lib.rt:65:12
+-- src/lib.rt:57:20
 part-key-in-start : tie.Need-part-key-in-start
 part-key-in-start c = search needs
 
--- src/lib.rt:65:12
+-- src/lib.rt:57:20
 part-key-in-end : tie.Need-part-key-in-end
 part-key-in-end c = search needs
 
--- src/lib.rt:65:5
+-- src/lib.rt:57:5
 key-in-requires : tie.Need-key-in-requires
 key-in-requires c κs = ?
 
--- src/lib.rt:59:1
+-- src/lib.rt:51:1
 returns : tie.Need-returns
 returns c = ?
 

@@ -1,46 +1,19 @@
+-- `limits_of` meets its contract.
+use Prim.Native.Nat.{_≤_}
+use mathlib.Core.Path.{_≡_}
+use lib.ListN.{drop}
+use Rattle.settings.specs.Meaning.{rulesMean}
+use Rattle.lifecycle.specs.Days.{limitsOf}
+use Rattle.lifecycle.proofs.Days.{limits-cases}
+use borrow.Author.Needs.{needs}
 use Rattle.lifecycle.proofs.limits_of.Statement.{statement}
 use Rattle.lifecycle.proofs.limits_of.Tie as tie
-use Rattle.lifecycle.proofs.limits_of.Reads as reads
-use Rattle.lifecycle.proofs.limits_of.Lts as lts
-use Rattle.lifecycle.proofs.tighten.Reads as tighten-reads
 
 abbrev Inv-loop : tie.InvT-loop
-Inv-loop key rules limits₀ i₀ limits i = ?
+Inv-loop key rules limits₀ i₀ limits i = (i ≤ 8) × (limits ≡ limitsOf (rulesMean (drop i rules)) key)
 
 abbrev μ-loop : tie.MeasureT-loop
-μ-loop key rules limits₀ i₀ limits i = ?
-
--- src/lib.rt:144:5
-loop-holds : tie.Need-loop-holds Inv-loop μ-loop
-loop-holds c = ?
-
--- src/lib.rt:145:9
-sub-i : tie.Need-sub-i Inv-loop μ-loop
-sub-i c = ?
-
--- src/lib.rt:146:20
-mul-rule : tie.Need-mul-rule Inv-loop μ-loop
-mul-rule c = ?
-
--- src/lib.rt:146:20
-array-copy-out-rule : tie.Need-array-copy-out-rule Inv-loop μ-loop
-array-copy-out-rule c = ?
-
--- src/lib.rt:147:9
-tighten-requires : tie.Need-tighten-requires Inv-loop μ-loop
-tighten-requires c κs = ?
-
--- src/lib.rt:144:5
-loop-less : tie.Need-loop-less Inv-loop μ-loop
-loop-less c = ?
-
--- src/lib.rt:144:5
-loop-again : tie.Need-loop-again Inv-loop μ-loop
-loop-again c = ?
-
--- src/lib.rt:135:1
-returns : tie.Need-returns Inv-loop μ-loop
-returns c = ?
+μ-loop key rules limits₀ i₀ limits i = i
 
 pub limits-of-spec : {M : Type 1} → statement M
 limits-of-spec =
@@ -48,11 +21,11 @@ limits-of-spec =
     (tie.spec
     Inv-loop
     μ-loop
-    loop-holds
-    sub-i
-    mul-rule
-    array-copy-out-rule
-    tighten-requires
-    loop-less
-    loop-again
-    returns)
+    (λ c. search (needs, limits-cases))
+    (λ c. search (needs, limits-cases))
+    (λ c. search (needs, limits-cases))
+    (λ c. search (needs, limits-cases))
+    (λ c κs. search (needs, limits-cases))
+    (λ c. search (needs, limits-cases))
+    (λ c. search (needs, limits-cases))
+    (λ c. search (needs, limits-cases)))
