@@ -1,5 +1,5 @@
 -- The least days decide: an action is due by some rule's days where it is by the least that the rules set.
-use Prim.Native.Nat.{ℕ, zero, suc, _+_, _-_, _≤_, _<_}
+use Prim.Native.Nat.{ℕ, zero, suc, _-_, _≤_, _<_}
 use mathlib.Core.Path.{_≡_, refl, sym, ap, ap₂, _∙_}
 use mathlib.Core.Logic.{inl, inr}
 use mathlib.Core.Bool.{Bool, true, false, not, _&&_, _||_}
@@ -8,8 +8,7 @@ use native.Mathlib.Omega.{arith}
 use lib.Dec.{eqb, leb, ltb}
 use lib.ListN.{length, getD, take, drop, length-take}
 use lib.Seq.{drop-cons, drop-length}
-use borrow.Author.Tests.{eqb-true, eqb-false, ne-eqb, ltb-true, ltb-false, leb-true, le-leb}
-use Rattle.buffers.specs.Choices.{pick}
+use borrow.Author.Tests.{ltb-true, ltb-false, leb-true, le-leb}
 use Rattle.buffers.specs.Lists.{all, begins}
 use Rattle.buffers.proofs.Tests.{either, clash, and-l, and-r}
 use Rattle.buffers.proofs.Lists.{same-path, all-as, all-keep}
@@ -116,9 +115,9 @@ module _ (us : List model.Rule) (k : List ℕ) (l : Limits) (h : all fewDays us 
 -- ## The rules from the last to the first
 
 -- a block's first byte is a length that fits
-pub block-first : (b : List ℕ) → isBlock b ≡ true → getD b 0 0 ≤ 63
+pub block-short : (b : List ℕ) → isBlock b ≡ true → getD b 0 0 ≤ 63
 unfolding isBlock blockOf
-block-first b e =
+block-short b e =
     let q : b ≡ blockOf (keyIn b) = same-path _ _ e in
     let f : getD b 0 0 ≡ length (take 63 (keyIn b)) = ap (λ (l : List ℕ). getD l 0 0) q in
     omega (arith, length-take 63 (keyIn b))

@@ -1,16 +1,15 @@
 -- The fates carried out are the model's sweep, and what they count is what it counts.
 use Prim.Native.Nat.{ℕ, _+_}
-use mathlib.Core.Path.{_≡_, refl, sym, ap, _∙_}
+use mathlib.Core.Path.{_≡_, refl, ap}
 use mathlib.Core.Logic.{inl, inr}
 use mathlib.Core.List.{List, [], _∷_, _++_}
-use mathlib.Core.Option.{Option, some, none}
+use mathlib.Core.Option.{Option, some}
 use native.Mathlib.Omega.{arith}
 use lib.Dec.{eqb}
-use borrow.Author.Tests.{eq-eqb, ne-eqb}
+use borrow.Author.Tests.{ne-eqb}
 use Rattle.buffers.proofs.Tests.{either}
 use Rattle.model.specs.Rows.{Row}
 use Rattle.model.specs.Settings.{Rule}
-use Rattle.model.specs.Time.{Now}
 use Rattle.model.specs.Sweep.{Fate, fate, inPlace, marks, removes, swept, counted}
 use Rattle.lifecycle.specs.Fates.{fateOf, fatesIn, fates, total, carriedOut}
 

@@ -1,10 +1,9 @@
 -- Judging the rows of the buffers one after the other is judging the list.
 use Prim.Native.Nat.{ℕ, zero, suc, _+_, _-_, _*_, _≤_, _<_}
 use mathlib.Core.Path.{_≡_, refl, sym, ap, _∙_}
-use mathlib.Core.Logic.{inl, inr}
 use mathlib.Core.Bool.{Bool, true, false, not, _&&_, false≢true}
 use mathlib.Core.List.{List, [], _∷_, _++_, append-assoc, append-nil}
-use mathlib.Core.Option.{Option, some, none}
+use mathlib.Core.Option.{none}
 use native.Mathlib.Omega.{arith}
 use native.Mathlib.Numerals.{add-one}
 use lib.ListN.{length, getD, take, drop, set, length-set}
@@ -18,15 +17,14 @@ use Rattle.calendar.specs.Calendar.{latest}
 use Rattle.model.specs.Rows.{Row, isData}
 use Rattle.model.specs.Settings as model
 use Rattle.model.specs.Locks.{locked}
-use Rattle.model.specs.Sweep.{applying, due, Fate, stays, goes, gains, currentFate, noncurrentFate, fate, marks, removes, counted}
+use Rattle.model.specs.Sweep.{applying, Fate, stays, goes, gains, currentFate, noncurrentFate, fate, marks, removes}
 use Rattle.settings.specs.declared.Rule.{Rule}
 use Rattle.settings.specs.Meaning.{rulesMean}
-use Rattle.table.specs.Layout.{rowIn, rowAt, rowsOf}
+use Rattle.table.specs.Layout.{rowAt, rowsOf}
 use Rattle.lifecycle.specs.Stand.{rowFrom, numbersIn, keyAt}
 use Rattle.lifecycle.specs.declared.Numbers.{Numbers}
 use Rattle.lifecycle.specs.declared.Limits.{Limits}
 use Rattle.lifecycle.specs.declared.Judged.{Judged}
-use Rattle.lifecycle.specs.declared.Counts.{Counts}
 use Rattle.lifecycle.specs.Days.{least, limitsOf, over, fewDays}
 use Rattle.lifecycle.specs.Fates.{fateOf, fatesIn, fates, total}
 use Rattle.lifecycle.specs.Judging.{currentBy, noncurrentBy, rowBefore, sameKey, Known, Keys, Judgeable, JudgedRow, JudgedRows}
@@ -74,12 +72,12 @@ later b (suc i) r e t = omega arith
 
 -- ## The ways through judge_row
 
-module _ (n b : List ℕ) (i : ℕ) (us : List Rule) (h : Judgeable n b (i + 1) us) where
-  pub keys-ready : Keys b i
-  keys-ready = record { blocks = omega (arith, h .blocks); own = h .lengths i (omega arith); before = h .lengths (i - 1) (omega arith) }
-
+module _ (n b : List ℕ) (i : ℕ) (rules : List Rule) (h : Judgeable n b (i + 1) rules) where
   pub own-length : getD b (64 * i) 0 ≤ 63
   own-length = h .lengths i (omega arith)
+
+  pub keys-ready : Keys b i
+  keys-ready = record { blocks = omega (arith, h .blocks); own = own-length; before = h .lengths (i - 1) (omega arith) }
 
   pub own-created : (m : Numbers) → m ≡ numbersIn (take 8 (drop (8 * i) n)) → m .created ≤ latest
   own-created m e = rw e (h .instants i (omega arith))
@@ -87,12 +85,9 @@ module _ (n b : List ℕ) (i : ℕ) (us : List Rule) (h : Judgeable n b (i + 1) 
   pub newer-created : (m : Numbers) → m ≡ numbersIn (take 8 (drop (8 * (i - 1)) n)) → m .created ≤ latest
   newer-created m e = rw e (h .instants (i - 1) (omega arith))
 
-  pub known-most : (l : Limits) → Known (rulesMean us) (rowBefore n b i) l → 1 ≤ i → l .noncurrent ≤ 36500
-  known-most l k g = go i k g
-    where
-      go : (j : ℕ) → Known (rulesMean us) (rowBefore n b j) l → 1 ≤ j → l .noncurrent ≤ 36500
-      go zero k g = absurd (omega arith)
-      go (suc j) k g = noncurrent-most (rulesMean us) (rowAt n b j .key) l (h .days) k
+pub known-most : (n b : List ℕ) (i : ℕ) (rules : List Rule) (l : Limits) → Judgeable n b (i + 1) rules → Known (rulesMean rules) (rowBefore n b i) l → 1 ≤ i → l .noncurrent ≤ 36500
+known-most n b zero rules l h k g = absurd (omega arith)
+known-most n b (suc i) rules l h k g = noncurrent-most (rulesMean rules) (rowAt n b i .key) l (h .days) k
 
 module _ (us : List model.Rule) (t : ℕ) (n b : List ℕ) (m : Numbers) (f : ℕ) (r : Bool) where
   pub judged-later : (i : ℕ) (p : Numbers) (l : Limits) → m ≡ numbersIn (take 8 (drop (8 * i) n)) → r ≡ sameKey b i → r ≡ true
@@ -119,7 +114,7 @@ module _ (us : List model.Rule) (t : ℕ) (n b : List ℕ) (m : Numbers) (f : �
       let q : l ≡ limitsOf us (keyAt b (suc i)) = el ∙ rw ek in
       record { fate-is = g (keyAt b (suc i)) ∙ rw (em, q, s) (current-is us t (rowAt n b (suc i))); limits-are = q }
 
-pub ruleset row-cases = (later, keys-ready, own-length, own-created, newer-created, current-most, known-most, judged-later, judged-first)
+pub ruleset row-cases = (later, own-length, keys-ready, own-created, newer-created, current-most, known-most, judged-later, judged-first)
 
 -- ## The rows of the buffers
 

@@ -1,3 +1,4 @@
 pub mod Days
 pub mod Fates
 pub mod Judging
+pub mod Stand

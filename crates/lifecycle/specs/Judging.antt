@@ -16,7 +16,7 @@ use Rattle.model.specs.Locks.{locked}
 use Rattle.model.specs.Sweep.{Fate, stays, goes, gains, fate, marks, removes, counted}
 use Rattle.settings.specs.declared.Rule.{Rule}
 use Rattle.settings.specs.Meaning.{rulesMean, prefixesAre}
-use Rattle.table.specs.Layout.{rowAt, rowsOf}
+use Rattle.table.specs.Layout.{rowAt}
 use Rattle.lifecycle.specs.declared.Limits.{Limits}
 use Rattle.lifecycle.specs.declared.Judged.{Judged}
 use Rattle.lifecycle.specs.declared.Counts.{Counts}

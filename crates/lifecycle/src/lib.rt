@@ -1,7 +1,7 @@
 // SWEEP's judgement: the fate of every row of a table, on the table as it stands. The definitions are in specs/.
 use settings::Rule;
 ghost use mathlib.Core.Path.{_≡_};
-ghost use mathlib.Core.Bool.{Bool, true, false};
+ghost use mathlib.Core.Bool.{true, false};
 ghost use mathlib.Core.List.{List};
 ghost use mathlib.Core.Option.{none};
 ghost use Prim.Native.Nat.{ℕ, _+_, _*_, _≤_, _<_};
@@ -58,15 +58,15 @@ fn key_at(keys: &[u8], at: usize) -> &[u8]
 }
 
 // The least days that the rules set for a key's rows, 0 for none.
-pub struct Limits {
-    pub current: u64,
-    pub noncurrent: u64,
+struct Limits {
+    current: u64,
+    noncurrent: u64,
 }
 
 // A row's fate, and the limits of its key.
-pub struct Judged {
-    pub limits: Limits,
-    pub fate: u8,
+struct Judged {
+    limits: Limits,
+    fate: u8,
 }
 
 // The rows that go and the markers that come.

@@ -1,3 +1,4 @@
+use Rattle.lifecycle.proofs.Stand.{stand}
 use borrow.Author.Needs.{needs}
 use Rattle.lifecycle.proofs.key_at.Statement.{statement}
 use Rattle.lifecycle.proofs.key_at.Tie as tie
@@ -27,11 +28,11 @@ part-key-in-end c = search needs
 
 -- src/lib.rt:57:5
 key-in-requires : tie.Need-key-in-requires
-key-in-requires c κs = ?
+key-in-requires c κs = search (needs, stand)
 
 -- src/lib.rt:51:1
 returns : tie.Need-returns
-returns c = ?
+returns c = search (needs, stand)
 
 pub key-at-spec : {M : Type 1} → statement M
 key-at-spec =

@@ -1,3 +1,4 @@
+use Rattle.lifecycle.proofs.Stand.{stand}
 use borrow.Author.Needs.{needs}
 use Rattle.lifecycle.proofs.numbers_at.Statement.{statement}
 use Rattle.lifecycle.proofs.numbers_at.Tie as tie
@@ -102,7 +103,7 @@ shared-slice-read-t34 c = search needs
 
 -- src/lib.rt:34:1
 returns : tie.Need-returns
-returns c = ?
+returns c = search (needs, stand)
 
 pub numbers-at-spec : {M : Type 1} → statement M
 numbers-at-spec =
