@@ -33,8 +33,15 @@ keysOf (suc c) (x ∷ xs) = blockOf (x .key) ++ keysOf c xs
 abbrev pub rowIn : List ℕ → List ℕ → Row
 rowIn ns block =
     record {
-      number = getD ns 0 0; kind = getD ns 1 0; created = getD ns 2 0; body = getD ns 3 0;
-      size = getD ns 4 0; mode = getD ns 5 0; until = getD ns 6 0; hold = getD ns 7 0; key = keyIn block
+      number = getD ns 0 0;
+      kind = getD ns 1 0;
+      created = getD ns 2 0;
+      body = getD ns 3 0;
+      size = getD ns 4 0;
+      mode = getD ns 5 0;
+      until = getD ns 6 0;
+      hold = getD ns 7 0;
+      key = keyIn block;
     }
 
 -- the row at a position, counted from 0
