@@ -17,6 +17,7 @@ use Rattle.blocks.specs.Blocks.{blockOf, keyIn, isBlock}
 use Rattle.model.specs.Settings as model
 use Rattle.model.specs.Settings.{isSet}
 use Rattle.model.specs.Sweep.{applying, due}
+use Rattle.table.proofs.Lists.{all-at}
 use Rattle.settings.specs.declared.Rule.{Rule}
 use Rattle.settings.specs.Meaning.{ruleMeans, rulesMean, prefixesAre}
 use Rattle.lifecycle.specs.declared.Limits.{Limits}
@@ -125,17 +126,12 @@ block-short b e =
 pub begins-in : (p q k : List ℕ) (r : Bool) → r ≡ begins p k → p ≡ q → r ≡ begins q k
 begins-in p q k r e f = cc
 
-all-at : {A : Type 0} (p : A → Bool) (xs : List A) (i : ℕ) (d : A) → all p xs ≡ true → i < length xs → p (getD xs i d) ≡ true
-all-at p [] i d e h = absurd (omega arith)
-all-at p (x ∷ xs) zero d e h = and-l _ _ e
-all-at p (x ∷ xs) (suc i) d e h = all-at p xs i d (and-r (p x) _ e) (omega arith)
-
 abbrev absent : Rule
 absent = record { prefix = []; current = 0; noncurrent = 0 }
 
 module _ (rules : List Rule) (long : length rules ≡ 8) where
   pub prefix-at : (i : ℕ) → prefixesAre rules ≡ true → 0 < i → i ≤ 8 → isBlock (getD rules (i - 1) absent .prefix) ≡ true
-  prefix-at i e h k = all-at (λ u. isBlock (u .prefix)) rules (i - 1) absent e (omega arith)
+  prefix-at i e h k = all-at (λ u. isBlock (u .prefix)) rules (i - 1) absent (omega arith) e
 
   pub limits-start : (k : List ℕ) → record { current = 0; noncurrent = 0 } ≡ limitsOf (rulesMean (drop 8 rules)) k
   unfolding limitsOf

@@ -6,8 +6,8 @@ use mathlib.Core.List.{List, [], _∷_, _++_, append-assoc, append-nil}
 use mathlib.Core.Option.{none}
 use native.Mathlib.Omega.{arith}
 use native.Mathlib.Numerals.{add-one}
-use lib.ListN.{length, getD, take, drop, set, length-set}
-use lib.Seq.{drop-drop, take-suc-set}
+use lib.ListN.{length, getD, take, drop, set, length-set, drop-of-length-le}
+use lib.Seq.{drop-cons, take-suc-set}
 use borrow.Author.Tests.{ne-eqb}
 use Rattle.buffers.specs.Choices.{pick}
 use Rattle.buffers.specs.Lists.{all, same}
@@ -21,8 +21,9 @@ use Rattle.model.specs.Sweep.{applying, Fate, stays, goes, gains, currentFate, 
 use Rattle.settings.specs.declared.Rule.{Rule}
 use Rattle.settings.specs.Meaning.{rulesMean}
 use Rattle.table.specs.Layout.{rowAt, rowsOf}
-use Rattle.lifecycle.specs.Stand.{rowFrom, numbersIn, keyAt}
-use Rattle.lifecycle.specs.declared.Numbers.{Numbers}
+use Rattle.table.specs.Places.{rowFrom, numbersIn, keyAt}
+use Rattle.table.specs.declared.Numbers.{Numbers}
+use Rattle.table.proofs.Held.{rows-length, row-at}
 use Rattle.lifecycle.specs.declared.Limits.{Limits}
 use Rattle.lifecycle.specs.declared.Judged.{Judged}
 use Rattle.lifecycle.specs.Days.{least, limitsOf, over, fewDays}
@@ -119,17 +120,12 @@ pub ruleset row-cases = (later, own-length, keys-ready, own-created, newer-creat
 -- ## The rows of the buffers
 
 rows-next : (n b : List ℕ) (u i : ℕ) → i < u → drop i (rowsOf n b u) ≡ rowAt n b i ∷ drop (suc i) (rowsOf n b u)
-rows-next n b zero i h = absurd (omega arith)
-rows-next n b (suc u) zero h = refl
-rows-next n b (suc u) (suc i) h =
-    let p : 8 + 8 * i ≡ 8 * suc i = omega arith in
-    let q : 64 + 64 * i ≡ 64 * suc i = omega arith in
-    rows-next (drop 8 n) (drop 64 b) u i (omega arith)
-    ∙ rw (drop-drop (8 * i) 8 n, drop-drop (64 * i) 64 b, p, q)
+rows-next n b u i h =
+    let e = rows-length n b u in
+    drop-cons (rowsOf n b u) i (rowAt n b i) (omega arith) ∙ rw (← row-at n b u i (rowAt n b i) h)
 
 rows-end : (n b : List ℕ) (u : ℕ) → drop u (rowsOf n b u) ≡ []
-rows-end n b zero = refl
-rows-end n b (suc u) = rows-end (drop 8 n) (drop 64 b) u
+rows-end n b u = let e = rows-length n b u in drop-of-length-le (rowsOf n b u) {i = u} (omega arith)
 
 -- ## The loop over the rows
 

@@ -1,4 +1,3 @@
 pub mod Days
 pub mod Fates
 pub mod Judging
-pub mod Stand

@@ -17,10 +17,10 @@ use Rattle.model.specs.Sweep.{Fate, stays, goes, gains, fate, marks, removes, c
 use Rattle.settings.specs.declared.Rule.{Rule}
 use Rattle.settings.specs.Meaning.{rulesMean, prefixesAre}
 use Rattle.table.specs.Layout.{rowAt}
+use Rattle.table.specs.Places.{keyAt}
 use Rattle.lifecycle.specs.declared.Limits.{Limits}
 use Rattle.lifecycle.specs.declared.Judged.{Judged}
 use Rattle.lifecycle.specs.declared.Counts.{Counts}
-use Rattle.lifecycle.specs.Stand.{keyAt}
 use Rattle.lifecycle.specs.Days.{limitsOf, over, fewDays}
 use Rattle.lifecycle.specs.Fates.{fateOf, fatesIn, fates}
 

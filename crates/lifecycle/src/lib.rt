@@ -1,5 +1,6 @@
 // SWEEP's judgement: the fate of every row of a table, on the table as it stands. The definitions are in specs/.
 use settings::Rule;
+use table::Numbers;
 ghost use mathlib.Core.Path.{_≡_};
 ghost use mathlib.Core.Bool.{true, false};
 ghost use mathlib.Core.List.{List};
@@ -15,47 +16,10 @@ ghost use Rattle.model.specs.Settings.{isSet};
 ghost use Rattle.model.specs.Sweep.{marks, removes};
 ghost use Rattle.settings.specs.Meaning.{ruleMeans, rulesMean, prefixesAre};
 ghost use Rattle.table.specs.Layout.{rowAt, rowsOf};
-ghost use Rattle.lifecycle.specs.Stand.{rowFrom, numbersIn, keyAt};
+ghost use Rattle.table.specs.Places.{rowFrom};
 ghost use Rattle.lifecycle.specs.Days.{lesser, limitsOf, tightened, over};
 ghost use Rattle.lifecycle.specs.Fates.{fateOf};
 ghost use Rattle.lifecycle.specs.Judging.{Keys, currentBy, noncurrentBy, rowBefore, sameKey, Known, Judgeable, JudgedRow, JudgedRows};
-
-pub struct Numbers {
-    pub number: u64,
-    pub kind: u64,
-    pub created: u64,
-    pub body: u64,
-    pub size: u64,
-    pub mode: u64,
-    pub until: u64,
-    pub hold: u64,
-}
-
-fn numbers_at(rows: &[u64], at: usize) -> Numbers
-    requires { ⌜ 8 * at + 8 ≤ length (now rows) ⌝ }
-    ensures { λ r. ⌜ r ≡ numbersIn (take 8 (drop (8 * at) (now (rows .entry)))) ⌝ }
-{
-    let i = 8 * at;
-    Numbers {
-        number: rows[i],
-        kind: rows[i + 1],
-        created: rows[i + 2],
-        body: rows[i + 3],
-        size: rows[i + 4],
-        mode: rows[i + 5],
-        until: rows[i + 6],
-        hold: rows[i + 7],
-    }
-}
-
-fn key_at(keys: &[u8], at: usize) -> &[u8]
-    requires { ⌜ (64 * at + 64 ≤ length (now keys)) × (getD (now keys) (64 * at) 0 ≤ 63) ⌝ }
-    ensures { λ r. ⌜ now r ≡ keyAt (now (keys .entry)) at ⌝ }
-{
-    let start = 64 * at;
-    let end = start + 64;
-    blocks::key_in(&keys[start..end])
-}
 
 // The least days that the rules set for a key's rows, 0 for none.
 struct Limits {
@@ -195,7 +159,7 @@ fn same_key(keys: &[u8], at: usize) -> bool
     if at == 0 {
         return false;
     }
-    text::is_word(key_at(keys, at - 1), key_at(keys, at))
+    text::is_word(table::key_at(keys, at - 1), table::key_at(keys, at))
 }
 
 // Judges the row at a position; the limits are those of the row before it.
@@ -211,13 +175,13 @@ fn judge_row(
     requires { ⌜ Known (rulesMean rules) (rowBefore (now rows) (now keys) at) limits ⌝ }
     ensures { λ r. ⌜ JudgedRow (rulesMean rules) instant (rowBefore (now (rows .entry)) (now (keys .entry)) at) (rowAt (now (rows .entry)) (now (keys .entry)) at) r ⌝ }
 {
-    let n = numbers_at(rows, at);
+    let n = table::numbers_at(rows, at);
     if same_key(keys, at) {
-        let newer = numbers_at(rows, at - 1);
+        let newer = table::numbers_at(rows, at - 1);
         let fate = noncurrent_fate(n, limits.noncurrent, newer.created, instant);
         return Judged { limits, fate };
     }
-    let own = limits_of(rules, key_at(keys, at));
+    let own = limits_of(rules, table::key_at(keys, at));
     let fate = current_fate(n, own.current, instant);
     Judged { limits: own, fate }
 }
