@@ -1,7 +1,10 @@
 -- 01, the C boundary: the settings as 688 bytes, each number 8 bytes little-endian in the order of the fields, a prefix 64 bytes.
 use Prim.Native.Nat.{ℕ, _+_}
+use mathlib.Core.Bool.{Bool, _&&_}
 use mathlib.Core.List.{List, [], _∷_, _++_}
-use lib.ListN.{take, drop}
+use lib.Dec.{eqb, ltb}
+use lib.ListN.{length, take, drop}
+use Rattle.buffers.specs.Lists.{all}
 use Rattle.buffers.specs.Words.{number, spelled}
 use Rattle.settings.specs.declared.Settings.{Settings}
 use Rattle.settings.specs.declared.Rule.{Rule}
@@ -43,5 +46,27 @@ settingsOf b =
       mode = wordAt b 24;
       count = wordAt b 32;
       unit = wordAt b 40;
-      rules = ruleAt b 48 ∷ ruleAt b 128 ∷ ruleAt b 208 ∷ ruleAt b 288 ∷ ruleAt b 368 ∷ ruleAt b 448 ∷ ruleAt b 528 ∷ ruleAt b 608 ∷ []
+      rules = ruleAt b 48 ∷ ruleAt b 128 ∷ ruleAt b 208 ∷ ruleAt b 288 ∷ ruleAt b 368 ∷ ruleAt b 448 ∷ ruleAt b 528 ∷ ruleAt b 608 ∷ [];
     }
+
+-- ## What the bytes can hold
+
+-- eight bytes hold the number
+abbrev pub isWord : ℕ → Bool
+isWord n = ltb n 18446744073709551616
+
+-- a prefix of 64 bytes, and two such numbers
+abbrev pub ruleFits : Rule → Bool
+ruleFits u = eqb (length (u .prefix)) 64 && (isWord (u .current) && isWord (u .noncurrent))
+
+-- eight rules with prefixes of 64 bytes, and numbers of eight bytes
+unfoldable pub settingsFit : Settings → Bool
+settingsFit s =
+    isWord (s .time)
+    && (isWord (s .used)
+    && (isWord (s .next)
+    && (isWord (s .mode)
+    && (isWord (s .count)
+    && (isWord (s .unit)
+    && (eqb (length (s .rules)) 8
+    && all ruleFits (s .rules)))))))

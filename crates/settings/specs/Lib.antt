@@ -1,2 +1,4 @@
 pub mod Bytes
 pub mod Meaning
+pub mod Changes
+pub mod Examples

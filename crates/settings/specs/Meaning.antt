@@ -23,7 +23,7 @@ settingsMean s =
     record {
       time = s .time;
       next = s .next;
-      config = record { default = record { mode = s .mode; count = s .count; unit = s .unit }; rules = rulesMean (s .rules) }
+      config = record { default = record { mode = s .mode; count = s .count; unit = s .unit }; rules = rulesMean (s .rules) };
     }
 
 -- every prefix's bytes are those of the prefix that they hold

@@ -1,0 +1,5 @@
+pub mod Decoding
+pub mod Encoding
+pub mod Checking
+pub mod Storing
+pub mod RoundTrip
