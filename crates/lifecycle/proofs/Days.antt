@@ -1,5 +1,5 @@
 -- The least days decide: an action is due by some rule's days where it is by the least that the rules set.
-use Prim.Native.Nat.{ℕ, zero, suc, _-_, _≤_, _<_}
+use Prim.Native.Nat.{ℕ, suc, _-_, _≤_, _<_}
 use mathlib.Core.Path.{_≡_, refl, sym, ap, ap₂, _∙_}
 use mathlib.Core.Logic.{inl, inr}
 use mathlib.Core.Bool.{Bool, true, false, not, _&&_, _||_}
@@ -19,6 +19,7 @@ use Rattle.model.specs.Settings.{isSet}
 use Rattle.model.specs.Sweep.{applying, due}
 use Rattle.table.proofs.Lists.{all-at}
 use Rattle.settings.specs.declared.Rule.{Rule}
+use Rattle.settings.proofs.Encoding.{no-rule}
 use Rattle.settings.specs.Meaning.{ruleMeans, rulesMean, prefixesAre}
 use Rattle.lifecycle.specs.declared.Limits.{Limits}
 use Rattle.lifecycle.specs.Days.{lesser, least, limitsOf, tightened, over, fewDays}
@@ -126,22 +127,19 @@ block-short b e =
 pub begins-in : (p q k : List ℕ) (r : Bool) → r ≡ begins p k → p ≡ q → r ≡ begins q k
 begins-in p q k r e f = cc
 
-abbrev absent : Rule
-absent = record { prefix = []; current = 0; noncurrent = 0 }
-
 module _ (rules : List Rule) (long : length rules ≡ 8) where
-  pub prefix-at : (i : ℕ) → prefixesAre rules ≡ true → 0 < i → i ≤ 8 → isBlock (getD rules (i - 1) absent .prefix) ≡ true
-  prefix-at i e h k = all-at (λ u. isBlock (u .prefix)) rules (i - 1) absent (omega arith) e
+  pub prefix-at : (i : ℕ) → prefixesAre rules ≡ true → 0 < i → i ≤ 8 → isBlock (getD rules (i - 1) no-rule .prefix) ≡ true
+  prefix-at i e h k = all-at (λ u. isBlock (u .prefix)) rules (i - 1) no-rule (omega arith) e
 
   pub limits-start : (k : List ℕ) → record { current = 0; noncurrent = 0 } ≡ limitsOf (rulesMean (drop 8 rules)) k
   unfolding limitsOf
   limits-start k = rw (ap (λ (n : ℕ). drop n rules) (sym long) ∙ drop-length rules)
 
   pub limits-step : (k : List ℕ) (l r : Limits) (i : ℕ) → l ≡ limitsOf (rulesMean (drop i rules)) k → 0 < i → i ≤ 8
-      → r ≡ tightened (ruleMeans (getD rules (i - 1) absent)) k l → r ≡ limitsOf (rulesMean (drop (i - 1) rules)) k
+      → r ≡ tightened (ruleMeans (getD rules (i - 1) no-rule)) k l → r ≡ limitsOf (rulesMean (drop (i - 1) rules)) k
   limits-step k l r i e h g q =
       let j : suc (i - 1) ≡ i = omega arith in
-      let d : drop (i - 1) rules ≡ getD rules (i - 1) absent ∷ drop i rules = drop-cons rules (i - 1) absent (omega arith) ∙ rw j in
+      let d : drop (i - 1) rules ≡ getD rules (i - 1) no-rule ∷ drop i rules = drop-cons rules (i - 1) no-rule (omega arith) ∙ rw j in
       q ∙ rw (e, d) (limits-more _ _ k)
 
   pub limits-end : (k : List ℕ) (l : Limits) (i : ℕ) → l ≡ limitsOf (rulesMean (drop i rules)) k → i ≤ 0 → l ≡ limitsOf (rulesMean rules) k

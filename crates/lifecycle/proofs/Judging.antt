@@ -26,7 +26,7 @@ use Rattle.table.specs.declared.Numbers.{Numbers}
 use Rattle.table.proofs.Held.{rows-length, row-at}
 use Rattle.lifecycle.specs.declared.Limits.{Limits}
 use Rattle.lifecycle.specs.declared.Judged.{Judged}
-use Rattle.lifecycle.specs.Days.{least, limitsOf, over, fewDays}
+use Rattle.lifecycle.specs.Days.{least, limitsOf, over}
 use Rattle.lifecycle.specs.Fates.{fateOf, fatesIn, fates, total}
 use Rattle.lifecycle.specs.Judging.{currentBy, noncurrentBy, rowBefore, sameKey, Known, Keys, Judgeable, JudgedRow, JudgedRows}
 use Rattle.lifecycle.proofs.Days.{due-least, current-most, noncurrent-most}
