@@ -1,0 +1,148 @@
+-- The least days decide: an action is due by some rule's days where it is by the least that the rules set.
+use Prim.Native.Nat.{ℕ, suc, _-_, _≤_, _<_}
+use mathlib.Core.Path.{_≡_, refl, sym, ap, ap₂, _∙_}
+use mathlib.Core.Logic.{inl, inr}
+use mathlib.Core.Bool.{Bool, true, false, not, _&&_, _||_}
+use mathlib.Core.List.{List, [], _∷_}
+use native.Mathlib.Omega.{arith}
+use lib.Dec.{eqb, leb, ltb}
+use lib.ListN.{length, getD, take, drop, length-take}
+use lib.Seq.{drop-cons, drop-length}
+use borrow.Author.Tests.{ltb-true, ltb-false, leb-true, le-leb}
+use Rattle.buffers.specs.Lists.{all, begins}
+use Rattle.buffers.proofs.Tests.{either, clash, and-l, and-r}
+use Rattle.buffers.proofs.Lists.{same-path, all-as, all-keep}
+use Rattle.calendar.specs.Periods.{expiresAt}
+use Rattle.blocks.specs.Blocks.{blockOf, keyIn, isBlock}
+use Rattle.model.specs.Settings as model
+use Rattle.model.specs.Settings.{isSet}
+use Rattle.model.specs.Sweep.{applying, due}
+use Rattle.table.proofs.Lists.{all-at}
+use Rattle.settings.specs.declared.Rule.{Rule}
+use Rattle.settings.proofs.Encoding.{no-rule}
+use Rattle.settings.specs.Meaning.{ruleMeans, rulesMean, prefixesAre}
+use Rattle.lifecycle.specs.declared.Limits.{Limits}
+use Rattle.lifecycle.specs.Days.{lesser, least, limitsOf, tightened, over, fewDays}
+
+-- ## Days that are over
+
+or-first : (a b : Bool) → (b ≡ true → a ≡ true) → a || b ≡ a
+or-first true b h = refl
+or-first false true h = sym (h refl)
+or-first false false h = refl
+
+or-second : (a b : Bool) → (a ≡ true → b ≡ true) → a || b ≡ b
+or-second true b h = sym (h refl)
+or-second false b h = refl
+
+module _ (s t : ℕ) where
+  over-none : (d : ℕ) → eqb d 0 ≡ true → over d s t ≡ false
+  unfolding over
+  over-none d e = rw e
+
+  over-some : (d : ℕ) → not (eqb d 0) && leb (expiresAt s d) t ≡ over d s t
+  unfolding over
+  over-some d = elim (either (eqb d 0)) [ inl e ↦ rw e | inr e ↦ rw e ]
+
+  -- Fewer days are over no later.
+  over-fewer : (a b : ℕ) → eqb a 0 ≡ false → a ≤ b → over b s t ≡ true → over a s t ≡ true
+  unfolding over expiresAt
+  over-fewer a b h k e =
+      let g : expiresAt s b ≤ t = leb-true _ _ (and-r (not (eqb b 0)) _ (over-some b ∙ e)) in
+      rw h (le-leb (expiresAt s a) t (omega arith))
+
+  over-lesser : (a b : ℕ) → over a s t || over b s t ≡ over (lesser a b) s t
+  unfolding lesser
+  over-lesser a b =
+      elim (either (eqb a 0)) [
+        | inl e ↦ rw e (or-second (over a s t) _ (λ h. absurd (clash _ h (over-none a e))))
+        | inr e ↦ elim (either (eqb b 0)) [
+          | inl f ↦ simp (e, f) (or-first _ (over b s t) (λ h. absurd (clash _ h (over-none b f))))
+          | inr f ↦ elim (either (ltb a b)) [
+            | inl g ↦ simp (e, f, g) (or-first _ _ (over-fewer a b e (omega (arith, ltb-true a b g))))
+            | inr g ↦ simp (e, f, g) (or-second _ _ (over-fewer b a f (ltb-false a b g)))
+          ]
+        ]
+      ]
+
+  pub due-least : (days : model.Rule → ℕ) (us : List model.Rule) → due days us t s ≡ over (least days us) s t
+  due-least days [] = sym (over-none 0 refl)
+  due-least days (u ∷ us) = ap₂ (λ (a b : Bool). a || b) (over-some (days u)) (due-least days us) ∙ over-lesser (days u) (least days us)
+
+pub over-last : (s t d r : ℕ) → r ≡ expiresAt s d → leb r t ≡ leb (expiresAt s d) t
+over-last s t d r e = rw e
+
+-- ## The limits of a key
+
+pub limits-both : (a b c d : ℕ) → a ≡ c → b ≡ d → _≡_ {A = Limits} (record { current = a; noncurrent = b }) (record { current = c; noncurrent = d })
+limits-both a b c d e f = rw (e, f)
+
+limits-more : (u : model.Rule) (us : List model.Rule) (k : List ℕ) → tightened u k (limitsOf us k) ≡ limitsOf (u ∷ us) k
+unfolding tightened limitsOf
+limits-more u us k =
+    elim (either (isSet u)) [
+      | inl e ↦ elim (either (begins (u .prefix) k)) [ inl f ↦ simp (e, f) | inr f ↦ simp (e, f) ]
+      | inr e ↦ simp e
+    ]
+
+lesser-most : (a b m : ℕ) → a ≤ m → b ≤ m → lesser a b ≤ m
+unfolding lesser
+lesser-most a b m h k =
+    elim (either (eqb a 0)) [
+      | inl e ↦ rw e k
+      | inr e ↦ elim (either (eqb b 0)) [
+        | inl f ↦ simp (e, f) h
+        | inr f ↦ elim (either (ltb a b)) [ inl g ↦ simp (e, f, g) h | inr g ↦ simp (e, f, g) k ]
+      ]
+    ]
+
+least-most : (days : model.Rule → ℕ) (m : ℕ) (us : List model.Rule) → all (λ u. leb (days u) m) us ≡ true → least days us ≤ m
+least-most days m [] e = omega arith
+least-most days m (u ∷ us) e =
+    lesser-most (days u) (least days us) m (leb-true _ _ (and-l _ _ e)) (least-most days m us (and-r (leb (days u) m) _ e))
+
+module _ (us : List model.Rule) (k : List ℕ) (l : Limits) (h : all fewDays us ≡ true) (e : l ≡ limitsOf us k) where
+  pub current-most : l .current ≤ 36500
+  unfolding limitsOf
+  current-most =
+      rw e (least-most (λ u. u .currentDays) 36500 (applying us k)
+      (all-as fewDays _ (λ u f. and-l _ _ f) (applying us k) (all-keep fewDays _ us h)))
+
+  pub noncurrent-most : l .noncurrent ≤ 36500
+  unfolding limitsOf
+  noncurrent-most =
+      rw e (least-most (λ u. u .noncurrentDays) 36500 (applying us k)
+      (all-as fewDays _ (λ u f. and-r (leb (u .currentDays) 36500) _ f) (applying us k) (all-keep fewDays _ us h)))
+
+-- ## The rules from the last to the first
+
+-- a block's first byte is a length that fits
+pub block-short : (b : List ℕ) → isBlock b ≡ true → getD b 0 0 ≤ 63
+unfolding isBlock blockOf
+block-short b e =
+    let q : b ≡ blockOf (keyIn b) = same-path _ _ e in
+    let f : getD b 0 0 ≡ length (take 63 (keyIn b)) = ap (λ (l : List ℕ). getD l 0 0) q in
+    omega (arith, length-take 63 (keyIn b))
+
+pub begins-in : (p q k : List ℕ) (r : Bool) → r ≡ begins p k → p ≡ q → r ≡ begins q k
+begins-in p q k r e f = cc
+
+module _ (rules : List Rule) (long : length rules ≡ 8) where
+  pub prefix-at : (i : ℕ) → prefixesAre rules ≡ true → 0 < i → i ≤ 8 → isBlock (getD rules (i - 1) no-rule .prefix) ≡ true
+  prefix-at i e h k = all-at (λ u. isBlock (u .prefix)) rules (i - 1) no-rule (omega arith) e
+
+  pub limits-start : (k : List ℕ) → record { current = 0; noncurrent = 0 } ≡ limitsOf (rulesMean (drop 8 rules)) k
+  unfolding limitsOf
+  limits-start k = rw (ap (λ (n : ℕ). drop n rules) (sym long) ∙ drop-length rules)
+
+  pub limits-step : (k : List ℕ) (l r : Limits) (i : ℕ) → l ≡ limitsOf (rulesMean (drop i rules)) k → 0 < i → i ≤ 8
+      → r ≡ tightened (ruleMeans (getD rules (i - 1) no-rule)) k l → r ≡ limitsOf (rulesMean (drop (i - 1) rules)) k
+  limits-step k l r i e h g q =
+      let j : suc (i - 1) ≡ i = omega arith in
+      let d : drop (i - 1) rules ≡ getD rules (i - 1) no-rule ∷ drop i rules = drop-cons rules (i - 1) no-rule (omega arith) ∙ rw j in
+      q ∙ rw (e, d) (limits-more _ _ k)
+
+  pub limits-end : (k : List ℕ) (l : Limits) (i : ℕ) → l ≡ limitsOf (rulesMean (drop i rules)) k → i ≤ 0 → l ≡ limitsOf (rulesMean rules) k
+  limits-end k l i e h = let j : i ≡ 0 = omega arith in e ∙ rw j
+
+pub ruleset limits-cases = (prefix-at, limits-start, limits-step, limits-end)

@@ -1,0 +1,13 @@
+-- `is_locked` meets its contract.
+use mathlib.Core.Path.{refl}
+use Rattle.model.specs.Locks.{locked}
+use borrow.Author.Needs.{needs}
+use Rattle.lifecycle.proofs.is_locked.Statement.{statement}
+use Rattle.lifecycle.proofs.is_locked.Tie as tie
+
+pub is-locked-spec : {M : Type 1} → statement M
+unfolding locked
+is-locked-spec =
+    tie.close
+    (tie.spec
+    (λ c k. refl))

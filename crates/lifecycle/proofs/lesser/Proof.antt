@@ -1,0 +1,15 @@
+-- `lesser` meets its contract.
+use Rattle.buffers.proofs.Choices.{picks}
+use Rattle.lifecycle.specs.Days.{lesser}
+use borrow.Author.Needs.{needs}
+use Rattle.lifecycle.proofs.lesser.Statement.{statement}
+use Rattle.lifecycle.proofs.lesser.Tie as tie
+
+pub lesser-spec : {M : Type 1} → statement M
+unfolding lesser
+lesser-spec = tie.close
+    (tie.spec
+    (λ c. search (needs, picks))
+    (λ c. search (needs, picks))
+    (λ c. search (needs, picks))
+    (λ c. search (needs, picks)))

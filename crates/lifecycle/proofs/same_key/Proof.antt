@@ -1,0 +1,19 @@
+-- `same_key` meets its contract.
+use Rattle.buffers.proofs.Choices.{picks}
+use Rattle.lifecycle.proofs.Judging.{same-at}
+use Rattle.lifecycle.specs.Judging.{sameKey}
+use borrow.Author.Needs.{needs}
+use Rattle.lifecycle.proofs.same_key.Statement.{statement}
+use Rattle.lifecycle.proofs.same_key.Tie as tie
+
+pub same-key-spec : {M : Type 1} → statement M
+unfolding sameKey
+same-key-spec =
+    tie.close
+    (tie.spec
+    (λ c. search (needs, picks))
+    (λ c. search needs)
+    (λ c κs. search needs)
+    (λ c κs. search needs)
+    (λ c κs. search needs)
+    (λ c. search (needs, picks, same-at)))

@@ -1,0 +1,20 @@
+-- `tighten` meets its contract.
+use Rattle.buffers.proofs.Choices.{picks}
+use Rattle.lifecycle.proofs.Days.{limits-both}
+use Rattle.lifecycle.specs.Days.{tightened}
+use borrow.Author.Needs.{needs}
+use Rattle.lifecycle.proofs.tighten.Statement.{statement}
+use Rattle.lifecycle.proofs.tighten.Tie as tie
+
+pub tighten-spec : {M : Type 1} → statement M
+unfolding tightened
+tighten-spec =
+    tie.close
+    (tie.spec
+    (λ c κs. search needs)
+    (λ c κs. search needs)
+    (λ c κs. search needs)
+    (λ c κs. search needs)
+    (λ c. search (needs, picks, limits-both))
+    (λ c. search (needs, picks))
+    (λ c. search (needs, picks)))
