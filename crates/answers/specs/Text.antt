@@ -12,7 +12,7 @@ use Rattle.model.specs.Requests.{Version, numbered}
 use Rattle.model.specs.Answers.{Answer, done, made, marked, removed, removedMarker, sweptCounts, shown}
 
 -- `ok`, the fields each behind a tab, and a line feed
-abbrev pub okText : List (List ℕ) → List ℕ
+unfoldable pub okText : List (List ℕ) → List ℕ
 okText fs = bytes "ok" ++ (tabbed fs ++ 10 ∷ [])
 
 abbrev pub versionText : Version → List ℕ

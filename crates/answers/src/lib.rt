@@ -1,4 +1,13 @@
 // The answers to accepted lines, written at the start of the answer buffer. The definitions are in specs/.
+ghost use Prim.Native.Nat.{_+_, _≤_};
+ghost use lib.ListN.{length};
+ghost use mathlib.Core.List.{[], _∷_};
+ghost use Rattle.buffers.specs.Writes.{Wrote};
+ghost use Rattle.text.specs.Printing.{digits};
+ghost use Rattle.calendar.specs.Calendar.{latest};
+ghost use Rattle.calendar.specs.Printing.{printDate};
+ghost use Rattle.answers.specs.Text.{okText, modeText, untilText, holdText, rowFields};
+ghost use Rattle.answers.specs.Meaning.{rowShown, textOf, Printable};
 
 // What GET shows of a row.
 pub struct Shown {
@@ -18,4 +27,134 @@ pub enum Answer {
     RemovedMarker(u64),
     Swept(u64, u64),
     Got(Shown),
+}
+
+// A tab and a number.
+fn put_number(out: &mut [u8], at: usize, n: u64) -> usize
+    requires { ⌜ at + 21 ≤ length (now out) ⌝ }
+    ensures { λ r. ⌜ Wrote (now (out .entry)) at (9 ∷ digits n) 21 (now (out .exit)) r ⌝ }
+{
+    let next = buffers::copy_in(out, at, b"\t");
+    text::print_number(out, next, n)
+}
+
+// A tab and a word.
+fn put_word(out: &mut [u8], at: usize, word: &[u8]) -> usize
+    requires { ⌜ at + (1 + length (now word)) ≤ length (now out) ⌝ }
+    ensures { λ r. ⌜ Wrote (now (out .entry)) at (9 ∷ now (word .entry)) (1 + length (now (word .entry))) (now (out .exit)) r ⌝ }
+{
+    let next = buffers::copy_in(out, at, b"\t");
+    buffers::copy_in(out, next, word)
+}
+
+// A tab and a date.
+fn put_date(out: &mut [u8], at: usize, instant: u64) -> usize
+    requires { ⌜ (at + 25 ≤ length (now out)) × (instant ≤ latest) ⌝ }
+    ensures { λ r. ⌜ Wrote (now (out .entry)) at (9 ∷ printDate instant) 25 (now (out .exit)) r ⌝ }
+{
+    let next = buffers::copy_in(out, at, b"\t");
+    calendar::print_date(out, next, instant)
+}
+
+// A tab and a row's mode.
+fn put_mode(out: &mut [u8], at: usize, mode: u64) -> usize
+    requires { ⌜ at + 11 ≤ length (now out) ⌝ }
+    ensures { λ r. ⌜ Wrote (now (out .entry)) at (9 ∷ modeText mode) 11 (now (out .exit)) r ⌝ }
+{
+    if mode == 0 {
+        return put_word(out, at, b"-");
+    }
+    if mode == 1 {
+        return put_word(out, at, b"GOVERNANCE");
+    }
+    put_word(out, at, b"COMPLIANCE")
+}
+
+// A tab and a row's retain-until date.
+fn put_until(out: &mut [u8], at: usize, mode: u64, until: u64) -> usize
+    requires { ⌜ (at + 25 ≤ length (now out)) × (until ≤ latest) ⌝ }
+    ensures { λ r. ⌜ Wrote (now (out .entry)) at (9 ∷ untilText mode until) 25 (now (out .exit)) r ⌝ }
+{
+    if mode == 0 {
+        return put_word(out, at, b"-");
+    }
+    put_date(out, at, until)
+}
+
+// A tab and a row's hold.
+fn put_hold(out: &mut [u8], at: usize, hold: u64) -> usize
+    requires { ⌜ at + 4 ≤ length (now out) ⌝ }
+    ensures { λ r. ⌜ Wrote (now (out .entry)) at (9 ∷ holdText hold) 4 (now (out .exit)) r ⌝ }
+{
+    if hold == 0 {
+        return put_word(out, at, b"OFF");
+    }
+    put_word(out, at, b"ON")
+}
+
+fn write_done(out: &mut [u8]) -> usize
+    requires { ⌜ 256 ≤ length (now out) ⌝ }
+    ensures { λ r. ⌜ Wrote (now (out .entry)) 0 (okText []) 256 (now (out .exit)) r ⌝ }
+{
+    let ok = buffers::copy_in(out, 0, b"ok");
+    buffers::copy_in(out, ok, b"\n")
+}
+
+fn write_number(out: &mut [u8], n: u64) -> usize
+    requires { ⌜ 256 ≤ length (now out) ⌝ }
+    ensures { λ r. ⌜ Wrote (now (out .entry)) 0 (okText (digits n ∷ [])) 256 (now (out .exit)) r ⌝ }
+{
+    let ok = buffers::copy_in(out, 0, b"ok");
+    let end = put_number(out, ok, n);
+    buffers::copy_in(out, end, b"\n")
+}
+
+fn write_word(out: &mut [u8], n: u64, word: &[u8]) -> usize
+    requires { ⌜ (256 ≤ length (now out)) × (length (now word) ≤ 20) ⌝ }
+    ensures { λ r. ⌜ Wrote (now (out .entry)) 0 (okText (digits n ∷ now (word .entry) ∷ [])) 256 (now (out .exit)) r ⌝ }
+{
+    let ok = buffers::copy_in(out, 0, b"ok");
+    let next = put_number(out, ok, n);
+    let end = put_word(out, next, word);
+    buffers::copy_in(out, end, b"\n")
+}
+
+fn write_counts(out: &mut [u8], gone: u64, new: u64) -> usize
+    requires { ⌜ 256 ≤ length (now out) ⌝ }
+    ensures { λ r. ⌜ Wrote (now (out .entry)) 0 (okText (digits gone ∷ digits new ∷ [])) 256 (now (out .exit)) r ⌝ }
+{
+    let ok = buffers::copy_in(out, 0, b"ok");
+    let next = put_number(out, ok, gone);
+    let end = put_number(out, next, new);
+    buffers::copy_in(out, end, b"\n")
+}
+
+fn write_row(out: &mut [u8], x: Shown) -> usize
+    requires { ⌜ (256 ≤ length (now out)) × (x .until ≤ latest) ⌝ }
+    ensures { λ r. ⌜ Wrote (now (out .entry)) 0 (okText (rowFields (rowShown x))) 256 (now (out .exit)) r ⌝ }
+{
+    let ok = buffers::copy_in(out, 0, b"ok");
+    let version = put_number(out, ok, x.version);
+    let body = put_number(out, version, x.body);
+    let size = put_number(out, body, x.size);
+    let mode = put_mode(out, size, x.mode);
+    let until = put_until(out, mode, x.mode, x.until);
+    let hold = put_hold(out, until, x.hold);
+    buffers::copy_in(out, hold, b"\n")
+}
+
+// Writes the text of an accepted line's answer at the buffer's start, and returns its length.
+pub fn write_answer(out: &mut [u8], answer: Answer) -> usize
+    requires { ⌜ (256 ≤ length (now out)) × Printable answer ⌝ }
+    ensures { λ r. ⌜ Wrote (now (out .entry)) 0 (textOf answer) 256 (now (out .exit)) r ⌝ }
+{
+    match answer {
+        Answer::Done => write_done(out),
+        Answer::Made(n) => write_number(out, n),
+        Answer::Marked(n) => write_word(out, n, b"marker"),
+        Answer::Removed(n) => write_word(out, n, b"removed"),
+        Answer::RemovedMarker(n) => write_word(out, n, b"removed-marker"),
+        Answer::Swept(gone, new) => write_counts(out, gone, new),
+        Answer::Got(x) => write_row(out, x),
+    }
 }

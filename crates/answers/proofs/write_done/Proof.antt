@@ -1,0 +1,15 @@
+use Rattle.answers.proofs.Writing.{line-cases}
+use borrow.Author.Needs.{needs}
+use Rattle.answers.proofs.write_done.Statement.{statement}
+use Rattle.answers.proofs.write_done.Tie as tie
+
+pub write-done-spec : {M : Type 1} → statement M
+write-done-spec =
+    tie.close
+    (tie.spec
+    (λ c. search needs)
+    (λ c κs. search needs)
+    (λ c. search needs)
+    (λ c κs. search needs)
+    (λ c. search needs)
+    (λ c. search (needs, line-cases) depth 16))
