@@ -1,6 +1,6 @@
 -- Laws of writing an answer: a field behind its tab, and the line field by field.
-use Prim.Native.Nat.{ℕ, _+_, _≤_}
-use mathlib.Core.Path.{_≡_, refl, ap, _∙_}
+use Prim.Native.Nat.{ℕ, _+_, _*_, _≤_}
+use mathlib.Core.Path.{_≡_}
 use mathlib.Core.List.{List, [], _∷_, _++_, append-assoc}
 use native.Mathlib.Omega.{arith}
 use lib.ListN.{length}
@@ -12,50 +12,75 @@ use Rattle.calendar.specs.Calendar.{latest}
 use Rattle.answers.specs.declared.Shown.{Shown}
 use Rattle.answers.specs.declared.Answer.{Answer}
 use Rattle.answers.specs.declared.Answer.the-variants.{Got}
-use Rattle.answers.specs.Text.{okText}
+use Rattle.answers.specs.Text.{fieldsText, okText}
 use Rattle.answers.specs.Meaning.{textOf, Printable}
 
--- The same text, and a wider bound.
-wider : (out : List ℕ) (a : ℕ) (vs ws : List ℕ) (k j : ℕ) (exit : List ℕ) (r : ℕ) → Wrote out a vs k exit r → vs ≡ ws → k ≤ j → Wrote out a ws j exit r
-wider out a vs ws k j exit r w e h =
-    record { next = w .next ∙ rw e; holds = w .holds ∙ rw e; long = w .long; most = let q = w .most in omega arith }
+-- A wider bound.
+wider : {out : List ℕ} {a : ℕ} {vs : List ℕ} {k j : ℕ} {exit : List ℕ} {r : ℕ} → Wrote out a vs k exit r → k ≤ j → Wrote out a vs j exit r
+wider w h = record { next = w .next; holds = w .holds; long = w .long; most = let q = w .most in omega arith }
 
--- ## A field
+-- ## A field: with its tab at most 25 bytes
 
-pub tab-then : (out : List ℕ) (a k : ℕ) (m : List ℕ) (r : ℕ) (f : List ℕ) (j n : ℕ) (exit : List ℕ) (q : ℕ)
-    → Wrote out a (9 ∷ []) k m r → Wrote m r f j exit q → a + n ≤ length out → k + j ≤ n → Wrote out a (9 ∷ f) n exit q
-tab-then out a k m r f j n exit q x y h l =
-    wider out a (9 ∷ f) (9 ∷ f) (k + j) n exit q (wrote-both out a (9 ∷ []) k m r f j exit q (omega arith) x y) refl l
+pub tab-then : (out : List ℕ) (a : ℕ) (m : List ℕ) (r : ℕ) (f : List ℕ) (j : ℕ) (exit : List ℕ) (q : ℕ)
+    → Wrote out a (9 ∷ []) 1 m r → Wrote m r f j exit q → a + 25 ≤ length out → j ≤ 24 → Wrote out a (9 ∷ f) 25 exit q
+tab-then out a m r f j exit q x y h n = wider (wrote-both out a (9 ∷ []) 1 m r f j exit q (omega arith) x y) (omega arith)
 
-pub field-as : (out : List ℕ) (a : ℕ) (f g : List ℕ) (k j : ℕ) (exit : List ℕ) (r : ℕ) → Wrote out a (9 ∷ f) k exit r → f ≡ g → k ≤ j → Wrote out a (9 ∷ g) j exit r
-field-as out a f g k j exit r w e h = wider out a (9 ∷ f) (9 ∷ g) k j exit r w (ap (λ (l : List ℕ). 9 ∷ l) e) h
+pub field-as : (out : List ℕ) (a : ℕ) (f g : List ℕ) (exit : List ℕ) (r : ℕ) → Wrote out a (9 ∷ f) 25 exit r → f ≡ g → Wrote out a (9 ∷ g) 25 exit r
+field-as out a f g exit r w e = rw e at w
 
 -- ## A line
 
 -- Where there is room, the fields and the line feed were written.
-pub record Ends (out : List ℕ) (a : ℕ) (fs : List (List ℕ)) (k : ℕ) (exit : List ℕ) (r : ℕ) : Type 0 where
-  pub wrote : a + k ≤ length out → Wrote out a (tabbed fs ++ 10 ∷ []) k exit r
+record Ends (out : List ℕ) (a : ℕ) (fs : List (List ℕ)) (exit : List ℕ) (r : ℕ) : Type 0 where
+  wrote : a + (length fs * 25 + 1) ≤ length out → Wrote out a (fieldsText fs) (length fs * 25 + 1) exit r
 
-pub feed-last : (out : List ℕ) (a k : ℕ) (exit : List ℕ) (r : ℕ) → Wrote out a (10 ∷ []) k exit r → Ends out a [] k exit r
-feed-last out a k exit r w = record { wrote = λ h. w }
+feed-last : {out : List ℕ} {a : ℕ} {exit : List ℕ} {r : ℕ} → Wrote out a (10 ∷ []) 1 exit r → Ends out a [] exit r
+unfolding fieldsText
+feed-last w = record { wrote = λ h. w }
 
-pub field-then : (out : List ℕ) (a : ℕ) (f : List ℕ) (k : ℕ) (m : List ℕ) (r : ℕ) (fs : List (List ℕ)) (j : ℕ) (exit : List ℕ) (q : ℕ)
-    → Wrote out a (9 ∷ f) k m r → Ends m r fs j exit q → Ends out a (f ∷ fs) (k + j) exit q
-field-then out a f k m r fs j exit q x y =
+field-then : {out : List ℕ} {a : ℕ} {f m : List ℕ} {r : ℕ} {fs : List (List ℕ)} {exit : List ℕ} {q : ℕ}
+    → Wrote out a (9 ∷ f) 25 m r → Ends m r fs exit q → Ends out a (f ∷ fs) exit q
+unfolding fieldsText
+field-then {out} {a} {f} {m} {r} {fs} {exit} {q} x y =
     record {
       wrote = λ h.
-        let room : r + j ≤ length m = omega (arith, x .long, x .most) in
-        rw append-assoc (wrote-both out a (9 ∷ f) k m r (tabbed fs ++ 10 ∷ []) j exit q (omega arith) x (y .wrote room));
+        let k : ℕ = length fs * 25 + 1 in
+        let room : r + k ≤ length m = omega (arith, x .long, x .most) in
+        rw append-assoc (wider (wrote-both out a (9 ∷ f) 25 m r (fieldsText fs) k exit q (omega arith) x (y .wrote room)) (omega arith));
     }
 
-pub ok-then : (out : List ℕ) (k : ℕ) (m : List ℕ) (r : ℕ) (fs : List (List ℕ)) (j n : ℕ) (exit : List ℕ) (q : ℕ)
-    → Wrote out 0 (bytes "ok") k m r → Ends m r fs j exit q → n ≤ length out → k + j ≤ n → Wrote out 0 (okText fs) n exit q
+ok-then : {out m : List ℕ} {r : ℕ} {fs : List (List ℕ)} {exit : List ℕ} {q : ℕ}
+    → Wrote out 0 (bytes "ok") 2 m r → Ends m r fs exit q → 256 ≤ length out → length fs ≤ 6 → Wrote out 0 (okText fs) 256 exit q
 unfolding okText
-ok-then out k m r fs j n exit q x y h l =
+ok-then {out} {m} {r} {fs} {exit} {q} x y h n =
+    let j : ℕ = length fs * 25 + 1 in
     let room : r + j ≤ length m = omega (arith, x .long, x .most) in
-    wider out 0 (okText fs) (okText fs) (k + j) n exit q (wrote-both out 0 (bytes "ok") k m r (tabbed fs ++ 10 ∷ []) j exit q (omega arith) x (y .wrote room)) refl l
+    wider (wrote-both out 0 (bytes "ok") 2 m r (fieldsText fs) j exit q (omega arith) x (y .wrote room)) (omega arith)
 
-pub ruleset line-cases = (ok-then, field-then, feed-last)
+module _ (out exit : List ℕ) (r : ℕ) (m₁ : List ℕ) (r₁ : ℕ) where
+  pub no-field : 256 ≤ length out → Wrote out 0 (bytes "ok") 2 m₁ r₁ → Wrote m₁ r₁ (10 ∷ []) 1 exit r → Wrote out 0 (okText []) 256 exit r
+  no-field h ok x = ok-then ok (feed-last x) h (omega arith)
+
+  module _ (f m₂ : List ℕ) (r₂ : ℕ) where
+    pub one-field : 256 ≤ length out → Wrote out 0 (bytes "ok") 2 m₁ r₁ → Wrote m₁ r₁ (9 ∷ f) 25 m₂ r₂ → Wrote m₂ r₂ (10 ∷ []) 1 exit r
+        → Wrote out 0 (okText (f ∷ [])) 256 exit r
+    one-field h ok x y = ok-then ok (field-then x (feed-last y)) h (omega arith)
+
+    module _ (g m₃ : List ℕ) (r₃ : ℕ) where
+      pub two-fields : 256 ≤ length out → Wrote out 0 (bytes "ok") 2 m₁ r₁ → Wrote m₁ r₁ (9 ∷ f) 25 m₂ r₂ → Wrote m₂ r₂ (9 ∷ g) 25 m₃ r₃
+          → Wrote m₃ r₃ (10 ∷ []) 1 exit r → Wrote out 0 (okText (f ∷ g ∷ [])) 256 exit r
+      two-fields h ok x y z = ok-then ok (field-then x (field-then y (feed-last z))) h (omega arith)
+
+      pub three-last : (k : List ℕ) (a : ℕ) → a + 76 ≤ length out → Wrote out a (9 ∷ f) 25 m₁ r₁ → Wrote m₁ r₁ (9 ∷ g) 25 m₂ r₂ → Wrote m₂ r₂ (9 ∷ k) 25 m₃ r₃
+          → Wrote m₃ r₃ (10 ∷ []) 1 exit r → Wrote out a (fieldsText (f ∷ g ∷ k ∷ [])) 76 exit r
+      three-last k a h x y z w = field-then x (field-then y (field-then z (feed-last w))) .wrote h
+
+      pub six-fields : (k u v w m₄ : List ℕ) (r₄ : ℕ) → 256 ≤ length out → Wrote out 0 (bytes "ok") 2 m₁ r₁ → Wrote m₁ r₁ (9 ∷ f) 25 m₂ r₂
+          → Wrote m₂ r₂ (9 ∷ g) 25 m₃ r₃ → Wrote m₃ r₃ (9 ∷ k) 25 m₄ r₄ → Wrote m₄ r₄ (fieldsText (u ∷ v ∷ w ∷ [])) 76 exit r
+          → Wrote out 0 (okText (f ∷ g ∷ k ∷ u ∷ v ∷ w ∷ [])) 256 exit r
+      six-fields k u v w m₄ r₄ h ok x y z t = ok-then ok (field-then x (field-then y (field-then z (record { wrote = λ room. t })))) h (omega arith)
+
+pub ruleset line-cases = (no-field, one-field, two-fields, three-last, six-fields)
 
 -- ## An answer
 

@@ -11,9 +11,13 @@ use Rattle.model.specs.Rows.{Row, governance}
 use Rattle.model.specs.Requests.{Version, numbered}
 use Rattle.model.specs.Answers.{Answer, done, made, marked, removed, removedMarker, sweptCounts, shown}
 
--- `ok`, the fields each behind a tab, and a line feed
+-- the fields each behind a tab, and a line feed
+unfoldable pub fieldsText : List (List ℕ) → List ℕ
+fieldsText fs = tabbed fs ++ 10 ∷ []
+
+-- `ok` and the fields
 unfoldable pub okText : List (List ℕ) → List ℕ
-okText fs = bytes "ok" ++ (tabbed fs ++ 10 ∷ [])
+okText fs = bytes "ok" ++ fieldsText fs
 
 abbrev pub versionText : Version → List ℕ
 versionText (numbered n) = digits n

@@ -6,7 +6,7 @@ ghost use Rattle.buffers.specs.Writes.{Wrote};
 ghost use Rattle.text.specs.Printing.{digits};
 ghost use Rattle.calendar.specs.Calendar.{latest};
 ghost use Rattle.calendar.specs.Printing.{printDate};
-ghost use Rattle.answers.specs.Text.{okText, modeText, untilText, holdText, rowFields};
+ghost use Rattle.answers.specs.Text.{fieldsText, okText, modeText, untilText, holdText, rowFields};
 ghost use Rattle.answers.specs.Meaning.{rowShown, textOf, Printable};
 
 // What GET shows of a row.
@@ -31,8 +31,8 @@ pub enum Answer {
 
 // A tab and a number.
 fn put_number(out: &mut [u8], at: usize, n: u64) -> usize
-    requires { ⌜ at + 21 ≤ length (now out) ⌝ }
-    ensures { λ r. ⌜ Wrote (now (out .entry)) at (9 ∷ digits n) 21 (now (out .exit)) r ⌝ }
+    requires { ⌜ at + 25 ≤ length (now out) ⌝ }
+    ensures { λ r. ⌜ Wrote (now (out .entry)) at (9 ∷ digits n) 25 (now (out .exit)) r ⌝ }
 {
     let next = buffers::copy_in(out, at, b"\t");
     text::print_number(out, next, n)
@@ -40,8 +40,8 @@ fn put_number(out: &mut [u8], at: usize, n: u64) -> usize
 
 // A tab and a word.
 fn put_word(out: &mut [u8], at: usize, word: &[u8]) -> usize
-    requires { ⌜ at + (1 + length (now word)) ≤ length (now out) ⌝ }
-    ensures { λ r. ⌜ Wrote (now (out .entry)) at (9 ∷ now (word .entry)) (1 + length (now (word .entry))) (now (out .exit)) r ⌝ }
+    requires { ⌜ (at + 25 ≤ length (now out)) × (length (now word) ≤ 24) ⌝ }
+    ensures { λ r. ⌜ Wrote (now (out .entry)) at (9 ∷ now (word .entry)) 25 (now (out .exit)) r ⌝ }
 {
     let next = buffers::copy_in(out, at, b"\t");
     buffers::copy_in(out, next, word)
@@ -58,8 +58,8 @@ fn put_date(out: &mut [u8], at: usize, instant: u64) -> usize
 
 // A tab and a row's mode.
 fn put_mode(out: &mut [u8], at: usize, mode: u64) -> usize
-    requires { ⌜ at + 11 ≤ length (now out) ⌝ }
-    ensures { λ r. ⌜ Wrote (now (out .entry)) at (9 ∷ modeText mode) 11 (now (out .exit)) r ⌝ }
+    requires { ⌜ at + 25 ≤ length (now out) ⌝ }
+    ensures { λ r. ⌜ Wrote (now (out .entry)) at (9 ∷ modeText mode) 25 (now (out .exit)) r ⌝ }
 {
     if mode == 0 {
         return put_word(out, at, b"-");
@@ -83,13 +83,24 @@ fn put_until(out: &mut [u8], at: usize, mode: u64, until: u64) -> usize
 
 // A tab and a row's hold.
 fn put_hold(out: &mut [u8], at: usize, hold: u64) -> usize
-    requires { ⌜ at + 4 ≤ length (now out) ⌝ }
-    ensures { λ r. ⌜ Wrote (now (out .entry)) at (9 ∷ holdText hold) 4 (now (out .exit)) r ⌝ }
+    requires { ⌜ at + 25 ≤ length (now out) ⌝ }
+    ensures { λ r. ⌜ Wrote (now (out .entry)) at (9 ∷ holdText hold) 25 (now (out .exit)) r ⌝ }
 {
     if hold == 0 {
         return put_word(out, at, b"OFF");
     }
     put_word(out, at, b"ON")
+}
+
+// The fields that tell a row's lock, and the line feed.
+fn put_lock(out: &mut [u8], at: usize, mode: u64, until: u64, hold: u64) -> usize
+    requires { ⌜ (at + 76 ≤ length (now out)) × (until ≤ latest) ⌝ }
+    ensures { λ r. ⌜ Wrote (now (out .entry)) at (fieldsText (modeText mode ∷ untilText mode until ∷ holdText hold ∷ [])) 76 (now (out .exit)) r ⌝ }
+{
+    let date = put_mode(out, at, mode);
+    let word = put_until(out, date, mode, until);
+    let end = put_hold(out, word, hold);
+    buffers::copy_in(out, end, b"\n")
 }
 
 fn write_done(out: &mut [u8]) -> usize
@@ -110,7 +121,7 @@ fn write_number(out: &mut [u8], n: u64) -> usize
 }
 
 fn write_word(out: &mut [u8], n: u64, word: &[u8]) -> usize
-    requires { ⌜ (256 ≤ length (now out)) × (length (now word) ≤ 20) ⌝ }
+    requires { ⌜ (256 ≤ length (now out)) × (length (now word) ≤ 24) ⌝ }
     ensures { λ r. ⌜ Wrote (now (out .entry)) 0 (okText (digits n ∷ now (word .entry) ∷ [])) 256 (now (out .exit)) r ⌝ }
 {
     let ok = buffers::copy_in(out, 0, b"ok");
@@ -134,13 +145,10 @@ fn write_row(out: &mut [u8], x: Shown) -> usize
     ensures { λ r. ⌜ Wrote (now (out .entry)) 0 (okText (rowFields (rowShown x))) 256 (now (out .exit)) r ⌝ }
 {
     let ok = buffers::copy_in(out, 0, b"ok");
-    let version = put_number(out, ok, x.version);
-    let body = put_number(out, version, x.body);
-    let size = put_number(out, body, x.size);
-    let mode = put_mode(out, size, x.mode);
-    let until = put_until(out, mode, x.mode, x.until);
-    let hold = put_hold(out, until, x.hold);
-    buffers::copy_in(out, hold, b"\n")
+    let body = put_number(out, ok, x.version);
+    let size = put_number(out, body, x.body);
+    let lock = put_number(out, size, x.size);
+    put_lock(out, lock, x.mode, x.until, x.hold)
 }
 
 // Writes the text of an accepted line's answer at the buffer's start, and returns its length.

@@ -12,4 +12,4 @@ write-done-spec =
     (λ c. search needs)
     (λ c κs. search needs)
     (λ c. search needs)
-    (λ c. search (needs, line-cases) depth 16))
+    (λ c. search (needs, line-cases)))

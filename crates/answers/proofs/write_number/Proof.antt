@@ -13,4 +13,4 @@ write-number-spec =
     (λ c. search needs)
     (λ c κs. search needs)
     (λ c. search needs)
-    (λ c. search (needs, line-cases) depth 16))
+    (λ c. search (needs, line-cases)))

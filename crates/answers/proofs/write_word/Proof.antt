@@ -14,4 +14,4 @@ write-word-spec =
     (λ c. search needs)
     (λ c κs. search needs)
     (λ c. search needs)
-    (λ c. search (needs, line-cases) depth 16))
+    (λ c. search (needs, line-cases)))
