@@ -57,30 +57,31 @@ ok-then {out} {m} {r} {fs} {exit} {q} x y h n =
     let room : r + j ≤ length m = omega (arith, x .long, x .most) in
     wider (wrote-both out 0 (bytes "ok") 2 m r (fieldsText fs) j exit q (omega arith) x (y .wrote room)) (omega arith)
 
-module _ (out exit : List ℕ) (r : ℕ) (m₁ : List ℕ) (r₁ : ℕ) where
-  pub no-field : 256 ≤ length out → Wrote out 0 (bytes "ok") 2 m₁ r₁ → Wrote m₁ r₁ (10 ∷ []) 1 exit r → Wrote out 0 (okText []) 256 exit r
-  no-field h ok x = ok-then ok (feed-last x) h (omega arith)
+module _ (out m₁ : List ℕ) (r₁ : ℕ) (exit : List ℕ) (r : ℕ) (room : 256 ≤ length out) (ok : Wrote out 0 (bytes "ok") 2 m₁ r₁) where
+  pub no-field : Wrote m₁ r₁ (10 ∷ []) 1 exit r → Wrote out 0 (okText []) 256 exit r
+  no-field x = ok-then ok (feed-last x) room (omega arith)
 
-  module _ (f m₂ : List ℕ) (r₂ : ℕ) where
-    pub one-field : 256 ≤ length out → Wrote out 0 (bytes "ok") 2 m₁ r₁ → Wrote m₁ r₁ (9 ∷ f) 25 m₂ r₂ → Wrote m₂ r₂ (10 ∷ []) 1 exit r
-        → Wrote out 0 (okText (f ∷ [])) 256 exit r
-    one-field h ok x y = ok-then ok (field-then x (feed-last y)) h (omega arith)
+  module _ (f m₂ : List ℕ) (r₂ : ℕ) (x : Wrote m₁ r₁ (9 ∷ f) 25 m₂ r₂) where
+    pub one-field : Wrote m₂ r₂ (10 ∷ []) 1 exit r → Wrote out 0 (okText (f ∷ [])) 256 exit r
+    one-field y = ok-then ok (field-then x (feed-last y)) room (omega arith)
 
-    module _ (g m₃ : List ℕ) (r₃ : ℕ) where
-      pub two-fields : 256 ≤ length out → Wrote out 0 (bytes "ok") 2 m₁ r₁ → Wrote m₁ r₁ (9 ∷ f) 25 m₂ r₂ → Wrote m₂ r₂ (9 ∷ g) 25 m₃ r₃
-          → Wrote m₃ r₃ (10 ∷ []) 1 exit r → Wrote out 0 (okText (f ∷ g ∷ [])) 256 exit r
-      two-fields h ok x y z = ok-then ok (field-then x (field-then y (feed-last z))) h (omega arith)
+    pub two-fields : (g m₃ : List ℕ) (r₃ : ℕ) → Wrote m₂ r₂ (9 ∷ g) 25 m₃ r₃ → Wrote m₃ r₃ (10 ∷ []) 1 exit r → Wrote out 0 (okText (f ∷ g ∷ [])) 256 exit r
+    two-fields g m₃ r₃ y z = ok-then ok (field-then x (field-then y (feed-last z))) room (omega arith)
 
-      pub three-last : (k : List ℕ) (a : ℕ) → a + 76 ≤ length out → Wrote out a (9 ∷ f) 25 m₁ r₁ → Wrote m₁ r₁ (9 ∷ g) 25 m₂ r₂ → Wrote m₂ r₂ (9 ∷ k) 25 m₃ r₃
-          → Wrote m₃ r₃ (10 ∷ []) 1 exit r → Wrote out a (fieldsText (f ∷ g ∷ k ∷ [])) 76 exit r
-      three-last k a h x y z w = field-then x (field-then y (field-then z (feed-last w))) .wrote h
+    pub more-fields : (fs : List (List ℕ)) → Wrote m₂ r₂ (fieldsText fs) (length fs * 25 + 1) exit r → length fs ≤ 5 → Wrote out 0 (okText (f ∷ fs)) 256 exit r
+    more-fields fs y n = ok-then ok (field-then x (record { wrote = λ h. y })) room (omega arith)
 
-      pub six-fields : (k u v w m₄ : List ℕ) (r₄ : ℕ) → 256 ≤ length out → Wrote out 0 (bytes "ok") 2 m₁ r₁ → Wrote m₁ r₁ (9 ∷ f) 25 m₂ r₂
-          → Wrote m₂ r₂ (9 ∷ g) 25 m₃ r₃ → Wrote m₃ r₃ (9 ∷ k) 25 m₄ r₄ → Wrote m₄ r₄ (fieldsText (u ∷ v ∷ w ∷ [])) 76 exit r
-          → Wrote out 0 (okText (f ∷ g ∷ k ∷ u ∷ v ∷ w ∷ [])) 256 exit r
-      six-fields k u v w m₄ r₄ h ok x y z t = ok-then ok (field-then x (field-then y (field-then z (record { wrote = λ room. t })))) h (omega arith)
+module _ (out : List ℕ) (a : ℕ) (f m₁ : List ℕ) (r₁ : ℕ) (g m₂ : List ℕ) (r₂ : ℕ) (exit : List ℕ) (r : ℕ)
+    (x : Wrote out a (9 ∷ f) 25 m₁ r₁) (y : Wrote m₁ r₁ (9 ∷ g) 25 m₂ r₂) where
+  pub three-last : (k m₃ : List ℕ) (r₃ : ℕ) → a + 76 ≤ length out → Wrote m₂ r₂ (9 ∷ k) 25 m₃ r₃ → Wrote m₃ r₃ (10 ∷ []) 1 exit r
+      → Wrote out a (fieldsText (f ∷ g ∷ k ∷ [])) 76 exit r
+  three-last k m₃ r₃ room z w = field-then x (field-then y (field-then z (feed-last w))) .wrote room
 
-pub ruleset line-cases = (no-field, one-field, two-fields, three-last, six-fields)
+  pub two-more : (fs : List (List ℕ)) (n : ℕ) → a + n ≤ length out → Wrote m₂ r₂ (fieldsText fs) (length fs * 25 + 1) exit r → length fs * 25 + 51 ≤ n
+      → Wrote out a (fieldsText (f ∷ g ∷ fs)) n exit r
+  two-more fs n room z l = wider (field-then x (field-then y (record { wrote = λ h. z })) .wrote (omega arith)) (omega arith)
+
+pub ruleset line-cases = (no-field, one-field, two-fields, more-fields, three-last, two-more)
 
 -- ## An answer
 

@@ -103,6 +103,16 @@ fn put_lock(out: &mut [u8], at: usize, mode: u64, until: u64, hold: u64) -> usiz
     buffers::copy_in(out, end, b"\n")
 }
 
+// What GET shows of a row after its version, and the line feed.
+fn put_contents(out: &mut [u8], at: usize, x: Shown) -> usize
+    requires { ⌜ (at + 126 ≤ length (now out)) × (x .until ≤ latest) ⌝ }
+    ensures { λ r. ⌜ Wrote (now (out .entry)) at (fieldsText (digits (x .body) ∷ digits (x .size) ∷ modeText (x .mode) ∷ untilText (x .mode) (x .until) ∷ holdText (x .hold) ∷ [])) 126 (now (out .exit)) r ⌝ }
+{
+    let size = put_number(out, at, x.body);
+    let lock = put_number(out, size, x.size);
+    put_lock(out, lock, x.mode, x.until, x.hold)
+}
+
 fn write_done(out: &mut [u8]) -> usize
     requires { ⌜ 256 ≤ length (now out) ⌝ }
     ensures { λ r. ⌜ Wrote (now (out .entry)) 0 (okText []) 256 (now (out .exit)) r ⌝ }
@@ -145,10 +155,8 @@ fn write_row(out: &mut [u8], x: Shown) -> usize
     ensures { λ r. ⌜ Wrote (now (out .entry)) 0 (okText (rowFields (rowShown x))) 256 (now (out .exit)) r ⌝ }
 {
     let ok = buffers::copy_in(out, 0, b"ok");
-    let body = put_number(out, ok, x.version);
-    let size = put_number(out, body, x.body);
-    let lock = put_number(out, size, x.size);
-    put_lock(out, lock, x.mode, x.until, x.hold)
+    let contents = put_number(out, ok, x.version);
+    put_contents(out, contents, x)
 }
 
 // Writes the text of an accepted line's answer at the buffer's start, and returns its length.
