@@ -43,16 +43,16 @@ mode-short m =
 until-short : (m d : ℕ) → Short (untilText m d)
 unfolding untilText
 until-short m d = elim (either (eqb m 0)) [
-      | inl e ↦ simp e (omega arith)
-      | inr e ↦ simp e (omega (arith, printed-length d))
-    ]
+  | inl e ↦ simp e (omega arith)
+  | inr e ↦ simp e (omega (arith, printed-length d))
+]
 
 hold-short : (h : ℕ) → Short (holdText h)
 unfolding holdText
 hold-short h = elim (either (eqb h 0)) [
-      | inl e ↦ simp e (omega arith)
-      | inr e ↦ simp e (omega arith)
-    ]
+  | inl e ↦ simp e (omega arith)
+  | inr e ↦ simp e (omega arith)
+]
 
 ruleset short-fields = (arith, number-short, mode-short, until-short, hold-short)
 

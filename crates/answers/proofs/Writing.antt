@@ -44,9 +44,9 @@ unfolding fieldsText
 field-then {out} {a} {f} {m} {r} {fs} {exit} {q} x y =
     record {
       wrote = λ h.
-        let k : ℕ = length fs * 25 + 1 in
-        let room : r + k ≤ length m = omega (arith, x .long, x .most) in
-        rw append-assoc (wider (wrote-both out a (9 ∷ f) 25 m r (fieldsText fs) k exit q (omega arith) x (y .wrote room)) (omega arith));
+          let k : ℕ = length fs * 25 + 1 in
+          let room : r + k ≤ length m = omega (arith, x .long, x .most) in
+          rw append-assoc (wider (wrote-both out a (9 ∷ f) 25 m r (fieldsText fs) k exit q (omega arith) x (y .wrote room)) (omega arith));
     }
 
 ok-then : {out m : List ℕ} {r : ℕ} {fs : List (List ℕ)} {exit : List ℕ} {q : ℕ}

@@ -1,3 +1,4 @@
+-- `put_contents` meets its contract.
 use Rattle.answers.proofs.Writing.{line-cases}
 use borrow.Author.Needs.{needs}
 use Rattle.answers.proofs.put_contents.Statement.{statement}

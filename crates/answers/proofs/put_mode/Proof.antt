@@ -1,3 +1,4 @@
+-- `put_mode` meets its contract.
 use Rattle.answers.proofs.Writing.{field-as}
 use borrow.Author.Needs.{needs}
 use Rattle.buffers.proofs.Choices.{picks}

@@ -1,3 +1,4 @@
+-- `put_number` meets its contract.
 use Rattle.answers.proofs.Writing.{tab-then}
 use borrow.Author.Needs.{needs}
 use Rattle.answers.proofs.put_number.Statement.{statement}

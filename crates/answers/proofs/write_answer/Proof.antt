@@ -1,3 +1,4 @@
+-- `write_answer` meets its contract.
 use Rattle.answers.proofs.Writing.{answer-cases}
 use borrow.Author.Needs.{needs}
 use Rattle.answers.proofs.write_answer.Statement.{statement}

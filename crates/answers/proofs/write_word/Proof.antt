@@ -1,3 +1,4 @@
+-- `write_word` meets its contract.
 use Rattle.answers.proofs.Writing.{line-cases}
 use borrow.Author.Needs.{needs}
 use Rattle.answers.proofs.write_word.Statement.{statement}
