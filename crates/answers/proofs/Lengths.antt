@@ -1,5 +1,5 @@
 -- Every answer fits 256 bytes.
-use Prim.Native.Nat.{ℕ, _+_, _*_, _≤_, _<_}
+use Prim.Native.Nat.{ℕ, _*_, _≤_, _<_}
 use mathlib.Core.Logic.{inl, inr}
 use mathlib.Core.List.{List, [], _∷_}
 use native.Mathlib.Omega.{arith}
@@ -9,7 +9,6 @@ use Rattle.buffers.proofs.Tests.{either}
 use Rattle.text.specs.Fields.{tabbed}
 use Rattle.text.specs.Printing.{digits}
 use Rattle.text.proofs.Printing.{digits-long}
-use Rattle.calendar.specs.Printing.{printDate}
 use Rattle.calendar.proofs.Printing.{printed-length}
 use Rattle.model.specs.Rows.{governance}
 use Rattle.model.specs.Requests.{numbered}

@@ -1,13 +1,12 @@
 -- Laws of writing an answer: a field behind its tab, and the line field by field.
 use Prim.Native.Nat.{ℕ, _+_, _*_, _≤_}
 use mathlib.Core.Path.{_≡_}
-use mathlib.Core.List.{List, [], _∷_, _++_, append-assoc}
+use mathlib.Core.List.{List, [], _∷_, append-assoc}
 use native.Mathlib.Omega.{arith}
 use lib.ListN.{length}
 use Rattle.buffers.specs.Texts.{bytes}
 use Rattle.buffers.specs.Writes.{Wrote}
 use Rattle.buffers.proofs.Writes.{wrote-both}
-use Rattle.text.specs.Fields.{tabbed}
 use Rattle.calendar.specs.Calendar.{latest}
 use Rattle.answers.specs.declared.Shown.{Shown}
 use Rattle.answers.specs.declared.Answer.{Answer}
@@ -80,8 +79,6 @@ module _ (out : List ℕ) (a : ℕ) (f m₁ : List ℕ) (r₁ : ℕ) (g m₂ : L
   pub two-more : (fs : List (List ℕ)) (n : ℕ) → a + n ≤ length out → Wrote m₂ r₂ (fieldsText fs) (length fs * 25 + 1) exit r → length fs * 25 + 51 ≤ n
       → Wrote out a (fieldsText (f ∷ g ∷ fs)) n exit r
   two-more fs n room z l = wider (field-then x (field-then y (record { wrote = λ h. z })) .wrote (omega arith)) (omega arith)
-
-pub ruleset line-cases = (no-field, one-field, two-fields, more-fields, three-last, two-more)
 
 -- ## An answer
 

@@ -1,6 +1,5 @@
 -- The answers that the paper's run prints.
 use mathlib.Core.Path.{_≡_, refl}
-use mathlib.Core.List.{[]}
 use Rattle.buffers.specs.Texts.{bytes}
 use Rattle.text.specs.Printing.{digits}
 use Rattle.calendar.specs.Calendar.{leap, yearsLength, monthStart, guessOf, yearOf, monthOf, dateIn, civilOf}

@@ -1,5 +1,5 @@
 -- `put_contents` meets its contract.
-use Rattle.answers.proofs.Writing.{line-cases}
+use Rattle.answers.proofs.Writing.{two-more}
 use borrow.Author.Needs.{needs}
 use Rattle.answers.proofs.put_contents.Statement.{statement}
 use Rattle.answers.proofs.put_contents.Tie as tie
@@ -12,4 +12,4 @@ put-contents-spec =
     (λ c κs. search needs)
     (λ c κs. search needs)
     (λ c. search needs)
-    (λ c. search (needs, line-cases)))
+    (λ c. search (needs, two-more)))

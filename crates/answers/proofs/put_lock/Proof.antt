@@ -1,5 +1,5 @@
 -- `put_lock` meets its contract.
-use Rattle.answers.proofs.Writing.{line-cases}
+use Rattle.answers.proofs.Writing.{three-last}
 use borrow.Author.Needs.{needs}
 use Rattle.answers.proofs.put_lock.Statement.{statement}
 use Rattle.answers.proofs.put_lock.Tie as tie
@@ -14,4 +14,4 @@ put-lock-spec =
     (λ c. search needs)
     (λ c κs. search needs)
     (λ c. search needs)
-    (λ c. search (needs, line-cases)))
+    (λ c. search three-last))

@@ -1,5 +1,5 @@
 -- `write_done` meets its contract.
-use Rattle.answers.proofs.Writing.{line-cases}
+use Rattle.answers.proofs.Writing.{no-field}
 use borrow.Author.Needs.{needs}
 use Rattle.answers.proofs.write_done.Statement.{statement}
 use Rattle.answers.proofs.write_done.Tie as tie
@@ -13,4 +13,4 @@ write-done-spec =
     (λ c. search needs)
     (λ c κs. search needs)
     (λ c. search needs)
-    (λ c. search (needs, line-cases)))
+    (λ c. search no-field))

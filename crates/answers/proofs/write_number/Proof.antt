@@ -1,5 +1,5 @@
 -- `write_number` meets its contract.
-use Rattle.answers.proofs.Writing.{line-cases}
+use Rattle.answers.proofs.Writing.{one-field}
 use borrow.Author.Needs.{needs}
 use Rattle.answers.proofs.write_number.Statement.{statement}
 use Rattle.answers.proofs.write_number.Tie as tie
@@ -14,4 +14,4 @@ write-number-spec =
     (λ c. search needs)
     (λ c κs. search needs)
     (λ c. search needs)
-    (λ c. search (needs, line-cases)))
+    (λ c. search one-field))

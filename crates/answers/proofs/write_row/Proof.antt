@@ -1,5 +1,5 @@
 -- `write_row` meets its contract.
-use Rattle.answers.proofs.Writing.{line-cases}
+use Rattle.answers.proofs.Writing.{more-fields}
 use borrow.Author.Needs.{needs}
 use Rattle.answers.proofs.write_row.Statement.{statement}
 use Rattle.answers.proofs.write_row.Tie as tie
@@ -13,4 +13,4 @@ write-row-spec =
     (λ c κs. search needs)
     (λ c κs. search needs)
     (λ c. search needs)
-    (λ c. search (needs, line-cases)))
+    (λ c. search (needs, more-fields)))
