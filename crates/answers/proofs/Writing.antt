@@ -1,0 +1,91 @@
+-- Laws of writing an answer: a field behind its tab, and the line field by field.
+use Prim.Native.Nat.{ℕ, _+_, _*_, _≤_}
+use mathlib.Core.Path.{_≡_}
+use mathlib.Core.List.{List, [], _∷_, append-assoc}
+use native.Mathlib.Omega.{arith}
+use lib.ListN.{length}
+use Rattle.buffers.specs.Texts.{bytes}
+use Rattle.buffers.specs.Writes.{Wrote}
+use Rattle.buffers.proofs.Writes.{wrote-both}
+use Rattle.calendar.specs.Calendar.{latest}
+use Rattle.answers.specs.declared.Shown.{Shown}
+use Rattle.answers.specs.declared.Answer.{Answer}
+use Rattle.answers.specs.declared.Answer.the-variants.{Got}
+use Rattle.answers.specs.Text.{fieldsText, okText}
+use Rattle.answers.specs.Meaning.{textOf, Printable}
+
+-- A wider bound.
+wider : {out : List ℕ} {a : ℕ} {vs : List ℕ} {k j : ℕ} {exit : List ℕ} {r : ℕ} → Wrote out a vs k exit r → k ≤ j → Wrote out a vs j exit r
+wider w h = record { next = w .next; holds = w .holds; long = w .long; most = let q = w .most in omega arith }
+
+-- ## A field: with its tab at most 25 bytes
+
+pub tab-then : (out : List ℕ) (a : ℕ) (m : List ℕ) (r : ℕ) (f : List ℕ) (j : ℕ) (exit : List ℕ) (q : ℕ)
+    → Wrote out a (9 ∷ []) 1 m r → Wrote m r f j exit q → a + 25 ≤ length out → j ≤ 24 → Wrote out a (9 ∷ f) 25 exit q
+tab-then out a m r f j exit q x y h n = wider (wrote-both out a (9 ∷ []) 1 m r f j exit q (omega arith) x y) (omega arith)
+
+pub field-as : (out : List ℕ) (a : ℕ) (f g : List ℕ) (exit : List ℕ) (r : ℕ) → Wrote out a (9 ∷ f) 25 exit r → f ≡ g → Wrote out a (9 ∷ g) 25 exit r
+field-as out a f g exit r w e = rw e at w
+
+-- ## A line
+
+-- Where there is room, the fields and the line feed were written.
+record Ends (out : List ℕ) (a : ℕ) (fs : List (List ℕ)) (exit : List ℕ) (r : ℕ) : Type 0 where
+  wrote : a + (length fs * 25 + 1) ≤ length out → Wrote out a (fieldsText fs) (length fs * 25 + 1) exit r
+
+feed-last : {out : List ℕ} {a : ℕ} {exit : List ℕ} {r : ℕ} → Wrote out a (10 ∷ []) 1 exit r → Ends out a [] exit r
+unfolding fieldsText
+feed-last w = record { wrote = λ h. w }
+
+field-then : {out : List ℕ} {a : ℕ} {f m : List ℕ} {r : ℕ} {fs : List (List ℕ)} {exit : List ℕ} {q : ℕ}
+    → Wrote out a (9 ∷ f) 25 m r → Ends m r fs exit q → Ends out a (f ∷ fs) exit q
+unfolding fieldsText
+field-then {out} {a} {f} {m} {r} {fs} {exit} {q} x y =
+    record {
+      wrote = λ h.
+          let k : ℕ = length fs * 25 + 1 in
+          let room : r + k ≤ length m = omega (arith, x .long, x .most) in
+          rw append-assoc (wider (wrote-both out a (9 ∷ f) 25 m r (fieldsText fs) k exit q (omega arith) x (y .wrote room)) (omega arith));
+    }
+
+ok-then : {out m : List ℕ} {r : ℕ} {fs : List (List ℕ)} {exit : List ℕ} {q : ℕ}
+    → Wrote out 0 (bytes "ok") 2 m r → Ends m r fs exit q → 256 ≤ length out → length fs ≤ 6 → Wrote out 0 (okText fs) 256 exit q
+unfolding okText
+ok-then {out} {m} {r} {fs} {exit} {q} x y h n =
+    let j : ℕ = length fs * 25 + 1 in
+    let room : r + j ≤ length m = omega (arith, x .long, x .most) in
+    wider (wrote-both out 0 (bytes "ok") 2 m r (fieldsText fs) j exit q (omega arith) x (y .wrote room)) (omega arith)
+
+module _ (out m₁ : List ℕ) (r₁ : ℕ) (exit : List ℕ) (r : ℕ) (room : 256 ≤ length out) (ok : Wrote out 0 (bytes "ok") 2 m₁ r₁) where
+  pub no-field : Wrote m₁ r₁ (10 ∷ []) 1 exit r → Wrote out 0 (okText []) 256 exit r
+  no-field x = ok-then ok (feed-last x) room (omega arith)
+
+  module _ (f m₂ : List ℕ) (r₂ : ℕ) (x : Wrote m₁ r₁ (9 ∷ f) 25 m₂ r₂) where
+    pub one-field : Wrote m₂ r₂ (10 ∷ []) 1 exit r → Wrote out 0 (okText (f ∷ [])) 256 exit r
+    one-field y = ok-then ok (field-then x (feed-last y)) room (omega arith)
+
+    pub two-fields : (g m₃ : List ℕ) (r₃ : ℕ) → Wrote m₂ r₂ (9 ∷ g) 25 m₃ r₃ → Wrote m₃ r₃ (10 ∷ []) 1 exit r → Wrote out 0 (okText (f ∷ g ∷ [])) 256 exit r
+    two-fields g m₃ r₃ y z = ok-then ok (field-then x (field-then y (feed-last z))) room (omega arith)
+
+    pub more-fields : (fs : List (List ℕ)) → Wrote m₂ r₂ (fieldsText fs) (length fs * 25 + 1) exit r → length fs ≤ 5 → Wrote out 0 (okText (f ∷ fs)) 256 exit r
+    more-fields fs y n = ok-then ok (field-then x (record { wrote = λ h. y })) room (omega arith)
+
+module _ (out : List ℕ) (a : ℕ) (f m₁ : List ℕ) (r₁ : ℕ) (g m₂ : List ℕ) (r₂ : ℕ) (exit : List ℕ) (r : ℕ)
+    (x : Wrote out a (9 ∷ f) 25 m₁ r₁) (y : Wrote m₁ r₁ (9 ∷ g) 25 m₂ r₂) where
+  pub three-last : (k m₃ : List ℕ) (r₃ : ℕ) → a + 76 ≤ length out → Wrote m₂ r₂ (9 ∷ k) 25 m₃ r₃ → Wrote m₃ r₃ (10 ∷ []) 1 exit r
+      → Wrote out a (fieldsText (f ∷ g ∷ k ∷ [])) 76 exit r
+  three-last k m₃ r₃ room z w = field-then x (field-then y (field-then z (feed-last w))) .wrote room
+
+  pub two-more : (fs : List (List ℕ)) (n : ℕ) → a + n ≤ length out → Wrote m₂ r₂ (fieldsText fs) (length fs * 25 + 1) exit r → length fs * 25 + 51 ≤ n
+      → Wrote out a (fieldsText (f ∷ g ∷ fs)) n exit r
+  two-more fs n room z l = wider (field-then x (field-then y (record { wrote = λ h. z })) .wrote (omega arith)) (omega arith)
+
+-- ## An answer
+
+pub answer-as : (out : List ℕ) (k : ℕ) (exit : List ℕ) (r : ℕ) (a b : Answer) → a ≡ b → Wrote out 0 (textOf b) k exit r → Wrote out 0 (textOf a) k exit r
+answer-as out k exit r a b e w = rw e w
+
+pub answer-date : (a : Answer) (x : Shown) → a ≡ Got x → Printable a → x .until ≤ latest
+answer-date a x e h = rw e at h
+
+pub ruleset answer-cases = (answer-as, answer-date)

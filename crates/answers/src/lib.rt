@@ -1,0 +1,182 @@
+// The answers to accepted lines, written at the start of the answer buffer. The definitions are in specs/.
+ghost use Prim.Native.Nat.{_+_, _≤_};
+ghost use lib.ListN.{length};
+ghost use mathlib.Core.List.{[], _∷_};
+ghost use Rattle.buffers.specs.Writes.{Wrote};
+ghost use Rattle.text.specs.Printing.{digits};
+ghost use Rattle.calendar.specs.Calendar.{latest};
+ghost use Rattle.calendar.specs.Printing.{printDate};
+ghost use Rattle.answers.specs.Text.{fieldsText, okText, modeText, untilText, holdText, rowFields};
+ghost use Rattle.answers.specs.Meaning.{rowShown, textOf, Printable};
+
+// What GET shows of a row.
+pub struct Shown {
+    pub version: u64,
+    pub body: u64,
+    pub size: u64,
+    pub mode: u64,
+    pub until: u64,
+    pub hold: u64,
+}
+
+// What an accepted line answers.
+pub enum Answer {
+    Done,
+    Made(u64),
+    Marked(u64),
+    Removed(u64),
+    RemovedMarker(u64),
+    Swept(u64, u64),
+    Got(Shown),
+}
+
+// A tab and a number. A field with its tab takes at most 25 bytes.
+fn put_number(out: &mut [u8], at: usize, n: u64) -> usize
+    requires { ⌜ at + 25 ≤ length (now out) ⌝ }
+    ensures { λ r. ⌜ Wrote (now (out .entry)) at (9 ∷ digits n) 25 (now (out .exit)) r ⌝ }
+{
+    let after_tab = buffers::copy_in(out, at, b"\t");
+    text::print_number(out, after_tab, n)
+}
+
+// A tab and a word.
+fn put_word(out: &mut [u8], at: usize, word: &[u8]) -> usize
+    requires { ⌜ (at + 25 ≤ length (now out)) × (length (now word) ≤ 24) ⌝ }
+    ensures { λ r. ⌜ Wrote (now (out .entry)) at (9 ∷ now (word .entry)) 25 (now (out .exit)) r ⌝ }
+{
+    let after_tab = buffers::copy_in(out, at, b"\t");
+    buffers::copy_in(out, after_tab, word)
+}
+
+// A tab and a date.
+fn put_date(out: &mut [u8], at: usize, instant: u64) -> usize
+    requires { ⌜ (at + 25 ≤ length (now out)) × (instant ≤ latest) ⌝ }
+    ensures { λ r. ⌜ Wrote (now (out .entry)) at (9 ∷ printDate instant) 25 (now (out .exit)) r ⌝ }
+{
+    let after_tab = buffers::copy_in(out, at, b"\t");
+    calendar::print_date(out, after_tab, instant)
+}
+
+// A tab and a row's mode.
+fn put_mode(out: &mut [u8], at: usize, mode: u64) -> usize
+    requires { ⌜ at + 25 ≤ length (now out) ⌝ }
+    ensures { λ r. ⌜ Wrote (now (out .entry)) at (9 ∷ modeText mode) 25 (now (out .exit)) r ⌝ }
+{
+    if mode == 0 {
+        return put_word(out, at, b"-");
+    }
+    if mode == 1 {
+        return put_word(out, at, b"GOVERNANCE");
+    }
+    put_word(out, at, b"COMPLIANCE")
+}
+
+// A tab and a row's retain-until date.
+fn put_until(out: &mut [u8], at: usize, mode: u64, until: u64) -> usize
+    requires { ⌜ (at + 25 ≤ length (now out)) × (until ≤ latest) ⌝ }
+    ensures { λ r. ⌜ Wrote (now (out .entry)) at (9 ∷ untilText mode until) 25 (now (out .exit)) r ⌝ }
+{
+    if mode == 0 {
+        return put_word(out, at, b"-");
+    }
+    put_date(out, at, until)
+}
+
+// A tab and a row's hold.
+fn put_hold(out: &mut [u8], at: usize, hold: u64) -> usize
+    requires { ⌜ at + 25 ≤ length (now out) ⌝ }
+    ensures { λ r. ⌜ Wrote (now (out .entry)) at (9 ∷ holdText hold) 25 (now (out .exit)) r ⌝ }
+{
+    if hold == 0 {
+        return put_word(out, at, b"OFF");
+    }
+    put_word(out, at, b"ON")
+}
+
+// The fields of a row's lock, and the line feed.
+fn put_lock(out: &mut [u8], at: usize, mode: u64, until: u64, hold: u64) -> usize
+    requires { ⌜ (at + 76 ≤ length (now out)) × (until ≤ latest) ⌝ }
+    ensures { λ r. ⌜ Wrote (now (out .entry)) at (fieldsText (modeText mode ∷ untilText mode until ∷ holdText hold ∷ [])) 76 (now (out .exit)) r ⌝ }
+{
+    let after_mode = put_mode(out, at, mode);
+    let after_until = put_until(out, after_mode, mode, until);
+    let after_hold = put_hold(out, after_until, hold);
+    buffers::copy_in(out, after_hold, b"\n")
+}
+
+// What GET shows of a row after its version, and the line feed.
+fn put_contents(out: &mut [u8], at: usize, x: Shown) -> usize
+    requires { ⌜ (at + 126 ≤ length (now out)) × (x .until ≤ latest) ⌝ }
+    ensures { λ r. ⌜ Wrote (now (out .entry)) at (fieldsText (digits (x .body) ∷ digits (x .size) ∷ modeText (x .mode) ∷ untilText (x .mode) (x .until) ∷ holdText (x .hold) ∷ [])) 126 (now (out .exit)) r ⌝ }
+{
+    let after_body = put_number(out, at, x.body);
+    let after_size = put_number(out, after_body, x.size);
+    put_lock(out, after_size, x.mode, x.until, x.hold)
+}
+
+// `ok` alone.
+fn write_done(out: &mut [u8]) -> usize
+    requires { ⌜ 256 ≤ length (now out) ⌝ }
+    ensures { λ r. ⌜ Wrote (now (out .entry)) 0 (okText []) 256 (now (out .exit)) r ⌝ }
+{
+    let after_ok = buffers::copy_in(out, 0, b"ok");
+    buffers::copy_in(out, after_ok, b"\n")
+}
+
+// `ok` and a number.
+fn write_number(out: &mut [u8], n: u64) -> usize
+    requires { ⌜ 256 ≤ length (now out) ⌝ }
+    ensures { λ r. ⌜ Wrote (now (out .entry)) 0 (okText (digits n ∷ [])) 256 (now (out .exit)) r ⌝ }
+{
+    let after_ok = buffers::copy_in(out, 0, b"ok");
+    let after_number = put_number(out, after_ok, n);
+    buffers::copy_in(out, after_number, b"\n")
+}
+
+// `ok`, a number and a word.
+fn write_word(out: &mut [u8], n: u64, word: &[u8]) -> usize
+    requires { ⌜ (256 ≤ length (now out)) × (length (now word) ≤ 24) ⌝ }
+    ensures { λ r. ⌜ Wrote (now (out .entry)) 0 (okText (digits n ∷ now (word .entry) ∷ [])) 256 (now (out .exit)) r ⌝ }
+{
+    let after_ok = buffers::copy_in(out, 0, b"ok");
+    let after_number = put_number(out, after_ok, n);
+    let after_word = put_word(out, after_number, word);
+    buffers::copy_in(out, after_word, b"\n")
+}
+
+// `ok` and two numbers.
+fn write_counts(out: &mut [u8], gone: u64, new: u64) -> usize
+    requires { ⌜ 256 ≤ length (now out) ⌝ }
+    ensures { λ r. ⌜ Wrote (now (out .entry)) 0 (okText (digits gone ∷ digits new ∷ [])) 256 (now (out .exit)) r ⌝ }
+{
+    let after_ok = buffers::copy_in(out, 0, b"ok");
+    let after_gone = put_number(out, after_ok, gone);
+    let after_new = put_number(out, after_gone, new);
+    buffers::copy_in(out, after_new, b"\n")
+}
+
+// `ok` and the fields of a row.
+fn write_row(out: &mut [u8], x: Shown) -> usize
+    requires { ⌜ (256 ≤ length (now out)) × (x .until ≤ latest) ⌝ }
+    ensures { λ r. ⌜ Wrote (now (out .entry)) 0 (okText (rowFields (rowShown x))) 256 (now (out .exit)) r ⌝ }
+{
+    let after_ok = buffers::copy_in(out, 0, b"ok");
+    let after_version = put_number(out, after_ok, x.version);
+    put_contents(out, after_version, x)
+}
+
+// Writes the text of an accepted line's answer at the buffer's start, and returns its length.
+pub fn write_answer(out: &mut [u8], answer: Answer) -> usize
+    requires { ⌜ (256 ≤ length (now out)) × Printable answer ⌝ }
+    ensures { λ r. ⌜ Wrote (now (out .entry)) 0 (textOf answer) 256 (now (out .exit)) r ⌝ }
+{
+    match answer {
+        Answer::Done => write_done(out),
+        Answer::Made(n) => write_number(out, n),
+        Answer::Marked(n) => write_word(out, n, b"marker"),
+        Answer::Removed(n) => write_word(out, n, b"removed"),
+        Answer::RemovedMarker(n) => write_word(out, n, b"removed-marker"),
+        Answer::Swept(gone, new) => write_counts(out, gone, new),
+        Answer::Got(x) => write_row(out, x),
+    }
+}
