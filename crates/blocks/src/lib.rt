@@ -1,1 +1,75 @@
-// to come
+// A key or a prefix in 64 bytes: its length, its bytes, zeros. The definitions are in specs/.
+ghost use mathlib.Core.Path.{_≡_};
+ghost use mathlib.Core.Bool.{_&&_};
+ghost use Prim.Native.Nat.{_+_, _≤_};
+ghost use lib.ListN.{length, getD, replicate};
+ghost use Rattle.buffers.specs.Writes.{Wrote};
+ghost use Rattle.text.specs.Keys.{isKey, isPrefix};
+ghost use Rattle.blocks.specs.Blocks.{blockOf, keyIn, isBlock};
+ghost use Rattle.blocks.specs.Places.{placeFits};
+
+// The key in the first 64 bytes of a block.
+pub fn key_in(block: &[u8]) -> &[u8]
+    requires { ⌜ (64 ≤ length (now block)) × (getD (now block) 0 0 ≤ 63) ⌝ }
+    ensures { λ r. ⌜ now r ≡ keyIn (now (block .entry)) ⌝ }
+{
+    let end = block[0] as usize + 1;
+    &block[1..end]
+}
+
+// Writes n zeros from `at` on, and returns the place after them.
+fn put_zeros(out: &mut [u8], at: usize, n: usize) -> usize
+    requires { ⌜ at + n ≤ length (now out) ⌝ }
+    ensures { λ r. ⌜ Wrote (now (out .entry)) at (replicate n 0) n (now (out .exit)) r ⌝ }
+{
+    let mut i = 0;
+    while i < n {
+        out[at + i] = 0;
+        i += 1;
+    }
+    at + i
+}
+
+// Writes the 64 bytes of a key from `at` on, and returns the place after them.
+pub fn put_block(out: &mut [u8], at: usize, key: &[u8]) -> usize
+    requires { ⌜ (at + 64 ≤ length (now out)) × (length (now key) ≤ 63) ⌝ }
+    ensures { λ r. ⌜ Wrote (now (out .entry)) at (blockOf (now (key .entry))) 64 (now (out .exit)) r ⌝ }
+{
+    let n = key.len();
+    let first = [n as u8];
+    let start = buffers::copy_in(out, at, &first);
+    let end = buffers::copy_in(out, start, key);
+    put_zeros(out, end, 63 - n)
+}
+
+// Whether byte j of the 64 is right behind a first byte n: a byte of a key up to place n, zero after it.
+fn place_fits(n: u8, j: u8, x: u8) -> bool
+    ensures { λ r. ⌜ r ≡ placeFits n j x ⌝ }
+{
+    (j == 0) | ((j <= n) & ((0x21 <= x) & (x <= 0x7E))) | ((n < j) & (x == 0))
+}
+
+// Whether 64 bytes hold a prefix. The loop is compiled to vector code: always 64 turns, no way out, a counter as wide as a byte.
+pub fn is_prefix_block(b: &[u8]) -> bool
+    requires { ⌜ length (now b) ≡ 64 ⌝ }
+    ensures { λ r. ⌜ r ≡ isBlock (now (b .entry)) && isPrefix (keyIn (now (b .entry))) ⌝ }
+{
+    let n = b[0];
+    let mut ok = true;
+    let mut j = 0u8;
+    let mut i = 0;
+    while i < 64 {
+        ok = ok & place_fits(n, j, b[i]);
+        i += 1;
+        j += 1;
+    }
+    (n <= 63) & ok
+}
+
+// Whether 64 bytes hold a key.
+pub fn is_key_block(b: &[u8]) -> bool
+    requires { ⌜ length (now b) ≡ 64 ⌝ }
+    ensures { λ r. ⌜ r ≡ isBlock (now (b .entry)) && isKey (keyIn (now (b .entry))) ⌝ }
+{
+    (1 <= b[0]) & is_prefix_block(b)
+}

@@ -1,0 +1,72 @@
+-- Laws of a key in 64 bytes: its length, the way back, and the writing of it.
+use Prim.Native.Nat.{ℕ, zero, suc, _+_, _-_, _≤_, _<_}
+use mathlib.Core.Path.{_≡_, refl, sym, ap, _∙_}
+use mathlib.Core.Bool.{true}
+use mathlib.Core.List.{List, [], _∷_, _++_, append-nil}
+use native.Mathlib.Omega.{arith}
+use lib.ListN.{length, getD, take, drop, set, replicate, length-append, length-take, length-replicate, take-append-drop, replicate-append-replicate}
+use lib.Seq.{take-all, take-at}
+use Rattle.buffers.specs.Writes.{Wrote}
+use Rattle.buffers.proofs.Lists.{same-refl}
+use Rattle.buffers.proofs.Writes.{wrote-byte, wrote-both, wrote-as}
+use Rattle.blocks.specs.Blocks.{blockOf, keyIn, isBlock}
+
+-- A block has 64 bytes.
+pub block-length : (k : List ℕ) → length (blockOf k) ≡ 64
+unfolding blockOf
+block-length k =
+    let t = length-take 63 k in
+    let r = length-replicate {A = ℕ} (63 - length (take 63 k)) 0 in
+    ap suc (length-append (take 63 k) (replicate (63 - length (take 63 k)) 0)) ∙ omega arith
+
+-- The block of a key that fits.
+pub block-is : (k : List ℕ) → length k ≤ 63 → blockOf k ≡ length k ∷ k ++ replicate (63 - length k) 0
+unfolding blockOf
+block-is k h = rw (take-all 63 k h)
+
+-- The key comes back out of its block.
+pub key-back : (k : List ℕ) → length k ≤ 63 → keyIn (blockOf k) ≡ k
+key-back k h = rw (block-is k h) (take-at k (replicate (63 - length k) 0) (length k) refl)
+
+-- The first byte is the key's length.
+pub block-first : (k : List ℕ) → length k ≤ 63 → getD (blockOf k) 0 0 ≡ length k
+block-first k h = rw (block-is k h)
+
+-- What is written for a key that fits is a block.
+pub block-block : (k : List ℕ) → length k ≤ 63 → isBlock (blockOf k) ≡ true
+unfolding isBlock
+block-block k h = rw (key-back k h) (same-refl (blockOf k))
+
+-- ## A key cut out, and written
+
+pub key-cut : (b : List ℕ) (n : ℕ) → take (n + 1 - 1) (drop 1 b) ≡ take n (drop 1 b)
+key-cut b n = let q : n + 1 - 1 ≡ n = omega arith in rw q
+
+module _ (out : List ℕ) (a : ℕ) where
+  pub zeros-start : Wrote out a (replicate 0 0) 0 out (a + 0)
+  zeros-start =
+      let q : a + 0 ≡ a = omega arith in
+      record { next = refl; holds = rw (q, append-nil) (sym (take-append-drop a out)); long = refl; most = omega arith }
+
+  pub zeros-step : (m : List ℕ) (i n : ℕ) → Wrote out a (replicate i 0) i m (a + i) → i < n → a + n ≤ length out
+      → Wrote out a (replicate (i + 1) 0) (i + 1) (set m (a + i) 0) (a + (i + 1))
+  zeros-step m i n w h l =
+      let d = w .long in
+      let q : a + i + 1 ≡ a + (i + 1) = omega arith in
+      rw q at (wrote-as out a (replicate i 0 ++ 0 ∷ []) (replicate (i + 1) 0) (i + 1) (i + 1) (set m (a + i) 0) (a + i + 1)
+      (wrote-both out a (replicate i 0) i m (a + i) (0 ∷ []) 1 (set m (a + i) 0) (a + i + 1) (omega arith) w (wrote-byte m (a + i) 0 (omega arith)))
+      (replicate-append-replicate i 1 0) (rw length-replicate (omega arith)))
+
+  pub zeros-end : (m : List ℕ) (i n : ℕ) → Wrote out a (replicate i 0) i m (a + i) → i ≤ n → n ≤ i → Wrote out a (replicate n 0) n m (a + i)
+  zeros-end m i n w h k = let q : i ≡ n = omega arith in rw q (rw q at w)
+
+pub ruleset zeros-cases = (zeros-start, zeros-step, zeros-end)
+
+-- The length, the key, zeros.
+pub block-written : (out : List ℕ) (a : ℕ) (k : List ℕ) (m n exit : List ℕ) (r s q : ℕ) → a + 64 ≤ length out → length k ≤ 63
+    → Wrote out a (length k ∷ []) 1 m r → Wrote m r k (length k) n s → Wrote n s (replicate (63 - length k) 0) (63 - length k) exit q → Wrote out a (blockOf k) 64 exit q
+block-written out a k m n exit r s q h l x y z =
+    wrote-as out a ((length k ∷ []) ++ k ++ replicate (63 - length k) 0) (blockOf k) _ 64 exit q
+    (wrote-both out a ((length k ∷ []) ++ k) _ n s (replicate (63 - length k) 0) _ exit q (omega arith)
+    (wrote-both out a (length k ∷ []) _ m r k _ n s (omega arith) x y) z)
+    (sym (block-is k l)) (rw block-length (omega arith))
