@@ -14,9 +14,11 @@ use borrow.Author.Tests.{eq-eqb, eqb-true, eqb-false, lt-ltb, le-ltb, ltb-true, 
 use Rattle.buffers.specs.Ranges.{Within}
 use Rattle.buffers.specs.Words.{AllBytes}
 use Rattle.buffers.specs.Lists.{same}
-use Rattle.buffers.proofs.Tests.{either, or-l, or-r, and-i}
+use Rattle.buffers.proofs.Tests.{either, clash, or-l, or-r, and-i}
+use Rattle.buffers.proofs.Lists.{same-path}
 use Rattle.text.proofs.Scans.{next}
 use Rattle.model.specs.Rows.{before}
+use Rattle.model.proofs.Order.{before-trans, before-irrefl}
 use Rattle.search.specs.Keys.{isOrder, rank}
 use Rattle.search.specs.declared.Order.{Order}
 use Rattle.search.specs.declared.Order.the-variants.{Before, Same, After}
@@ -170,3 +172,66 @@ pub words-end : (a b : List ℕ) (i : ℕ) (r : Order) → Words a b i → isOrd
 words-end a b i r w e = w .rest .alike r ∙ e
 
 pub ruleset word-cases = (words-less, words-more, words-again, words-end)
+
+-- ## What an order says of the other two
+
+pub order-of : (o : Order) (a s b : List ℕ) → isOrder o s b ≡ true → s ≡ a → isOrder o a b ≡ true
+order-of o a s b e q = rw q at e
+
+before-one : (a b : List ℕ) → before a b ≡ true → same a b ≡ false
+before-one a b e =
+    elim (either (same a b)) [
+      | inl s ↦ absurd (clash (before b b) (rw (same-path a b s) at e) (before-irrefl b))
+      | inr s ↦ s
+    ]
+
+same-one : (a b : List ℕ) → same a b ≡ true → before a b ≡ false
+same-one a b e = rw (same-path a b e) (before-irrefl b)
+
+after-one : (a b : List ℕ) → before b a ≡ true → before a b ≡ false
+after-one a b e =
+    elim (either (before a b)) [
+      | inl s ↦ absurd (clash (before a a) (before-trans a b a s e) (before-irrefl a))
+      | inr s ↦ s
+    ]
+
+after-other : (a b : List ℕ) → before b a ≡ true → same a b ≡ false
+after-other a b e =
+    elim (either (same a b)) [
+      | inl s ↦ absurd (clash (before b b) (rw (same-path a b s) at e) (before-irrefl b))
+      | inr s ↦ s
+    ]
+
+module _ (o : Order) (a b : List ℕ) (e : isOrder o a b ≡ true) where
+  pub before-yes : o ≡ Before → true ≡ before a b
+  before-yes q = sym (rw q at e)
+
+  pub before-same : o ≡ Same → false ≡ before a b
+  before-same q = sym (same-one a b (rw q at e))
+
+  pub before-after : o ≡ After → false ≡ before a b
+  before-after q = sym (after-one a b (rw q at e))
+
+  pub same-before : o ≡ Before → false ≡ same a b
+  same-before q = sym (before-one a b (rw q at e))
+
+  pub same-yes : o ≡ Same → true ≡ same a b
+  same-yes q = sym (rw q at e)
+
+  pub same-after : o ≡ After → false ≡ same a b
+  same-after q = sym (after-other a b (rw q at e))
+
+-- An order decides a test that starts with one of the three.
+pub and-false : (a t : Bool) → false ≡ a → false ≡ (a && t)
+and-false a t e = rw (sym e)
+
+pub and-true : (a t : Bool) → true ≡ a → t ≡ (a && t)
+and-true a t e = rw (sym e)
+
+pub or-true : (a t : Bool) → true ≡ a → true ≡ (a || t)
+or-true a t e = rw (sym e)
+
+pub or-false : (r a t : Bool) → false ≡ a → r ≡ t → r ≡ (a || t)
+or-false r a t e f = rw (sym e) f
+
+pub ruleset orders = (before-yes, before-same, before-after, same-before, same-yes, same-after, and-false, and-true, or-true, or-false)

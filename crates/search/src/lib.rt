@@ -109,3 +109,30 @@ fn order_at(keys: &[u8], at: usize, key: &[u8]) -> Order
     let stored = key_at(keys, at);
     compare_keys(stored, key)
 }
+
+// The key of the row at a position is before the key.
+fn key_before(keys: &[u8], at: usize, key: &[u8]) -> bool
+    requires { ⌜ (64 * at + 64 ≤ length (now keys)) × (getD (now keys) (64 * at) 0 ≤ 63) ⌝ }
+    ensures { λ r. ⌜ r ≡ before (keyAt (now (keys .entry)) at) (now (key .entry)) ⌝ }
+{
+    let o = order_at(keys, at, key);
+    match o {
+        Order::Before => true,
+        Order::Same => false,
+        Order::After => false,
+    }
+}
+
+// The row at a position is ahead of the key's version.
+fn row_ahead(rows: &[u64], keys: &[u8], at: usize, key: &[u8], version: u64) -> bool
+    requires { ⌜ HasRow (now rows) (now keys) at ⌝ }
+    ensures { λ r. ⌜ r ≡ (before (keyAt (now (keys .entry)) at) (now (key .entry)) || (same (keyAt (now (keys .entry)) at) (now (key .entry)) && ltb version (getD (now (rows .entry)) (8 * at) 0))) ⌝ }
+{
+    let o = order_at(keys, at, key);
+    let first = 8 * at;
+    match o {
+        Order::Before => true,
+        Order::Same => version < rows[first],
+        Order::After => false,
+    }
+}

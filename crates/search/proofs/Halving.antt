@@ -1,0 +1,146 @@
+-- Where the rows that pass a test end, and what one row of an ordered table says of that place.
+use Prim.Native.Nat.{ℕ, zero, suc, _+_, _-_, _*_, _≤_, _<_}
+use mathlib.Core.Path.{_≡_, refl, sym, ap, _∙_}
+use mathlib.Core.Logic.{inl, inr}
+use mathlib.Core.Bool.{Bool, true, false, _&&_, _||_}
+use mathlib.Core.List.{List, [], _∷_}
+use mathlib.Core.Option.{Option, some, none}
+use native.Mathlib.Omega.{arith}
+use lib.Dec.{eqb, ltb}
+use lib.ListN.{length, getD, take, drop, drop-of-length-le}
+use lib.Seq.{drop-drop, getD-take, getD-drop}
+use Rattle.buffers.specs.Choices.{pick, thenSome}
+use Rattle.buffers.specs.Lists.{all, same}
+use Rattle.buffers.specs.Ranges.{Within}
+use Rattle.buffers.proofs.Tests.{either, clash, and-l, and-r, or-l, or-r, or-one}
+use Rattle.buffers.proofs.Lists.{same-path}
+use Rattle.blocks.specs.Blocks.{keyIn}
+use Rattle.table.specs.Layout.{rowIn, rowAt, rowsOf}
+use Rattle.model.specs.Rows.{Row, before, ahead, ordered}
+use Rattle.model.proofs.Order.{before-trans, ahead-trans}
+use Rattle.search.specs.Places.{leading, rowFrom, foundIf, keyPlace, versionPlace}
+use Rattle.search.specs.Searching.{keyAt, HasRow, Searchable}
+use Rattle.search.specs.declared.Order.{Order}
+use Rattle.search.specs.declared.Order.the-variants.{Before, Same, After}
+use Rattle.search.specs.declared.Found.{Found}
+use Rattle.search.specs.declared.Found.the-variants.{At, Place}
+
+-- ## Rows by position
+
+no-row : (i : ℕ) (y : Row) → rowFrom [] i ≡ some y → ⊥
+no-row zero y f = let z : _≡_ {A = ℕ} 0 1 = cc in omega arith
+no-row (suc i) y f = let z : _≡_ {A = ℕ} 0 1 = cc in omega arith
+
+-- What all rows pass, the row at a position passes.
+pub all-row : (p : Row → Bool) (xs : List Row) (i : ℕ) (y : Row) → all p xs ≡ true → rowFrom xs i ≡ some y → p y ≡ true
+all-row p [] i y e f = absurd (no-row i y f)
+all-row p (x ∷ xs) zero y e f = let g : x ≡ y = cc in rw g at (and-l (p x) _ e)
+all-row p (x ∷ xs) (suc i) y e f = all-row p xs i y (and-r (p x) _ e) f
+
+pub row-below : (xs : List Row) (i : ℕ) (y : Row) → rowFrom xs i ≡ some y → i < length xs
+row-below [] i y f = absurd (no-row i y f)
+row-below (x ∷ xs) zero y f = omega arith
+row-below (x ∷ xs) (suc i) y f = omega (arith, row-below xs i y f)
+
+pub rows-length : (n b : List ℕ) (u : ℕ) → length (rowsOf n b u) ≡ u
+rows-length n b zero = refl
+rows-length n b (suc u) = ap suc (rows-length (drop 8 n) (drop 64 b) u)
+
+pub rows-row : (n b : List ℕ) (u i : ℕ) → i < u → rowFrom (rowsOf n b u) i ≡ some (rowAt n b i)
+rows-row n b zero i h = absurd (omega arith)
+rows-row n b (suc u) zero h = refl
+rows-row n b (suc u) (suc i) h =
+    let p : 8 * suc i ≡ 8 + 8 * i = omega arith in
+    let q : 64 * suc i ≡ 64 + 64 * i = omega arith in
+    rw (p, q, ← drop-drop (8 * i) 8 n, ← drop-drop (64 * i) 64 b) (rows-row (drop 8 n) (drop 64 b) u i (omega arith))
+
+pub key-got : (b t : List ℕ) (f : ℕ) → t ≡ keyIn (take (f + 64 - f) (drop f b)) → t ≡ keyIn (take 64 (drop f b))
+key-got b t f e = let q : f + 64 - f ≡ 64 = omega arith in e ∙ rw q
+
+pub key-small : (b : List ℕ) (f : ℕ) → getD b f 0 ≤ 63 → getD (take (f + 64 - f) (drop f b)) 0 0 ≤ 63
+key-small b f k = let q : f + 64 - f ≡ 64 = omega arith in let z : f + 0 ≡ f = omega arith in rw (q, getD-take 64 (drop f b) 0 0 (omega arith), getD-drop f b 0 0, z) k
+
+number-at : (n b : List ℕ) (i : ℕ) → (rowAt n b i) .number ≡ getD n (8 * i) 0
+number-at n b i = let z : 8 * i + 0 ≡ 8 * i = omega arith in getD-take 8 (drop (8 * i) n) 0 0 (omega arith) ∙ getD-drop (8 * i) n 0 0 ∙ rw z
+
+-- ## The rows that pass a test
+
+module _ (q : Row → Bool) where
+  pub leading-most : (xs : List Row) → leading q xs ≤ length xs
+  leading-most [] = omega arith
+  leading-most (x ∷ xs) =
+      elim (either (q x)) [
+        | inl t ↦ rw t (omega (arith, leading-most xs))
+        | inr t ↦ rw t (omega arith)
+      ]
+
+  leading-stops : (xs : List Row) (i : ℕ) (y : Row) → rowFrom xs i ≡ some y → q y ≡ false → leading q xs ≤ i
+  leading-stops [] i y f e = omega arith
+  leading-stops (x ∷ xs) zero y f e = let g : x ≡ y = cc in rw (g, e) (omega arith)
+  leading-stops (x ∷ xs) (suc i) y f e =
+      elim (either (q x)) [
+        | inl t ↦ rw t (omega (arith, leading-stops xs i y f e))
+        | inr t ↦ rw t (omega arith)
+      ]
+
+  -- A test that each row passes that is ahead of one that passes.
+  leading-passes : ((x y : Row) → ahead x y ≡ true → q y ≡ true → q x ≡ true)
+      → (xs : List Row) (i : ℕ) (y : Row) → ordered xs ≡ true → rowFrom xs i ≡ some y → q y ≡ true → i < leading q xs
+  leading-passes m [] i y o f e = absurd (no-row i y f)
+  leading-passes m (x ∷ xs) zero y o f e = let g : x ≡ y = cc in rw (g, e) (omega arith)
+  leading-passes m (x ∷ xs) (suc i) y o f e =
+      let t : q x ≡ true = m x y (all-row (ahead x) xs i y (and-l _ _ o) f) e in
+      rw t (omega (arith, leading-passes m xs i y (and-r (all (ahead x) xs) _ o) f e))
+
+-- ## Halving
+
+key-ahead : (k : List ℕ) (x y : Row) → ahead x y ≡ true → before (y .key) k ≡ true → before (x .key) k ≡ true
+key-ahead k x y d e =
+    elim (or-one (before (x .key) (y .key)) _ d) [
+      | inl b ↦ before-trans (x .key) (y .key) k b e
+      | inr b ↦ rw (same-path (x .key) (y .key) (and-l _ _ b)) e
+    ]
+
+-- the row of a key's version, its other numbers 0
+abbrev pub versionRow : List ℕ → ℕ → Row
+versionRow k v = record { number = v; kind = 0; created = 0; body = 0; size = 0; mode = 0; until = 0; hold = 0; key = k }
+
+module _ (n b : List ℕ) (u : ℕ) (k : List ℕ) where
+  pub key-most : keyPlace k (rowsOf n b u) ≤ u
+  unfolding keyPlace
+  key-most = rw (rows-length n b u) at (leading-most (λ x. before (x .key) k) (rowsOf n b u))
+
+  pub key-passed : (r : Bool) (i : ℕ) → Searchable n b u → i < u → r ≡ before (keyAt b i) k → r ≡ true → i + 1 ≤ keyPlace k (rowsOf n b u)
+  unfolding keyPlace
+  key-passed r i s h e t =
+      let p = leading-passes (λ x. before (x .key) k) (key-ahead k) (rowsOf n b u) i (rowAt n b i) (s .in-order) (rows-row n b u i h) (sym e ∙ t) in
+      omega arith
+
+  pub key-stopped : (r : Bool) (i : ℕ) → i < u → r ≡ before (keyAt b i) k → r ≡ false → keyPlace k (rowsOf n b u) ≤ i
+  unfolding keyPlace
+  key-stopped r i h e t = leading-stops (λ x. before (x .key) k) (rowsOf n b u) i (rowAt n b i) (rows-row n b u i h) (sym e ∙ t)
+
+module _ (n b : List ℕ) (u : ℕ) (k : List ℕ) (v : ℕ) where
+  pub version-most : versionPlace k v (rowsOf n b u) ≤ u
+  unfolding versionPlace
+  version-most = rw (rows-length n b u) at (leading-most (λ x. ahead x (versionRow k v)) (rowsOf n b u))
+
+  pub version-passed : (r : Bool) (i : ℕ) → Searchable n b u → i < u → r ≡ (before (keyAt b i) k || (same (keyAt b i) k && ltb v (getD n (8 * i) 0))) → r ≡ true
+      → i + 1 ≤ versionPlace k v (rowsOf n b u)
+  unfolding versionPlace
+  version-passed r i s h e t =
+      let q : ahead (rowAt n b i) (versionRow k v) ≡ true = rw (number-at n b i) (sym e ∙ t) in
+      let p = leading-passes (λ x. ahead x (versionRow k v)) (λ x y. ahead-trans x y (versionRow k v)) (rowsOf n b u) i (rowAt n b i) (s .in-order) (rows-row n b u i h) q in
+      omega arith
+
+  pub version-stopped : (r : Bool) (i : ℕ) → i < u → r ≡ (before (keyAt b i) k || (same (keyAt b i) k && ltb v (getD n (8 * i) 0))) → r ≡ false
+      → versionPlace k v (rowsOf n b u) ≤ i
+  unfolding versionPlace
+  version-stopped r i h e t =
+      let q : ahead (rowAt n b i) (versionRow k v) ≡ false = rw (number-at n b i) (sym e ∙ t) in
+      leading-stops (λ x. ahead x (versionRow k v)) (rowsOf n b u) i (rowAt n b i) (rows-row n b u i h) q
+
+pub ruleset halving = (key-most, key-passed, key-stopped, version-most, version-passed, version-stopped)
+
+pub has-row : (n b : List ℕ) (u i : ℕ) → Searchable n b u → i < u → HasRow n b i
+has-row n b u i s h = record { has-numbers = omega arith; has-key = omega arith; key-fits = s .lengths i h }
