@@ -234,4 +234,13 @@ or-true a t e = rw (sym e)
 pub or-false : (r a t : Bool) → false ≡ a → r ≡ t → r ≡ (a || t)
 or-false r a t e f = rw (sym e) f
 
+-- Two tests, the second where the first holds.
+pub both-yes : (r a t u : Bool) → r ≡ a → r ≡ true → u ≡ t → u ≡ (a && t)
+both-yes r a t u e h q = rw (sym e ∙ h) q
+
+pub both-no : (r a t : Bool) → r ≡ a → r ≡ false → false ≡ (a && t)
+both-no r a t e h = rw (sym e ∙ h)
+
+pub ruleset both = (refl, both-yes, both-no)
+
 pub ruleset orders = (before-yes, before-same, before-after, same-before, same-yes, same-after, and-false, and-true, or-true, or-false)

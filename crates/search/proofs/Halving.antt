@@ -1,5 +1,5 @@
 -- Where the rows that pass a test end, and what one row of an ordered table says of that place.
-use Prim.Native.Nat.{ℕ, zero, suc, _+_, _-_, _*_, _≤_, _<_}
+use Prim.Native.Nat.{ℕ, zero, suc, _+_, _-_, _*_, _/_, _≤_, _<_}
 use mathlib.Core.Path.{_≡_, refl, sym, ap, _∙_}
 use mathlib.Core.Logic.{inl, inr}
 use mathlib.Core.Bool.{Bool, true, false, _&&_, _||_}
@@ -18,7 +18,7 @@ use Rattle.blocks.specs.Blocks.{keyIn}
 use Rattle.table.specs.Layout.{rowIn, rowAt, rowsOf}
 use Rattle.model.specs.Rows.{Row, before, ahead, ordered}
 use Rattle.model.proofs.Order.{before-trans, ahead-trans}
-use Rattle.search.specs.Places.{leading, rowFrom, foundIf, keyPlace, versionPlace}
+use Rattle.search.specs.Places.{leading, rowFrom, foundIf, keyPlace, currentIn, versionPlace, versionIn}
 use Rattle.search.specs.Searching.{keyAt, HasRow, Searchable}
 use Rattle.search.specs.declared.Order.{Order}
 use Rattle.search.specs.declared.Order.the-variants.{Before, Same, After}
@@ -94,6 +94,13 @@ module _ (q : Row → Bool) where
 
 -- ## Halving
 
+module _ (n b : List ℕ) (u i : ℕ) (s : Searchable n b u) (h : i < u) where
+  pub has-length : getD b (64 * i) 0 ≤ 63
+  has-length = s .lengths i h
+
+  pub has-row : HasRow n b i
+  has-row = record { has-numbers = omega arith; has-key = omega arith; key-fits = s .lengths i h }
+
 key-ahead : (k : List ℕ) (x y : Row) → ahead x y ≡ true → before (y .key) k ≡ true → before (x .key) k ≡ true
 key-ahead k x y d e =
     elim (or-one (before (x .key) (y .key)) _ d) [
@@ -105,42 +112,111 @@ key-ahead k x y d e =
 abbrev pub versionRow : List ℕ → ℕ → Row
 versionRow k v = record { number = v; kind = 0; created = 0; body = 0; size = 0; mode = 0; until = 0; hold = 0; key = k }
 
-module _ (n b : List ℕ) (u : ℕ) (k : List ℕ) where
-  pub key-most : keyPlace k (rowsOf n b u) ≤ u
+-- what holds at each turn: the place m is from low to high
+pub record Between (n b : List ℕ) (u m low high : ℕ) : Type 0 where
+  pub searchable : Searchable n b u
+  pub top : high ≤ u
+  pub from : low ≤ m
+  pub to : m ≤ high
+
+abbrev middle : ℕ → ℕ → ℕ
+middle low high = low + (high - low) / 2
+
+module _ (n b : List ℕ) (u m low high : ℕ) (w : Between n b u m low high) where
+  pub middle-length : low < high → getD b (64 * middle low high) 0 ≤ 63
+  middle-length h = w .searchable .lengths (middle low high) (omega arith)
+
+  pub middle-row : low < high → HasRow n b (middle low high)
+  middle-row h = has-row n b u (middle low high) (w .searchable) (omega arith)
+
+  pub halving-end : low ≤ m → high ≤ low → Within low m u
+  halving-end g h = record { is = omega arith; most = omega arith }
+
+module _ (n b : List ℕ) (u : ℕ) (k : List ℕ) (s : Searchable n b u) where
+  pub key-start : Between n b u (keyPlace k (rowsOf n b u)) 0 u
   unfolding keyPlace
-  key-most = rw (rows-length n b u) at (leading-most (λ x. before (x .key) k) (rowsOf n b u))
+  key-start =
+      record { searchable = s; top = omega arith; from = omega arith; to = rw (rows-length n b u) at (leading-most (λ x. before (x .key) k) (rowsOf n b u)) }
 
-  pub key-passed : (r : Bool) (i : ℕ) → Searchable n b u → i < u → r ≡ before (keyAt b i) k → r ≡ true → i + 1 ≤ keyPlace k (rowsOf n b u)
+  pub version-start : (v : ℕ) → Between n b u (versionPlace k v (rowsOf n b u)) 0 u
+  unfolding versionPlace
+  version-start v =
+      record { searchable = s; top = omega arith; from = omega arith; to = rw (rows-length n b u) at (leading-most (λ x. ahead x (versionRow k v)) (rowsOf n b u)) }
+
+module _ (n b : List ℕ) (u : ℕ) (k : List ℕ) (low high : ℕ) (r : Bool) (w : Between n b u (keyPlace k (rowsOf n b u)) low high) (h : low < high)
+    (e : r ≡ before (keyAt b (middle low high)) k) where
+  pub key-passed : r ≡ true → Between n b u (keyPlace k (rowsOf n b u)) (middle low high + 1) high
   unfolding keyPlace
-  key-passed r i s h e t =
-      let p = leading-passes (λ x. before (x .key) k) (key-ahead k) (rowsOf n b u) i (rowAt n b i) (s .in-order) (rows-row n b u i h) (sym e ∙ t) in
-      omega arith
+  key-passed t =
+      let p =
+      leading-passes (λ x. before (x .key) k) (key-ahead k) (rowsOf n b u) (middle low high) (rowAt n b (middle low high)) (w .searchable .in-order)
+      (rows-row n b u (middle low high) (omega arith)) (sym e ∙ t) in
+      record { searchable = w .searchable; top = w .top; from = omega arith; to = w .to }
 
-  pub key-stopped : (r : Bool) (i : ℕ) → i < u → r ≡ before (keyAt b i) k → r ≡ false → keyPlace k (rowsOf n b u) ≤ i
+  pub key-stopped : r ≡ false → Between n b u (keyPlace k (rowsOf n b u)) low (middle low high)
   unfolding keyPlace
-  key-stopped r i h e t = leading-stops (λ x. before (x .key) k) (rowsOf n b u) i (rowAt n b i) (rows-row n b u i h) (sym e ∙ t)
+  key-stopped t =
+      let p = leading-stops (λ x. before (x .key) k) (rowsOf n b u) (middle low high) (rowAt n b (middle low high)) (rows-row n b u (middle low high) (omega arith)) (sym e ∙ t) in
+      record { searchable = w .searchable; top = omega arith; from = w .from; to = omega arith }
 
-module _ (n b : List ℕ) (u : ℕ) (k : List ℕ) (v : ℕ) where
-  pub version-most : versionPlace k v (rowsOf n b u) ≤ u
+module _ (n b : List ℕ) (u : ℕ) (k : List ℕ) (v low high : ℕ) (r : Bool) (w : Between n b u (versionPlace k v (rowsOf n b u)) low high) (h : low < high)
+    (e : r ≡ (before (keyAt b (middle low high)) k || (same (keyAt b (middle low high)) k && ltb v (getD n (8 * middle low high) 0)))) where
+  pub version-passed : r ≡ true → Between n b u (versionPlace k v (rowsOf n b u)) (middle low high + 1) high
   unfolding versionPlace
-  version-most = rw (rows-length n b u) at (leading-most (λ x. ahead x (versionRow k v)) (rowsOf n b u))
+  version-passed t =
+      let q : ahead (rowAt n b (middle low high)) (versionRow k v) ≡ true = rw (number-at n b (middle low high)) (sym e ∙ t) in
+      let p =
+      leading-passes (λ x. ahead x (versionRow k v)) (λ x y. ahead-trans x y (versionRow k v)) (rowsOf n b u) (middle low high) (rowAt n b (middle low high))
+      (w .searchable .in-order) (rows-row n b u (middle low high) (omega arith)) q in
+      record { searchable = w .searchable; top = w .top; from = omega arith; to = w .to }
 
-  pub version-passed : (r : Bool) (i : ℕ) → Searchable n b u → i < u → r ≡ (before (keyAt b i) k || (same (keyAt b i) k && ltb v (getD n (8 * i) 0))) → r ≡ true
-      → i + 1 ≤ versionPlace k v (rowsOf n b u)
+  pub version-stopped : r ≡ false → Between n b u (versionPlace k v (rowsOf n b u)) low (middle low high)
   unfolding versionPlace
-  version-passed r i s h e t =
-      let q : ahead (rowAt n b i) (versionRow k v) ≡ true = rw (number-at n b i) (sym e ∙ t) in
-      let p = leading-passes (λ x. ahead x (versionRow k v)) (λ x y. ahead-trans x y (versionRow k v)) (rowsOf n b u) i (rowAt n b i) (s .in-order) (rows-row n b u i h) q in
-      omega arith
+  version-stopped t =
+      let q : ahead (rowAt n b (middle low high)) (versionRow k v) ≡ false = rw (number-at n b (middle low high)) (sym e ∙ t) in
+      let p =
+      leading-stops (λ x. ahead x (versionRow k v)) (rowsOf n b u) (middle low high) (rowAt n b (middle low high))
+      (rows-row n b u (middle low high) (omega arith)) q in
+      record { searchable = w .searchable; top = omega arith; from = w .from; to = omega arith }
 
-  pub version-stopped : (r : Bool) (i : ℕ) → i < u → r ≡ (before (keyAt b i) k || (same (keyAt b i) k && ltb v (getD n (8 * i) 0))) → r ≡ false
-      → versionPlace k v (rowsOf n b u) ≤ i
-  unfolding versionPlace
-  version-stopped r i h e t =
-      let q : ahead (rowAt n b i) (versionRow k v) ≡ false = rw (number-at n b i) (sym e ∙ t) in
-      leading-stops (λ x. ahead x (versionRow k v)) (rowsOf n b u) i (rowAt n b i) (rows-row n b u i h) q
+pub ruleset halving = (middle-length, middle-row, halving-end, key-start, key-passed, key-stopped, version-start, version-passed, version-stopped)
 
-pub ruleset halving = (key-most, key-passed, key-stopped, version-most, version-passed, version-stopped)
+-- ## What stands at the place
 
-pub has-row : (n b : List ℕ) (u i : ℕ) → Searchable n b u → i < u → HasRow n b i
-has-row n b u i s h = record { has-numbers = omega arith; has-key = omega arith; key-fits = s .lengths i h }
+module _ (n b : List ℕ) (u : ℕ) (p : Row → Bool) (i m : ℕ) (w : Within i m u) where
+  pub found-end : u ≤ i → Place i ≡ foundIf p (rowsOf n b u) m
+  found-end h = rw (sym (w .is), drop-of-length-le (rowsOf n b u) {i = i} (rw (rows-length n b u) h))
+
+  pub found-yes : (r : Bool) → i < u → r ≡ p (rowAt n b i) → r ≡ true → At i ≡ foundIf p (rowsOf n b u) m
+  found-yes r h e t = rw (sym (w .is), rows-row n b u i h, sym e ∙ t)
+
+  pub found-no : (r : Bool) → i < u → r ≡ p (rowAt n b i) → r ≡ false → Place i ≡ foundIf p (rowsOf n b u) m
+  found-no r h e t = rw (sym (w .is), rows-row n b u i h, sym e ∙ t)
+
+module _ (n b : List ℕ) (u : ℕ) (k : List ℕ) (i : ℕ) (w : Within i (keyPlace k (rowsOf n b u)) u) where
+  pub current-end : u ≤ i → Place i ≡ currentIn k (rowsOf n b u)
+  unfolding currentIn
+  current-end h = found-end n b u (λ x. same (x .key) k) i _ w h
+
+  pub current-yes : (r : Bool) → i < u → r ≡ same (keyAt b i) k → r ≡ true → At i ≡ currentIn k (rowsOf n b u)
+  unfolding currentIn
+  current-yes r h e t = found-yes n b u (λ x. same (x .key) k) i _ w r h e t
+
+  pub current-no : (r : Bool) → i < u → r ≡ same (keyAt b i) k → r ≡ false → Place i ≡ currentIn k (rowsOf n b u)
+  unfolding currentIn
+  current-no r h e t = found-no n b u (λ x. same (x .key) k) i _ w r h e t
+
+module _ (n b : List ℕ) (u : ℕ) (k : List ℕ) (v i : ℕ) (w : Within i (versionPlace k v (rowsOf n b u)) u) where
+  pub version-end : u ≤ i → Place i ≡ versionIn k v (rowsOf n b u)
+  unfolding versionIn
+  version-end h = found-end n b u (λ x. same (x .key) k && eqb (x .number) v) i _ w h
+
+  pub version-yes : (r : Bool) → i < u → r ≡ (same (keyAt b i) k && eqb (getD n (8 * i) 0) v) → r ≡ true → At i ≡ versionIn k v (rowsOf n b u)
+  unfolding versionIn
+  version-yes r h e t = found-yes n b u (λ x. same (x .key) k && eqb (x .number) v) i _ w r h (e ∙ rw (number-at n b i)) t
+
+  pub version-no : (r : Bool) → i < u → r ≡ (same (keyAt b i) k && eqb (getD n (8 * i) 0) v) → r ≡ false → Place i ≡ versionIn k v (rowsOf n b u)
+  unfolding versionIn
+  version-no r h e t = found-no n b u (λ x. same (x .key) k && eqb (x .number) v) i _ w r h (e ∙ rw (number-at n b i)) t
+
+pub ruleset finding = (has-length, has-row, current-end, current-yes, current-no, version-end, version-yes, version-no)

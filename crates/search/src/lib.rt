@@ -136,3 +136,100 @@ fn row_ahead(rows: &[u64], keys: &[u8], at: usize, key: &[u8], version: u64) -> 
         Order::After => false,
     }
 }
+
+// The row at a position has the key.
+fn has_key(keys: &[u8], at: usize, key: &[u8]) -> bool
+    requires { ⌜ (64 * at + 64 ≤ length (now keys)) × (getD (now keys) (64 * at) 0 ≤ 63) ⌝ }
+    ensures { λ r. ⌜ r ≡ same (keyAt (now (keys .entry)) at) (now (key .entry)) ⌝ }
+{
+    let o = order_at(keys, at, key);
+    match o {
+        Order::Before => false,
+        Order::Same => true,
+        Order::After => false,
+    }
+}
+
+// The row at a position is the key's version.
+fn has_version(rows: &[u64], keys: &[u8], at: usize, key: &[u8], version: u64) -> bool
+    requires { ⌜ HasRow (now rows) (now keys) at ⌝ }
+    ensures { λ r. ⌜ r ≡ (same (keyAt (now (keys .entry)) at) (now (key .entry)) && eqb (getD (now (rows .entry)) (8 * at) 0) version) ⌝ }
+{
+    if has_key(keys, at, key) {
+        let first = 8 * at;
+        return rows[first] == version;
+    }
+    false
+}
+
+// Where the key's rows start or would start.
+fn key_place(rows: &[u64], keys: &[u8], used: usize, key: &[u8]) -> usize
+    requires { ⌜ Searchable (now rows) (now keys) used ⌝ }
+    ensures { λ r. ⌜ Within r (keyPlace (now (key .entry)) (rowsOf (now (rows .entry)) (now (keys .entry)) used)) used ⌝ }
+{
+    let mut low = 0;
+    let mut high = used;
+    while low < high {
+        let middle = low + (high - low) / 2;
+        if key_before(keys, middle, key) {
+            low = middle + 1;
+        } else {
+            high = middle;
+        }
+    }
+    low
+}
+
+// Where the key's version stands or would stand.
+fn version_place(rows: &[u64], keys: &[u8], used: usize, key: &[u8], version: u64) -> usize
+    requires { ⌜ Searchable (now rows) (now keys) used ⌝ }
+    ensures { λ r. ⌜ Within r (versionPlace (now (key .entry)) version (rowsOf (now (rows .entry)) (now (keys .entry)) used)) used ⌝ }
+{
+    let mut low = 0;
+    let mut high = used;
+    while low < high {
+        let middle = low + (high - low) / 2;
+        if row_ahead(rows, keys, middle, key, version) {
+            low = middle + 1;
+        } else {
+            high = middle;
+        }
+    }
+    low
+}
+
+// A key's current version, which is its first row, or the place where the key belongs.
+pub fn find_current(rows: &[u64], keys: &[u8], used: usize, key: &[u8]) -> Found
+    requires { ⌜ Searchable (now rows) (now keys) used ⌝ }
+    ensures { λ r. ⌜ r ≡ currentIn (now (key .entry)) (rowsOf (now (rows .entry)) (now (keys .entry)) used) ⌝ }
+{
+    let at = key_place(rows, keys, used, key);
+    if used <= at {
+        return Found::Place(at);
+    }
+    if has_key(keys, at, key) {
+        return Found::At(at);
+    }
+    Found::Place(at)
+}
+
+// A key's version, or the place where it belongs.
+pub fn find_version(
+    rows: &[u64],
+    keys: &[u8],
+    used: usize,
+    key: &[u8],
+    version: u64,
+) -> Found
+    requires { ⌜ Searchable (now rows) (now keys) used ⌝ }
+    ensures { λ r. ⌜ r ≡ versionIn (now (key .entry)) version (rowsOf (now (rows .entry)) (now (keys .entry)) used) ⌝ }
+{
+    let at = version_place(rows, keys, used, key, version);
+    if used <= at {
+        return Found::Place(at);
+    }
+    if has_version(rows, keys, at, key, version) {
+        return Found::At(at);
+    }
+    Found::Place(at)
+}
