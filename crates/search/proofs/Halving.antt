@@ -129,55 +129,58 @@ module _ (n b : List ℕ) (u m low high : ℕ) (w : Between n b u m low high) wh
   pub middle-row : low < high → HasRow n b (middle low high)
   middle-row h = has-row n b u (middle low high) (w .searchable) (omega arith)
 
-  pub halving-end : low ≤ m → high ≤ low → Within low m u
-  halving-end g h = record { is = omega arith; most = omega arith }
+  pub halving-end : high ≤ low → Within low m u
+  halving-end h = record { is = omega arith; most = omega arith }
 
-module _ (n b : List ℕ) (u : ℕ) (k : List ℕ) (s : Searchable n b u) where
-  pub key-start : Between n b u (keyPlace k (rowsOf n b u)) 0 u
-  unfolding keyPlace
-  key-start =
-      record { searchable = s; top = omega arith; from = omega arith; to = rw (rows-length n b u) at (leading-most (λ x. before (x .key) k) (rowsOf n b u)) }
+-- A test that each row passes that is ahead of one that passes.
+module _ (q : Row → Bool) (falls : (x y : Row) → ahead x y ≡ true → q y ≡ true → q x ≡ true) (n b : List ℕ) (u : ℕ) where
+  start : Searchable n b u → Between n b u (leading q (rowsOf n b u)) 0 u
+  start s = record { searchable = s; top = omega arith; from = omega arith; to = rw (rows-length n b u) at (leading-most q (rowsOf n b u)) }
 
-  pub version-start : (v : ℕ) → Between n b u (versionPlace k v (rowsOf n b u)) 0 u
-  unfolding versionPlace
-  version-start v =
-      record { searchable = s; top = omega arith; from = omega arith; to = rw (rows-length n b u) at (leading-most (λ x. ahead x (versionRow k v)) (rowsOf n b u)) }
-
-module _ (n b : List ℕ) (u : ℕ) (k : List ℕ) (low high : ℕ) (r : Bool) (w : Between n b u (keyPlace k (rowsOf n b u)) low high) (h : low < high)
-    (e : r ≡ before (keyAt b (middle low high)) k) where
-  pub key-passed : r ≡ true → Between n b u (keyPlace k (rowsOf n b u)) (middle low high + 1) high
-  unfolding keyPlace
-  key-passed t =
-      let p =
-      leading-passes (λ x. before (x .key) k) (key-ahead k) (rowsOf n b u) (middle low high) (rowAt n b (middle low high)) (w .searchable .in-order)
-      (rows-row n b u (middle low high) (omega arith)) (sym e ∙ t) in
+  passed : (low high : ℕ) → Between n b u (leading q (rowsOf n b u)) low high → low < high → q (rowAt n b (middle low high)) ≡ true
+      → Between n b u (leading q (rowsOf n b u)) (middle low high + 1) high
+  passed low high w h t =
+      let below : middle low high < u = omega arith in
+      let p = leading-passes q falls (rowsOf n b u) (middle low high) _ (w .searchable .in-order) (rows-row n b u (middle low high) below) t in
       record { searchable = w .searchable; top = w .top; from = omega arith; to = w .to }
 
-  pub key-stopped : r ≡ false → Between n b u (keyPlace k (rowsOf n b u)) low (middle low high)
+  stopped : (low high : ℕ) → Between n b u (leading q (rowsOf n b u)) low high → low < high → q (rowAt n b (middle low high)) ≡ false
+      → Between n b u (leading q (rowsOf n b u)) low (middle low high)
+  stopped low high w h t =
+      let below : middle low high < u = omega arith in
+      let p = leading-stops q (rowsOf n b u) (middle low high) _ (rows-row n b u (middle low high) below) t in
+      record { searchable = w .searchable; top = omega arith; from = w .from; to = omega arith }
+
+module _ (n b : List ℕ) (u : ℕ) (k : List ℕ) where
+  pub key-start : Searchable n b u → Between n b u (keyPlace k (rowsOf n b u)) 0 u
   unfolding keyPlace
-  key-stopped t =
-      let p = leading-stops (λ x. before (x .key) k) (rowsOf n b u) (middle low high) (rowAt n b (middle low high)) (rows-row n b u (middle low high) (omega arith)) (sym e ∙ t) in
-      record { searchable = w .searchable; top = omega arith; from = w .from; to = omega arith }
+  key-start s = start (λ x. before (x .key) k) (key-ahead k) n b u s
 
-module _ (n b : List ℕ) (u : ℕ) (k : List ℕ) (v low high : ℕ) (r : Bool) (w : Between n b u (versionPlace k v (rowsOf n b u)) low high) (h : low < high)
-    (e : r ≡ (before (keyAt b (middle low high)) k || (same (keyAt b (middle low high)) k && ltb v (getD n (8 * middle low high) 0)))) where
-  pub version-passed : r ≡ true → Between n b u (versionPlace k v (rowsOf n b u)) (middle low high + 1) high
-  unfolding versionPlace
-  version-passed t =
-      let q : ahead (rowAt n b (middle low high)) (versionRow k v) ≡ true = rw (number-at n b (middle low high)) (sym e ∙ t) in
-      let p =
-      leading-passes (λ x. ahead x (versionRow k v)) (λ x y. ahead-trans x y (versionRow k v)) (rowsOf n b u) (middle low high) (rowAt n b (middle low high))
-      (w .searchable .in-order) (rows-row n b u (middle low high) (omega arith)) q in
-      record { searchable = w .searchable; top = w .top; from = omega arith; to = w .to }
+  module _ (low high : ℕ) (r : Bool) (w : Between n b u (keyPlace k (rowsOf n b u)) low high) (h : low < high) (e : r ≡ before (keyAt b (middle low high)) k) where
+    pub key-passed : r ≡ true → Between n b u (keyPlace k (rowsOf n b u)) (middle low high + 1) high
+    unfolding keyPlace
+    key-passed t = passed (λ x. before (x .key) k) (key-ahead k) n b u low high w h (sym e ∙ t)
 
-  pub version-stopped : r ≡ false → Between n b u (versionPlace k v (rowsOf n b u)) low (middle low high)
+    pub key-stopped : r ≡ false → Between n b u (keyPlace k (rowsOf n b u)) low (middle low high)
+    unfolding keyPlace
+    key-stopped t = stopped (λ x. before (x .key) k) (key-ahead k) n b u low high w h (sym e ∙ t)
+
+module _ (n b : List ℕ) (u : ℕ) (k : List ℕ) (v : ℕ) where
+  pub version-start : Searchable n b u → Between n b u (versionPlace k v (rowsOf n b u)) 0 u
   unfolding versionPlace
-  version-stopped t =
-      let q : ahead (rowAt n b (middle low high)) (versionRow k v) ≡ false = rw (number-at n b (middle low high)) (sym e ∙ t) in
-      let p =
-      leading-stops (λ x. ahead x (versionRow k v)) (rowsOf n b u) (middle low high) (rowAt n b (middle low high))
-      (rows-row n b u (middle low high) (omega arith)) q in
-      record { searchable = w .searchable; top = omega arith; from = w .from; to = omega arith }
+  version-start s = start (λ x. ahead x (versionRow k v)) (λ x y. ahead-trans x y (versionRow k v)) n b u s
+
+  module _ (low high : ℕ) (r : Bool) (w : Between n b u (versionPlace k v (rowsOf n b u)) low high) (h : low < high)
+      (e : r ≡ (before (keyAt b (middle low high)) k || (same (keyAt b (middle low high)) k && ltb v (getD n (8 * middle low high) 0)))) where
+    pub version-passed : r ≡ true → Between n b u (versionPlace k v (rowsOf n b u)) (middle low high + 1) high
+    unfolding versionPlace
+    version-passed t =
+        passed (λ x. ahead x (versionRow k v)) (λ x y. ahead-trans x y (versionRow k v)) n b u low high w h (rw (number-at n b (middle low high)) (sym e ∙ t))
+
+    pub version-stopped : r ≡ false → Between n b u (versionPlace k v (rowsOf n b u)) low (middle low high)
+    unfolding versionPlace
+    version-stopped t =
+        stopped (λ x. ahead x (versionRow k v)) (λ x y. ahead-trans x y (versionRow k v)) n b u low high w h (rw (number-at n b (middle low high)) (sym e ∙ t))
 
 pub ruleset halving = (middle-length, middle-row, halving-end, key-start, key-passed, key-stopped, version-start, version-passed, version-stopped)
 

@@ -49,3 +49,8 @@ versionIn k v xs = foundIf (λ x. same (x .key) k && eqb (x .number) v) xs (vers
 abbrev pub rowFound : List Row → Found → Option Row
 rowFound xs (At i) = rowFrom xs i
 rowFound xs (Place i) = none
+
+-- its position
+abbrev pub placeFound : Found → ℕ
+placeFound (At i) = i
+placeFound (Place i) = i
