@@ -1,7 +1,7 @@
 -- Keys in their 64 bytes, computed.
 use mathlib.Core.Path.{_≡_, refl}
 use mathlib.Core.Bool.{true, false}
-use mathlib.Core.List.{[], _∷_, _++_}
+use mathlib.Core.List.{[], _∷_}
 use lib.ListN.{replicate}
 use Rattle.buffers.specs.Texts.{bytes}
 use Rattle.blocks.specs.Blocks.{blockOf, keyIn, isBlock}

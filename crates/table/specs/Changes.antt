@@ -1,6 +1,6 @@
 -- The changes of a table by position.
 use Prim.Native.Nat.{ℕ, suc}
-use mathlib.Core.List.{List, [], _∷_, _++_}
+use mathlib.Core.List.{List, _∷_, _++_}
 use lib.ListN.{take, drop}
 use Rattle.model.specs.Rows.{Row}
 

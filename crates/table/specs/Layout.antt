@@ -1,7 +1,7 @@
 -- 01, "Rows and settings": the rows as numbers and key bytes in two buffers, and the rows that two buffers hold.
 use Prim.Native.Nat.{ℕ, zero, suc, _*_, _/_, _≤_}
 use mathlib.Core.Path.{_≡_}
-use mathlib.Core.Bool.{Bool, true, false}
+use mathlib.Core.Bool.{Bool, true}
 use mathlib.Core.List.{List, [], _∷_, _++_}
 use lib.Dec.{leb}
 use lib.ListN.{length, getD, take, drop, replicate}
@@ -33,8 +33,15 @@ keysOf (suc c) (x ∷ xs) = blockOf (x .key) ++ keysOf c xs
 abbrev pub rowIn : List ℕ → List ℕ → Row
 rowIn ns block =
     record {
-      number = getD ns 0 0; kind = getD ns 1 0; created = getD ns 2 0; body = getD ns 3 0;
-      size = getD ns 4 0; mode = getD ns 5 0; until = getD ns 6 0; hold = getD ns 7 0; key = keyIn block
+      number = getD ns 0 0;
+      kind = getD ns 1 0;
+      created = getD ns 2 0;
+      body = getD ns 3 0;
+      size = getD ns 4 0;
+      mode = getD ns 5 0;
+      until = getD ns 6 0;
+      hold = getD ns 7 0;
+      key = keyIn block;
     }
 
 -- the row at a position, counted from 0

@@ -1,2 +1,5 @@
 pub mod Layout
 pub mod Changes
+pub mod Places
+pub mod Moves
+pub mod Examples

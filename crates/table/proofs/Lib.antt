@@ -1,0 +1,6 @@
+pub mod Lists
+pub mod Pieces
+pub mod Laying
+pub mod Held
+pub mod Changes
+pub mod Steps

@@ -1,0 +1,12 @@
+-- `rewrite_row` meets its contract.
+use Rattle.table.proofs.Steps.{row-cases}
+use borrow.Author.Needs.{needs}
+use Rattle.table.proofs.rewrite_row.Statement.{statement}
+use Rattle.table.proofs.rewrite_row.Tie as tie
+
+pub rewrite-row-spec : {M : Type 1} → statement M
+rewrite-row-spec = tie.close
+    (tie.spec
+    (λ c κs. search (needs, row-cases))
+    (λ c. search needs)
+    (λ c. search (needs, row-cases)))
