@@ -14,66 +14,20 @@ use Rattle.buffers.specs.Lists.{all, same}
 use Rattle.buffers.specs.Ranges.{Within}
 use Rattle.buffers.proofs.Tests.{either, clash, and-l, and-r, or-l, or-r, or-one}
 use Rattle.buffers.proofs.Lists.{same-path}
-use Rattle.blocks.specs.Blocks.{keyIn}
-use Rattle.table.specs.Layout.{rowIn, rowAt, rowsOf}
+use Rattle.table.specs.Layout.{rowAt, rowsOf}
+use Rattle.table.specs.Places.{keyAt}
+use Rattle.table.proofs.Held.{rows-length}
 use Rattle.model.specs.Rows.{Row, before, ahead, ordered}
 use Rattle.model.proofs.Order.{before-trans, ahead-trans}
 use Rattle.search.specs.Places.{leading, rowFrom, foundIf, keyPlace, currentIn, versionPlace, versionIn}
-use Rattle.search.specs.Searching.{keyAt, HasRow, Searchable}
-use Rattle.search.specs.declared.Order.{Order}
-use Rattle.search.specs.declared.Order.the-variants.{Before, Same, After}
+use Rattle.search.specs.Searching.{HasRow, Searchable}
 use Rattle.search.specs.declared.Found.{Found}
 use Rattle.search.specs.declared.Found.the-variants.{At, Place}
-
--- ## Rows by position
-
-no-row : (i : ℕ) (y : Row) → rowFrom [] i ≡ some y → ⊥
-no-row zero y f = let z : _≡_ {A = ℕ} 0 1 = cc in omega arith
-no-row (suc i) y f = let z : _≡_ {A = ℕ} 0 1 = cc in omega arith
-
--- What all rows pass, the row at a position passes.
-pub all-row : (p : Row → Bool) (xs : List Row) (i : ℕ) (y : Row) → all p xs ≡ true → rowFrom xs i ≡ some y → p y ≡ true
-all-row p [] i y e f = absurd (no-row i y f)
-all-row p (x ∷ xs) zero y e f = let g : x ≡ y = cc in rw g at (and-l (p x) _ e)
-all-row p (x ∷ xs) (suc i) y e f = all-row p xs i y (and-r (p x) _ e) f
-
-pub row-below : (xs : List Row) (i : ℕ) (y : Row) → rowFrom xs i ≡ some y → i < length xs
-row-below [] i y f = absurd (no-row i y f)
-row-below (x ∷ xs) zero y f = omega arith
-row-below (x ∷ xs) (suc i) y f = omega (arith, row-below xs i y f)
-
-pub rows-length : (n b : List ℕ) (u : ℕ) → length (rowsOf n b u) ≡ u
-rows-length n b zero = refl
-rows-length n b (suc u) = ap suc (rows-length (drop 8 n) (drop 64 b) u)
-
-pub rows-row : (n b : List ℕ) (u i : ℕ) → i < u → rowFrom (rowsOf n b u) i ≡ some (rowAt n b i)
-rows-row n b zero i h = absurd (omega arith)
-rows-row n b (suc u) zero h = refl
-rows-row n b (suc u) (suc i) h =
-    let p : 8 * suc i ≡ 8 + 8 * i = omega arith in
-    let q : 64 * suc i ≡ 64 + 64 * i = omega arith in
-    rw (p, q, ← drop-drop (8 * i) 8 n, ← drop-drop (64 * i) 64 b) (rows-row (drop 8 n) (drop 64 b) u i (omega arith))
-
-pub key-got : (b t : List ℕ) (f : ℕ) → t ≡ keyIn (take (f + 64 - f) (drop f b)) → t ≡ keyIn (take 64 (drop f b))
-key-got b t f e = let q : f + 64 - f ≡ 64 = omega arith in e ∙ rw q
-
-pub key-small : (b : List ℕ) (f : ℕ) → getD b f 0 ≤ 63 → getD (take (f + 64 - f) (drop f b)) 0 0 ≤ 63
-key-small b f k = let q : f + 64 - f ≡ 64 = omega arith in let z : f + 0 ≡ f = omega arith in rw (q, getD-take 64 (drop f b) 0 0 (omega arith), getD-drop f b 0 0, z) k
-
-number-at : (n b : List ℕ) (i : ℕ) → (rowAt n b i) .number ≡ getD n (8 * i) 0
-number-at n b i = let z : 8 * i + 0 ≡ 8 * i = omega arith in getD-take 8 (drop (8 * i) n) 0 0 (omega arith) ∙ getD-drop (8 * i) n 0 0 ∙ rw z
+use Rattle.search.proofs.Positions.{no-row, all-row, rows-row, number-at, leading-most}
 
 -- ## The rows that pass a test
 
 module _ (q : Row → Bool) where
-  pub leading-most : (xs : List Row) → leading q xs ≤ length xs
-  leading-most [] = omega arith
-  leading-most (x ∷ xs) =
-      elim (either (q x)) [
-        | inl t ↦ rw t (omega (arith, leading-most xs))
-        | inr t ↦ rw t (omega arith)
-      ]
-
   leading-stops : (xs : List Row) (i : ℕ) (y : Row) → rowFrom xs i ≡ some y → q y ≡ false → leading q xs ≤ i
   leading-stops [] i y f e = omega arith
   leading-stops (x ∷ xs) zero y f e = let g : x ≡ y = cc in rw (g, e) (omega arith)

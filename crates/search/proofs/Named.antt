@@ -22,7 +22,8 @@ use Rattle.table.specs.Changes.{insertAt, removeAt}
 use Rattle.search.specs.Places.{leading, headOf, rowFrom, foundIf, keyPlace, currentIn, versionPlace, versionIn, rowFound, placeFound}
 use Rattle.search.specs.declared.Found.{Found}
 use Rattle.search.specs.declared.Found.the-variants.{At, Place}
-use Rattle.search.proofs.Halving.{all-row, versionRow}
+use Rattle.search.proofs.Positions.{all-row, place-if}
+use Rattle.search.proofs.Halving.{versionRow}
 
 -- ## The row that is found
 
@@ -132,13 +133,6 @@ insert-place x [] = refl
 insert-place x (y ∷ ys) =
     elim (either (before (y .key) (x .key))) [
       | inl t ↦ rw t (ap (λ (l : List Row). y ∷ l) (insert-place x ys))
-      | inr t ↦ rw t
-    ]
-
-place-if : (p : Row → Bool) (xs : List Row) (i : ℕ) → placeFound (foundIf p xs i) ≡ i
-place-if p xs i =
-    elim (either (thenSome (rowFrom xs i) false p)) [
-      | inl t ↦ rw t
       | inr t ↦ rw t
     ]
 

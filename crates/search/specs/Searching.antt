@@ -3,14 +3,9 @@ use Prim.Native.Nat.{ℕ, _+_, _*_, _≤_, _<_}
 use mathlib.Core.Path.{_≡_}
 use mathlib.Core.Bool.{true}
 use mathlib.Core.List.{List}
-use lib.ListN.{length, getD, take, drop}
-use Rattle.blocks.specs.Blocks.{keyIn}
+use lib.ListN.{length, getD}
 use Rattle.table.specs.Layout.{rowsOf}
 use Rattle.model.specs.Rows.{ordered}
-
--- the key of the row at a position
-abbrev pub keyAt : List ℕ → ℕ → List ℕ
-keyAt keys i = keyIn (take 64 (drop (64 * i) keys))
 
 -- a row is there, and its key's length is at most 63
 pub record HasRow (rows keys : List ℕ) (i : ℕ) : Type 0 where

@@ -8,9 +8,10 @@ ghost use Rattle.buffers.specs.Lists.{same};
 ghost use Rattle.buffers.specs.Ranges.{Within};
 ghost use Rattle.model.specs.Rows.{before};
 ghost use Rattle.table.specs.Layout.{rowsOf};
+ghost use Rattle.table.specs.Places.{keyAt};
 ghost use Rattle.search.specs.Keys.{isOrder, rank};
 ghost use Rattle.search.specs.Places.{keyPlace, versionPlace, currentIn, versionIn};
-ghost use Rattle.search.specs.Searching.{keyAt, HasRow, Searchable};
+ghost use Rattle.search.specs.Searching.{HasRow, Searchable};
 
 // How one key stands to another.
 pub enum Order {
@@ -91,22 +92,12 @@ pub fn compare_keys(a: &[u8], b: &[u8]) -> Order
     compare_from(a, b, i)
 }
 
-// The key of the row at a position, as a part of the key bytes.
-fn key_at(keys: &[u8], at: usize) -> &[u8]
-    requires { ⌜ (64 * at + 64 ≤ length (now keys)) × (getD (now keys) (64 * at) 0 ≤ 63) ⌝ }
-    ensures { λ r. ⌜ now r ≡ keyAt (now (keys .entry)) at ⌝ }
-{
-    let first = 64 * at;
-    let end = first + 64;
-    blocks::key_in(&keys[first..end])
-}
-
 // The key of the row at a position, against a key.
 fn order_at(keys: &[u8], at: usize, key: &[u8]) -> Order
     requires { ⌜ (64 * at + 64 ≤ length (now keys)) × (getD (now keys) (64 * at) 0 ≤ 63) ⌝ }
     ensures { λ r. ⌜ isOrder r (keyAt (now (keys .entry)) at) (now (key .entry)) ≡ true ⌝ }
 {
-    let stored = key_at(keys, at);
+    let stored = table::key_at(keys, at);
     compare_keys(stored, key)
 }
 

@@ -5,7 +5,6 @@ use Rattle.search.proofs.order_at.Tie as tie
 use Rattle.search.proofs.order_at.Reads as reads
 use Rattle.search.proofs.order_at.Lts as lts
 use Rattle.search.proofs.compare_keys.Reads as compare-keys-reads
-use Rattle.search.proofs.key_at.Reads as key-at-reads
 
 -- src/lib.rt:109:9
 key-at-requires : tie.Need-key-at-requires
