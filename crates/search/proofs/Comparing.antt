@@ -1,0 +1,246 @@
+-- Keys compared: byte by byte, and eight bytes at once.
+use Prim.Native.Nat.{ℕ, zero, suc, _+_, _-_, _*_, _^_, _≤_, _<_}
+use mathlib.Core.Path.{_≡_, refl, sym, ap, _∙_}
+use mathlib.Core.Logic.{inl, inr}
+use mathlib.Core.Bool.{Bool, true, false, _&&_, _||_}
+use mathlib.Core.List.{List, [], _∷_}
+use native.Mathlib.Omega.{arith}
+use native.Mathlib.Numerals.{add-one}
+use native.Mathlib.Nat.{mul-le-mul-right, suc-mul, pow-succ'}
+use lib.Dec.{eqb, ltb}
+use lib.ListN.{length, getD, drop, length-drop, drop-of-length-le}
+use lib.Seq.{drop-drop, getD-drop}
+use borrow.Author.Tests.{eq-eqb, eqb-true, eqb-false, lt-ltb, le-ltb, ltb-true, ltb-false}
+use Rattle.buffers.specs.Ranges.{Within}
+use Rattle.buffers.specs.Words.{AllBytes}
+use Rattle.buffers.specs.Lists.{same}
+use Rattle.buffers.proofs.Tests.{either, clash, or-l, or-r, and-i}
+use Rattle.buffers.proofs.Lists.{same-path}
+use Rattle.text.proofs.Scans.{next}
+use Rattle.model.specs.Rows.{before}
+use Rattle.model.proofs.Order.{before-trans, before-irrefl}
+use Rattle.search.specs.Keys.{isOrder, rank}
+use Rattle.search.specs.declared.Order.{Order}
+use Rattle.search.specs.declared.Order.the-variants.{Before, Same, After}
+
+-- two keys stand as two others do
+pub record Alike (a b s t : List ℕ) : Type 0 where
+  pub alike : (o : Order) → isOrder o a b ≡ isOrder o s t
+
+-- ## Byte by byte
+
+same-head : (o : Order) (x y : ℕ) (s t : List ℕ) → x ≡ y → isOrder o (x ∷ s) (y ∷ t) ≡ isOrder o s t
+same-head Before x y s t e = simp (le-ltb x y (omega arith), eq-eqb x y e)
+same-head Same x y s t e = rw (eq-eqb x y e)
+same-head After x y s t e = simp (le-ltb y x (omega arith), eq-eqb y x (sym e))
+
+pub alike-start : (a b : List ℕ) → Alike a b a b
+alike-start a b = record { alike = λ o. refl }
+
+module _ (a b s t : List ℕ) (i : ℕ) (l : Alike a b (drop i s) (drop i t)) where
+  pub keys-longer : i < length s → length t ≤ i → isOrder After a b ≡ true
+  keys-longer h k = l .alike After ∙ rw (next s i h, drop-of-length-le t k)
+
+  pub keys-less : i < length s → i < length t → getD s i 0 < getD t i 0 → isOrder Before a b ≡ true
+  keys-less h k q = l .alike Before ∙ rw (next s i h, next t i k, lt-ltb _ _ q)
+
+  pub keys-more : i < length s → i < length t → getD t i 0 < getD s i 0 → isOrder After a b ≡ true
+  keys-more h k q = l .alike After ∙ rw (next s i h, next t i k, lt-ltb _ _ q)
+
+  pub keys-again : i < length s → i < length t → getD t i 0 ≤ getD s i 0 → getD s i 0 ≤ getD t i 0 → Alike a b (drop (i + 1) s) (drop (i + 1) t)
+  keys-again h k p q = record { alike = λ o. l .alike o ∙ rw (next s i h, next t i k) (same-head o (getD s i 0) (getD t i 0) _ _ (omega arith)) }
+
+  pub keys-shorter : length s ≤ i → i < length t → isOrder Before a b ≡ true
+  keys-shorter h k = l .alike Before ∙ rw (drop-of-length-le s h, next t i k)
+
+  pub keys-both : length s ≤ i → length t ≤ i → isOrder Same a b ≡ true
+  keys-both h k = l .alike Same ∙ rw (drop-of-length-le s h, drop-of-length-le t k)
+
+pub ruleset byte-cases = (alike-start, keys-longer, keys-less, keys-more, keys-again, keys-shorter, keys-both)
+
+-- ## Eight bytes at once
+
+next-rank : (b : List ℕ) (i j k : ℕ) → j ≡ i + 1 → i < length b → rank (suc k) (drop i b) ≡ getD b i 0 * 256 ^ k + rank k (drop j b)
+unfolding rank
+next-rank b i j k e h = rw (e, next b i h)
+
+no-rank : (b : List ℕ) → rank 0 b ≡ 0
+unfolding rank
+no-rank b = refl
+
+pub rank-sum : (b : List ℕ) (i r0 r1 r2 r3 r4 r5 r6 r7 : ℕ) → i + 8 ≤ length b
+    → Within r7 (getD b (i + 7) 0) 255 → Within r6 (getD b (i + 6) 0) 255 → Within r5 (getD b (i + 5) 0) 255 → Within r4 (getD b (i + 4) 0) 255
+    → Within r3 (getD b (i + 3) 0) 255 → Within r2 (getD b (i + 2) 0) 255 → Within r1 (getD b (i + 1) 0) 255 → Within r0 (getD b i 0) 255
+    → r7 + r6 * 256 + r5 * 65536 + r4 * 16777216 + r3 * 4294967296 + r2 * 1099511627776 + r1 * 281474976710656 + r0 * 72057594037927936 ≡ rank 8 (drop i b)
+rank-sum b i r0 r1 r2 r3 r4 r5 r6 r7 h w7 w6 w5 w4 w3 w2 w1 w0 =
+    let e0 = next-rank b i (i + 1) 7 refl (omega arith) in
+    let e1 = next-rank b (i + 1) (i + 2) 6 (omega arith) (omega arith) in
+    let e2 = next-rank b (i + 2) (i + 3) 5 (omega arith) (omega arith) in
+    let e3 = next-rank b (i + 3) (i + 4) 4 (omega arith) (omega arith) in
+    let e4 = next-rank b (i + 4) (i + 5) 3 (omega arith) (omega arith) in
+    let e5 = next-rank b (i + 5) (i + 6) 2 (omega arith) (omega arith) in
+    let e6 = next-rank b (i + 6) (i + 7) 1 (omega arith) (omega arith) in
+    let e7 = next-rank b (i + 7) (i + 8) 0 (omega arith) (omega arith) in
+    let e8 = no-rank (drop (i + 8) b) in
+    omega arith
+
+rank-bound : (k : ℕ) (s : List ℕ) → AllBytes s → rank k s < 256 ^ k
+unfolding rank
+rank-bound zero s h = omega arith
+rank-bound (suc k) [] h = omega (arith, pow-succ' 256 k, rank-bound k [] (λ j. h j))
+rank-bound (suc k) (x ∷ s) h =
+    let m : suc x * 256 ^ k ≤ 256 * 256 ^ k = mul-le-mul-right (256 ^ k) (h 0) in
+    omega (arith, suc-mul x (256 ^ k), rank-bound k s (λ j. h (suc j)), pow-succ' 256 k)
+
+-- A greater first byte is a greater number.
+greater : (x y p q r : ℕ) → p < r → x < y → x * r + p < y * r + q
+greater x y p q r h l = let m : suc x * r ≤ y * r = mul-le-mul-right r l in omega (arith, suc-mul x r)
+
+-- A smaller number is that of the key before.
+rank-less : (k : ℕ) (s t : List ℕ) → AllBytes s → AllBytes t → k ≤ length s → k ≤ length t → rank k s < rank k t → before s t ≡ true
+unfolding rank
+rank-less zero s t p q h g l = absurd (omega arith)
+rank-less (suc k) [] t p q h g l = absurd (omega arith)
+rank-less (suc k) (x ∷ s) [] p q h g l = absurd (omega arith)
+rank-less (suc k) (x ∷ s) (y ∷ t) p q h g l =
+    elim (either (ltb x y)) [
+      | inl e ↦ or-l (ltb x y) _ e
+      | inr e ↦ elim (either (eqb x y)) [
+        | inl d ↦
+            let m : x * 256 ^ k ≡ y * 256 ^ k = ap (λ (z : ℕ). z * 256 ^ k) (eqb-true x y d) in
+            or-r (ltb x y) _ (and-i (eqb x y) _ d (rank-less k s t (λ j. p (suc j)) (λ j. q (suc j)) (omega arith) (omega arith) (omega arith)))
+        | inr d ↦ absurd (omega (arith, eqb-false x y d, greater y x (rank k t) (rank k s) (256 ^ k) (rank-bound k t (λ j. q (suc j))) (omega (arith, ltb-false x y e, eqb-false x y d))))
+      ]
+    ]
+
+-- Equal numbers are those of equal bytes.
+rank-same : (k : ℕ) (s t : List ℕ) → AllBytes s → AllBytes t → k ≤ length s → k ≤ length t → rank k s ≡ rank k t → Alike s t (drop k s) (drop k t)
+unfolding rank
+rank-same zero s t p q h g l = alike-start s t
+rank-same (suc k) [] t p q h g l = absurd (omega arith)
+rank-same (suc k) (x ∷ s) [] p q h g l = absurd (omega arith)
+rank-same (suc k) (x ∷ s) (y ∷ t) p q h g l =
+    elim (either (ltb x y)) [
+      | inl e ↦ absurd (omega (arith, greater x y (rank k s) (rank k t) (256 ^ k) (rank-bound k s (λ j. p (suc j))) (ltb-true x y e)))
+      | inr e ↦ elim (either (ltb y x)) [
+        | inl d ↦ absurd (omega (arith, greater y x (rank k t) (rank k s) (256 ^ k) (rank-bound k t (λ j. q (suc j))) (ltb-true y x d)))
+        | inr d ↦
+            let z : x ≡ y = omega (arith, ltb-false x y e, ltb-false y x d) in
+            let m : x * 256 ^ k ≡ y * 256 ^ k = ap (λ (w : ℕ). w * 256 ^ k) z in
+            let rest = rank-same k s t (λ j. p (suc j)) (λ j. q (suc j)) (omega arith) (omega arith) (omega arith) in
+            record { alike = λ o. same-head o x y s t z ∙ rest .alike o }
+      ]
+    ]
+
+bytes-from : (i : ℕ) (s : List ℕ) → AllBytes s → AllBytes (drop i s)
+bytes-from i s h k = rw (getD-drop i s k 0) (h (i + k))
+
+-- what holds at each turn: the first i bytes are the same
+pub record Words (a b : List ℕ) (i : ℕ) : Type 0 where
+  pub left : i ≤ length a
+  pub right : i ≤ length b
+  pub left-bytes : AllBytes a
+  pub right-bytes : AllBytes b
+  pub rest : Alike a b (drop i a) (drop i b)
+
+pub words-start : (a b : List ℕ) → AllBytes a → AllBytes b → Words a b 0
+words-start a b p q = record { left = omega arith; right = omega arith; left-bytes = p; right-bytes = q; rest = alike-start a b }
+
+module _ (a b : List ℕ) (i x y : ℕ) (w : Words a b i) (h : 8 ≤ length a - i) (g : 8 ≤ length b - i) (ex : x ≡ rank 8 (drop i a)) (ey : y ≡ rank 8 (drop i b)) where
+  pub words-less : x < y → isOrder Before a b ≡ true
+  words-less d =
+      w .rest .alike Before
+      ∙ rank-less 8 (drop i a) (drop i b) (bytes-from i a (w .left-bytes)) (bytes-from i b (w .right-bytes)) (rw length-drop h) (rw length-drop g) (omega arith)
+
+  pub words-more : y < x → isOrder After a b ≡ true
+  words-more d =
+      w .rest .alike After
+      ∙ rank-less 8 (drop i b) (drop i a) (bytes-from i b (w .right-bytes)) (bytes-from i a (w .left-bytes)) (rw length-drop g) (rw length-drop h) (omega arith)
+
+  pub words-again : y ≤ x → x ≤ y → Words a b (i + 8)
+  words-again d e =
+      let eight = rank-same 8 (drop i a) (drop i b) (bytes-from i a (w .left-bytes)) (bytes-from i b (w .right-bytes)) (rw length-drop h) (rw length-drop g) (omega arith) in
+      record {
+        left = omega arith;
+        right = omega arith;
+        left-bytes = w .left-bytes;
+        right-bytes = w .right-bytes;
+        rest = record { alike = λ o. w .rest .alike o ∙ eight .alike o ∙ simp drop-drop };
+      }
+
+pub words-end : (a b : List ℕ) (i : ℕ) (r : Order) → Words a b i → isOrder r (drop i a) (drop i b) ≡ true → isOrder r a b ≡ true
+words-end a b i r w e = w .rest .alike r ∙ e
+
+pub ruleset word-cases = (words-less, words-more, words-again, words-end)
+
+-- ## What an order says of the other two
+
+pub order-of : (o : Order) (a s b : List ℕ) → isOrder o s b ≡ true → s ≡ a → isOrder o a b ≡ true
+order-of o a s b e q = rw q at e
+
+before-one : (a b : List ℕ) → before a b ≡ true → same a b ≡ false
+before-one a b e =
+    elim (either (same a b)) [
+      | inl s ↦ absurd (clash (before b b) (rw (same-path a b s) at e) (before-irrefl b))
+      | inr s ↦ s
+    ]
+
+same-one : (a b : List ℕ) → same a b ≡ true → before a b ≡ false
+same-one a b e = rw (same-path a b e) (before-irrefl b)
+
+after-one : (a b : List ℕ) → before b a ≡ true → before a b ≡ false
+after-one a b e =
+    elim (either (before a b)) [
+      | inl s ↦ absurd (clash (before a a) (before-trans a b a s e) (before-irrefl a))
+      | inr s ↦ s
+    ]
+
+after-other : (a b : List ℕ) → before b a ≡ true → same a b ≡ false
+after-other a b e =
+    elim (either (same a b)) [
+      | inl s ↦ absurd (clash (before b b) (rw (same-path a b s) at e) (before-irrefl b))
+      | inr s ↦ s
+    ]
+
+module _ (o : Order) (a b : List ℕ) (e : isOrder o a b ≡ true) where
+  pub before-yes : o ≡ Before → true ≡ before a b
+  before-yes q = sym (rw q at e)
+
+  pub before-same : o ≡ Same → false ≡ before a b
+  before-same q = sym (same-one a b (rw q at e))
+
+  pub before-after : o ≡ After → false ≡ before a b
+  before-after q = sym (after-one a b (rw q at e))
+
+  pub same-before : o ≡ Before → false ≡ same a b
+  same-before q = sym (before-one a b (rw q at e))
+
+  pub same-yes : o ≡ Same → true ≡ same a b
+  same-yes q = sym (rw q at e)
+
+  pub same-after : o ≡ After → false ≡ same a b
+  same-after q = sym (after-other a b (rw q at e))
+
+-- An order decides a test that starts with one of the three.
+pub and-false : (a t : Bool) → false ≡ a → false ≡ (a && t)
+and-false a t e = rw (sym e)
+
+pub and-true : (a t : Bool) → true ≡ a → t ≡ (a && t)
+and-true a t e = rw (sym e)
+
+pub or-true : (a t : Bool) → true ≡ a → true ≡ (a || t)
+or-true a t e = rw (sym e)
+
+pub or-false : (r a t : Bool) → false ≡ a → r ≡ t → r ≡ (a || t)
+or-false r a t e f = rw (sym e) f
+
+-- Two tests, the second where the first holds.
+pub both-yes : (r a t u : Bool) → r ≡ a → r ≡ true → u ≡ t → u ≡ (a && t)
+both-yes r a t u e h q = rw (sym e ∙ h) q
+
+pub both-no : (r a t : Bool) → r ≡ a → r ≡ false → false ≡ (a && t)
+both-no r a t e h = rw (sym e ∙ h)
+
+pub ruleset both = (refl, both-yes, both-no)
+
+pub ruleset orders = (before-yes, before-same, before-after, same-before, same-yes, same-after, and-false, and-true, or-true, or-false)

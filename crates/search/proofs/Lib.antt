@@ -1,0 +1,4 @@
+pub mod Comparing
+pub mod Positions
+pub mod Halving
+pub mod Named

@@ -1,0 +1,226 @@
+// Search by halving in an ordered table. The definitions are in specs/.
+ghost use mathlib.Core.Path.{_≡_};
+ghost use mathlib.Core.Bool.{true, _&&_, _||_};
+ghost use Prim.Native.Nat.{_+_, _*_, _≤_};
+ghost use lib.Dec.{eqb, ltb};
+ghost use lib.ListN.{length, getD, drop};
+ghost use Rattle.buffers.specs.Lists.{same};
+ghost use Rattle.buffers.specs.Ranges.{Within};
+ghost use Rattle.model.specs.Rows.{before};
+ghost use Rattle.table.specs.Layout.{rowsOf};
+ghost use Rattle.table.specs.Places.{keyAt};
+ghost use Rattle.search.specs.Keys.{isOrder, rank};
+ghost use Rattle.search.specs.Places.{keyPlace, versionPlace, currentIn, versionIn};
+ghost use Rattle.search.specs.Searching.{HasRow, Searchable};
+
+// How one key stands to another.
+pub enum Order {
+    Before,
+    Same,
+    After,
+}
+
+// A position where a row is found, or the place where it belongs.
+pub enum Found {
+    At(usize),
+    Place(usize),
+}
+
+fn wide(x: u8) -> u64
+    ensures { λ r. ⌜ Within r x 255 ⌝ }
+{
+    x as u64
+}
+
+// Eight bytes as a number, the first counting most. This sum, from the last byte on, is compiled to one load.
+fn rank_at(b: &[u8], at: usize) -> u64
+    requires { ⌜ at + 8 ≤ length (now b) ⌝ }
+    ensures { λ r. ⌜ r ≡ rank 8 (drop at (now (b .entry))) ⌝ }
+{
+    wide(b[at + 7])
+        + wide(b[at + 6]) * 256
+        + wide(b[at + 5]) * 65536
+        + wide(b[at + 4]) * 16777216
+        + wide(b[at + 3]) * 4294967296
+        + wide(b[at + 2]) * 1099511627776
+        + wide(b[at + 1]) * 281474976710656
+        + wide(b[at]) * 72057594037927936
+}
+
+// Compares what stands from `at` on, byte by byte.
+fn compare_from(a: &[u8], b: &[u8], at: usize) -> Order
+    ensures { λ r. ⌜ isOrder r (drop at (now (a .entry))) (drop at (now (b .entry))) ≡ true ⌝ }
+{
+    let mut i = at;
+    while i < a.len() {
+        if b.len() <= i {
+            return Order::After;
+        }
+        if a[i] < b[i] {
+            return Order::Before;
+        }
+        if b[i] < a[i] {
+            return Order::After;
+        }
+        i += 1;
+    }
+    if i < b.len() {
+        return Order::Before;
+    }
+    Order::Same
+}
+
+// Two keys by unsigned bytes, a prefix before the longer key: eight bytes at once, then one by one.
+pub fn compare_keys(a: &[u8], b: &[u8]) -> Order
+    ensures { λ r. ⌜ isOrder r (now (a .entry)) (now (b .entry)) ≡ true ⌝ }
+{
+    let mut i = 0;
+    while 8 <= a.len() - i {
+        if b.len() - i < 8 {
+            return compare_from(a, b, i);
+        }
+        let x = rank_at(a, i);
+        let y = rank_at(b, i);
+        if x < y {
+            return Order::Before;
+        }
+        if y < x {
+            return Order::After;
+        }
+        i += 8;
+    }
+    compare_from(a, b, i)
+}
+
+// The key of the row at a position, against a key.
+fn order_at(keys: &[u8], at: usize, key: &[u8]) -> Order
+    requires { ⌜ (64 * at + 64 ≤ length (now keys)) × (getD (now keys) (64 * at) 0 ≤ 63) ⌝ }
+    ensures { λ r. ⌜ isOrder r (keyAt (now (keys .entry)) at) (now (key .entry)) ≡ true ⌝ }
+{
+    let stored = table::key_at(keys, at);
+    compare_keys(stored, key)
+}
+
+// The key of the row at a position is before the key.
+fn key_before(keys: &[u8], at: usize, key: &[u8]) -> bool
+    requires { ⌜ (64 * at + 64 ≤ length (now keys)) × (getD (now keys) (64 * at) 0 ≤ 63) ⌝ }
+    ensures { λ r. ⌜ r ≡ before (keyAt (now (keys .entry)) at) (now (key .entry)) ⌝ }
+{
+    let o = order_at(keys, at, key);
+    match o {
+        Order::Before => true,
+        Order::Same => false,
+        Order::After => false,
+    }
+}
+
+// The row at a position is ahead of the key's version.
+fn row_ahead(rows: &[u64], keys: &[u8], at: usize, key: &[u8], version: u64) -> bool
+    requires { ⌜ HasRow (now rows) (now keys) at ⌝ }
+    ensures { λ r. ⌜ r ≡ (before (keyAt (now (keys .entry)) at) (now (key .entry)) || (same (keyAt (now (keys .entry)) at) (now (key .entry)) && ltb version (getD (now (rows .entry)) (8 * at) 0))) ⌝ }
+{
+    let o = order_at(keys, at, key);
+    let first = 8 * at;
+    match o {
+        Order::Before => true,
+        Order::Same => version < rows[first],
+        Order::After => false,
+    }
+}
+
+// The row at a position has the key.
+fn has_key(keys: &[u8], at: usize, key: &[u8]) -> bool
+    requires { ⌜ (64 * at + 64 ≤ length (now keys)) × (getD (now keys) (64 * at) 0 ≤ 63) ⌝ }
+    ensures { λ r. ⌜ r ≡ same (keyAt (now (keys .entry)) at) (now (key .entry)) ⌝ }
+{
+    let o = order_at(keys, at, key);
+    match o {
+        Order::Before => false,
+        Order::Same => true,
+        Order::After => false,
+    }
+}
+
+// The row at a position is the key's version.
+fn has_version(rows: &[u64], keys: &[u8], at: usize, key: &[u8], version: u64) -> bool
+    requires { ⌜ HasRow (now rows) (now keys) at ⌝ }
+    ensures { λ r. ⌜ r ≡ (same (keyAt (now (keys .entry)) at) (now (key .entry)) && eqb (getD (now (rows .entry)) (8 * at) 0) version) ⌝ }
+{
+    if has_key(keys, at, key) {
+        let first = 8 * at;
+        return rows[first] == version;
+    }
+    false
+}
+
+// Where the key's rows start or would start.
+fn key_place(rows: &[u64], keys: &[u8], used: usize, key: &[u8]) -> usize
+    requires { ⌜ Searchable (now rows) (now keys) used ⌝ }
+    ensures { λ r. ⌜ Within r (keyPlace (now (key .entry)) (rowsOf (now (rows .entry)) (now (keys .entry)) used)) used ⌝ }
+{
+    let mut low = 0;
+    let mut high = used;
+    while low < high {
+        let middle = low + (high - low) / 2;
+        if key_before(keys, middle, key) {
+            low = middle + 1;
+        } else {
+            high = middle;
+        }
+    }
+    low
+}
+
+// Where the key's version stands or would stand.
+fn version_place(rows: &[u64], keys: &[u8], used: usize, key: &[u8], version: u64) -> usize
+    requires { ⌜ Searchable (now rows) (now keys) used ⌝ }
+    ensures { λ r. ⌜ Within r (versionPlace (now (key .entry)) version (rowsOf (now (rows .entry)) (now (keys .entry)) used)) used ⌝ }
+{
+    let mut low = 0;
+    let mut high = used;
+    while low < high {
+        let middle = low + (high - low) / 2;
+        if row_ahead(rows, keys, middle, key, version) {
+            low = middle + 1;
+        } else {
+            high = middle;
+        }
+    }
+    low
+}
+
+// A key's current version, which is its first row, or the place where the key belongs.
+pub fn find_current(rows: &[u64], keys: &[u8], used: usize, key: &[u8]) -> Found
+    requires { ⌜ Searchable (now rows) (now keys) used ⌝ }
+    ensures { λ r. ⌜ r ≡ currentIn (now (key .entry)) (rowsOf (now (rows .entry)) (now (keys .entry)) used) ⌝ }
+{
+    let at = key_place(rows, keys, used, key);
+    if used <= at {
+        return Found::Place(at);
+    }
+    if has_key(keys, at, key) {
+        return Found::At(at);
+    }
+    Found::Place(at)
+}
+
+// A key's version, or the place where it belongs.
+pub fn find_version(
+    rows: &[u64],
+    keys: &[u8],
+    used: usize,
+    key: &[u8],
+    version: u64,
+) -> Found
+    requires { ⌜ Searchable (now rows) (now keys) used ⌝ }
+    ensures { λ r. ⌜ r ≡ versionIn (now (key .entry)) version (rowsOf (now (rows .entry)) (now (keys .entry)) used) ⌝ }
+{
+    let at = version_place(rows, keys, used, key, version);
+    if used <= at {
+        return Found::Place(at);
+    }
+    if has_version(rows, keys, at, key, version) {
+        return Found::At(at);
+    }
+    Found::Place(at)
+}
