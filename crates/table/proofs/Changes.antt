@@ -35,6 +35,7 @@ remove-length at xs h =
     let e = length-append (take at xs) (drop (suc at) xs) in
     omega arith
 
+-- the key fits its bytes
 fit : Row → Bool
 fit x = leb (length (x .key)) 63
 
