@@ -5,7 +5,6 @@ use mathlib.Core.Logic.{inl, inr}
 use mathlib.Core.Bool.{Bool, true, false, _&&_, _||_}
 use mathlib.Core.List.{List, [], _∷_}
 use native.Mathlib.Omega.{arith}
-use native.Mathlib.Numerals.{add-one}
 use native.Mathlib.Nat.{mul-le-mul-right, suc-mul, pow-succ'}
 use lib.Dec.{eqb, ltb}
 use lib.ListN.{length, getD, drop, length-drop, drop-of-length-le}
@@ -178,7 +177,17 @@ pub ruleset word-cases = (words-less, words-more, words-again, words-end)
 pub order-of : (o : Order) (a s b : List ℕ) → isOrder o s b ≡ true → s ≡ a → isOrder o a b ≡ true
 order-of o a s b e q = rw q at e
 
-before-one : (a b : List ℕ) → before a b ≡ true → same a b ≡ false
+pub same-sym : (s t : List ℕ) → same s t ≡ same t s
+same-sym s t =
+    elim (either (same s t)) [
+      | inl e ↦ rw (same-path s t e)
+      | inr e ↦ elim (either (same t s)) [
+        | inl f ↦ rw (same-path t s f)
+        | inr f ↦ e ∙ sym f
+      ]
+    ]
+
+pub before-one : (a b : List ℕ) → before a b ≡ true → same a b ≡ false
 before-one a b e =
     elim (either (same a b)) [
       | inl s ↦ absurd (clash (before b b) (rw (same-path a b s) at e) (before-irrefl b))
@@ -192,13 +201,6 @@ after-one : (a b : List ℕ) → before b a ≡ true → before a b ≡ false
 after-one a b e =
     elim (either (before a b)) [
       | inl s ↦ absurd (clash (before a a) (before-trans a b a s e) (before-irrefl a))
-      | inr s ↦ s
-    ]
-
-after-other : (a b : List ℕ) → before b a ≡ true → same a b ≡ false
-after-other a b e =
-    elim (either (same a b)) [
-      | inl s ↦ absurd (clash (before b b) (rw (same-path a b s) at e) (before-irrefl b))
       | inr s ↦ s
     ]
 
@@ -219,7 +221,7 @@ module _ (o : Order) (a b : List ℕ) (e : isOrder o a b ≡ true) where
   same-yes q = sym (rw q at e)
 
   pub same-after : o ≡ After → false ≡ same a b
-  same-after q = sym (after-other a b (rw q at e))
+  same-after q = sym (same-sym a b ∙ before-one b a (rw q at e))
 
 -- An order decides a test that starts with one of the three.
 pub and-false : (a t : Bool) → false ≡ a → false ≡ (a && t)
@@ -233,14 +235,5 @@ or-true a t e = rw (sym e)
 
 pub or-false : (r a t : Bool) → false ≡ a → r ≡ t → r ≡ (a || t)
 or-false r a t e f = rw (sym e) f
-
--- Two tests, the second where the first holds.
-pub both-yes : (r a t u : Bool) → r ≡ a → r ≡ true → u ≡ t → u ≡ (a && t)
-both-yes r a t u e h q = rw (sym e ∙ h) q
-
-pub both-no : (r a t : Bool) → r ≡ a → r ≡ false → false ≡ (a && t)
-both-no r a t e h = rw (sym e ∙ h)
-
-pub ruleset both = (refl, both-yes, both-no)
 
 pub ruleset orders = (before-yes, before-same, before-after, same-before, same-yes, same-after, and-false, and-true, or-true, or-false)

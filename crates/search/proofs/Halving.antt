@@ -1,18 +1,16 @@
 -- Where the rows that pass a test end, and what one row of an ordered table says of that place.
 use Prim.Native.Nat.{ℕ, zero, suc, _+_, _-_, _*_, _/_, _≤_, _<_}
-use mathlib.Core.Path.{_≡_, refl, sym, ap, _∙_}
+use mathlib.Core.Path.{_≡_, sym, _∙_}
 use mathlib.Core.Logic.{inl, inr}
 use mathlib.Core.Bool.{Bool, true, false, _&&_, _||_}
 use mathlib.Core.List.{List, [], _∷_}
-use mathlib.Core.Option.{Option, some, none}
+use mathlib.Core.Option.{some}
 use native.Mathlib.Omega.{arith}
 use lib.Dec.{eqb, ltb}
-use lib.ListN.{length, getD, take, drop, drop-of-length-le}
-use lib.Seq.{drop-drop, getD-take, getD-drop}
-use Rattle.buffers.specs.Choices.{pick, thenSome}
+use lib.ListN.{getD, drop-of-length-le}
 use Rattle.buffers.specs.Lists.{all, same}
 use Rattle.buffers.specs.Ranges.{Within}
-use Rattle.buffers.proofs.Tests.{either, clash, and-l, and-r, or-l, or-r, or-one}
+use Rattle.buffers.proofs.Tests.{either, and-l, and-r, or-one}
 use Rattle.buffers.proofs.Lists.{same-path}
 use Rattle.table.specs.Layout.{rowAt, rowsOf}
 use Rattle.table.specs.Places.{keyAt}
@@ -21,7 +19,6 @@ use Rattle.model.specs.Rows.{Row, before, ahead, ordered}
 use Rattle.model.proofs.Order.{before-trans, ahead-trans}
 use Rattle.search.specs.Places.{leading, rowFrom, foundIf, keyPlace, currentIn, versionPlace, versionIn}
 use Rattle.search.specs.Searching.{HasRow, Searchable}
-use Rattle.search.specs.declared.Found.{Found}
 use Rattle.search.specs.declared.Found.the-variants.{At, Place}
 use Rattle.search.proofs.Positions.{no-row, all-row, rows-row, number-at, leading-most}
 

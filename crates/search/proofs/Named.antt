@@ -1,27 +1,24 @@
 -- A search finds the row that a line names; the changes of that row, and of a new row, by position.
-use Prim.Native.Nat.{ℕ, zero, suc, _≤_, _<_}
+use Prim.Native.Nat.{ℕ, zero, suc}
 use mathlib.Core.Path.{_≡_, refl, sym, ap, _∙_}
 use mathlib.Core.Logic.{inl, inr}
 use mathlib.Core.Bool.{Bool, true, false, not, _&&_, and-true}
-use mathlib.Core.List.{List, [], _∷_, _++_}
+use mathlib.Core.List.{List, [], _∷_}
 use mathlib.Core.Option.{Option, some, none}
-use native.Mathlib.Omega.{arith}
-use lib.Dec.{eqb, ltb}
-use lib.ListN.{length, take, drop, set}
+use lib.Dec.{eqb}
+use lib.ListN.{set}
 use borrow.Author.Tests.{eqb-true, not-true}
 use Rattle.buffers.specs.Choices.{pick, thenSome}
 use Rattle.buffers.specs.Lists.{all, keep, first, change, same}
-use Rattle.buffers.proofs.Tests.{either, clash, and-i, and-l, and-r, or-l, or-r, or-one}
-use Rattle.buffers.proofs.Lists.{same-path, same-refl, all-as}
+use Rattle.buffers.proofs.Tests.{either, clash, and-l, and-r, or-one}
+use Rattle.buffers.proofs.Lists.{same-path, all-as}
 use Rattle.model.specs.Rows.{Row, before, ahead, ordered}
 use Rattle.model.specs.Requests.{Name, name, numbered}
-use Rattle.model.specs.Effects.{rowOf, hasVersion, sameVersion, isNamed, insert}
-use Rattle.model.proofs.Order.{before-irrefl}
+use Rattle.model.specs.Effects.{rowOf, sameVersion, isNamed, insert}
 use Rattle.model.proofs.SoundRows.{apart, version-refl}
 use Rattle.table.specs.Changes.{insertAt, removeAt}
-use Rattle.search.specs.Places.{leading, headOf, rowFrom, foundIf, keyPlace, currentIn, versionPlace, versionIn, rowFound, placeFound}
-use Rattle.search.specs.declared.Found.{Found}
-use Rattle.search.specs.declared.Found.the-variants.{At, Place}
+use Rattle.search.specs.Places.{leading, rowFrom, foundIf, keyPlace, currentIn, versionPlace, versionIn, rowFound, placeFound}
+use Rattle.search.proofs.Comparing.{same-sym, before-one}
 use Rattle.search.proofs.Positions.{all-row, place-if}
 use Rattle.search.proofs.Halving.{versionRow}
 
@@ -62,16 +59,6 @@ first-as : (p q : Row → Bool) → ((x : Row) → p x ≡ q x) → (xs : List R
 first-as p q f [] = refl
 first-as p q f (x ∷ xs) = rw (f x) (ap (λ (r : Option Row). pick (q x) (some x) r) (first-as p q f xs))
 
-same-sym : (s t : List ℕ) → same s t ≡ same t s
-same-sym s t =
-    elim (either (same s t)) [
-      | inl e ↦ rw (same-path s t e)
-      | inr e ↦ elim (either (same t s)) [
-        | inl f ↦ rw (same-path t s f)
-        | inr f ↦ e ∙ sym f
-      ]
-    ]
-
 eqb-sym : (a b : ℕ) → eqb a b ≡ eqb b a
 eqb-sym a b =
     elim (either (eqb a b)) [
@@ -86,16 +73,9 @@ eqb-sym a b =
 pub current-row : (k : List ℕ) (xs : List Row) → ordered xs ≡ true → rowFound xs (currentIn k xs) ≡ rowOf xs (name k none)
 unfolding currentIn keyPlace
 current-row k xs o =
-    found-first (λ x. same (x .key) k) (λ x. before (x .key) k) not-both none-behind xs o
+    found-first (λ x. same (x .key) k) (λ x. before (x .key) k) (λ x. before-one (x .key) k) none-behind xs o
     ∙ first-as (λ x. same (x .key) k) (λ x. same k (x .key) && true) (λ x. same-sym (x .key) k ∙ sym (and-true (same k (x .key)))) xs
   where
-    not-both : (x : Row) → before (x .key) k ≡ true → same (x .key) k ≡ false
-    not-both x e =
-        elim (either (same (x .key) k)) [
-          | inl s ↦ absurd (clash (before k k) (rw (same-path (x .key) k s) at e) (before-irrefl k))
-          | inr s ↦ s
-        ]
-
     none-behind : (x y : Row) → ahead x y ≡ true → before (x .key) k ≡ false → same (x .key) k ≡ false → same (y .key) k ≡ false
     none-behind x y d e f =
         elim (either (same (y .key) k)) [
@@ -110,12 +90,9 @@ current-row k xs o =
 pub version-row : (k : List ℕ) (v : ℕ) (xs : List Row) → ordered xs ≡ true → rowFound xs (versionIn k v xs) ≡ rowOf xs (name k (some (numbered v)))
 unfolding versionIn versionPlace
 version-row k v xs o =
-    found-first (λ x. same (x .key) k && eqb (x .number) v) (λ x. ahead x (versionRow k v)) not-both none-behind xs o
+    found-first (λ x. same (x .key) k && eqb (x .number) v) (λ x. ahead x (versionRow k v)) (λ x e. (apart x (versionRow k v) e) .0) none-behind xs o
     ∙ first-as (λ x. same (x .key) k && eqb (x .number) v) (λ x. same k (x .key) && eqb v (x .number)) (λ x. rw (same-sym (x .key) k, eqb-sym (x .number) v)) xs
   where
-    not-both : (x : Row) → ahead x (versionRow k v) ≡ true → (same (x .key) k && eqb (x .number) v) ≡ false
-    not-both x e = (apart x (versionRow k v) e) .0
-
     none-behind : (x y : Row) → ahead x y ≡ true → ahead x (versionRow k v) ≡ false → (same (x .key) k && eqb (x .number) v) ≡ false → (same (y .key) k && eqb (y .number) v) ≡ false
     none-behind x y d e f =
         elim (either (same (y .key) k && eqb (y .number) v)) [

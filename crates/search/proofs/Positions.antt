@@ -2,19 +2,19 @@
 use Prim.Native.Nat.{ℕ, zero, suc, _+_, _*_, _≤_, _<_}
 use mathlib.Core.Path.{_≡_, refl, sym, ap, _∙_}
 use mathlib.Core.Logic.{inl, inr}
-use mathlib.Core.Bool.{Bool, true, false, _&&_}
+use mathlib.Core.Bool.{Bool, true, false, _&&_, _||_}
 use mathlib.Core.List.{List, [], _∷_}
 use mathlib.Core.Option.{Option, some, none}
 use native.Mathlib.Omega.{arith}
-use lib.Dec.{eqb}
-use lib.ListN.{length, getD, take, drop}
+use lib.Dec.{eqb, ltb}
+use lib.ListN.{length, getD, drop}
 use lib.Seq.{drop-cons, getD-take, getD-drop}
-use Rattle.buffers.specs.Choices.{pick, thenSome}
+use Rattle.buffers.specs.Choices.{thenSome}
 use Rattle.buffers.specs.Lists.{all, same}
 use Rattle.buffers.proofs.Tests.{either, and-l, and-r}
 use Rattle.table.specs.Layout.{rowAt, rowsOf, Holds}
 use Rattle.table.proofs.Held.{rows-length, row-at, held-numbers, held-keys, held-rows, held-first}
-use Rattle.model.specs.Rows.{Row, before, ahead, ordered}
+use Rattle.model.specs.Rows.{Row, before, ordered}
 use Rattle.search.specs.Places.{leading, rowFrom, foundIf, keyPlace, currentIn, versionPlace, versionIn, placeFound}
 use Rattle.search.specs.Searching.{Searchable}
 use Rattle.search.specs.declared.Found.{Found}
@@ -80,14 +80,26 @@ module _ (p : Row → Bool) (xs : List Row) (m : ℕ) where
       go none q = let f : Place m ≡ At i = rw q at e in let z : _≡_ {A = ℕ} 0 1 = cc in absurd (omega arith)
       go (some y) q = let f : i ≡ m = sym (ap placeFound e) ∙ place-if in omega (arith, row-below xs m y q)
 
+place-most : (p q : Row → Bool) (xs : List Row) (i : ℕ) → foundIf p xs (leading q xs) ≡ Place i → i ≤ length xs
+place-most p q xs i e = let f : i ≡ leading q xs = sym (ap placeFound e) ∙ place-if p xs (leading q xs) in omega (arith, leading-most q xs)
+
+-- What is found is a used row; what is not found belongs in front of a used row or right behind them.
 module _ (n b : List ℕ) (u : ℕ) (k : List ℕ) (r : Found) (i : ℕ) where
-  -- What is found is a used row, and what is not found belongs among the used rows or right behind them.
   pub current-used : r ≡ currentIn k (rowsOf n b u) → r ≡ At i → i < u
   unfolding currentIn
   current-used e t = rw (rows-length n b u) at (at-below (λ x. same (x .key) k) (rowsOf n b u) (keyPlace k (rowsOf n b u)) i (sym e ∙ t))
 
   pub current-free : r ≡ currentIn k (rowsOf n b u) → r ≡ Place i → i ≤ u
   unfolding currentIn keyPlace
-  current-free e t =
-      let f : i ≡ keyPlace k (rowsOf n b u) = ap placeFound (sym t ∙ e) ∙ place-if (λ x. same (x .key) k) (rowsOf n b u) (keyPlace k (rowsOf n b u)) in
-      omega (arith, leading-most (λ x. before (x .key) k) (rowsOf n b u), rows-length n b u)
+  current-free e t = rw (rows-length n b u) at (place-most (λ x. same (x .key) k) (λ x. before (x .key) k) (rowsOf n b u) i (sym e ∙ t))
+
+  pub version-used : (v : ℕ) → r ≡ versionIn k v (rowsOf n b u) → r ≡ At i → i < u
+  unfolding versionIn
+  version-used v e t = rw (rows-length n b u) at (at-below (λ x. same (x .key) k && eqb (x .number) v) (rowsOf n b u) (versionPlace k v (rowsOf n b u)) i (sym e ∙ t))
+
+  pub version-free : (v : ℕ) → r ≡ versionIn k v (rowsOf n b u) → r ≡ Place i → i ≤ u
+  unfolding versionIn versionPlace
+  version-free v e t =
+      rw (rows-length n b u) at (place-most (λ x. same (x .key) k && eqb (x .number) v) (λ x. before (x .key) k || (same (x .key) k && ltb v (x .number))) (rowsOf n b u) i (sym e ∙ t))
+
+pub ruleset found-range = (current-used, current-free, version-used, version-free)

@@ -146,11 +146,13 @@ fn has_version(rows: &[u64], keys: &[u8], at: usize, key: &[u8], version: u64) -
     requires { ⌜ HasRow (now rows) (now keys) at ⌝ }
     ensures { λ r. ⌜ r ≡ (same (keyAt (now (keys .entry)) at) (now (key .entry)) && eqb (getD (now (rows .entry)) (8 * at) 0) version) ⌝ }
 {
-    if has_key(keys, at, key) {
-        let first = 8 * at;
-        return rows[first] == version;
+    let o = order_at(keys, at, key);
+    let first = 8 * at;
+    match o {
+        Order::Before => false,
+        Order::Same => rows[first] == version,
+        Order::After => false,
     }
-    false
 }
 
 // Where the key's rows start or would start.
@@ -205,13 +207,7 @@ pub fn find_current(rows: &[u64], keys: &[u8], used: usize, key: &[u8]) -> Found
 }
 
 // A key's version, or the place where it belongs.
-pub fn find_version(
-    rows: &[u64],
-    keys: &[u8],
-    used: usize,
-    key: &[u8],
-    version: u64,
-) -> Found
+pub fn find_version(rows: &[u64], keys: &[u8], used: usize, key: &[u8], version: u64) -> Found
     requires { ⌜ Searchable (now rows) (now keys) used ⌝ }
     ensures { λ r. ⌜ r ≡ versionIn (now (key .entry)) version (rowsOf (now (rows .entry)) (now (keys .entry)) used) ⌝ }
 {
