@@ -25,7 +25,7 @@ use Rattle.model.proofs.LockClause.{good-fresh}
 abbrev atMost : ℕ → Check → Bool
 atMost k x = leb (x .number) k
 
-first-most : (k : ℕ) (xs : List Check) → all (atMost k) xs ≡ true → firstOf xs ≤ k
+pub first-most : (k : ℕ) (xs : List Check) → all (atMost k) xs ≡ true → firstOf xs ≤ k
 first-most k [] e = omega arith
 first-most k (x ∷ xs) e =
     elim (either (x .holds)) [
@@ -46,7 +46,7 @@ pub record FirstHolds (xs : List Check) (n : ℕ) : Type 0 where
   pub at : xs ≡ before ++ (check n true ∷ after)
   pub none-before : all (λ x. not (x .holds)) before ≡ true
 
-first-holds : (xs : List Check) (n : ℕ) → firstOf xs ≡ n → (n ≡ 0 → ⊥) → FirstHolds xs n
+pub first-holds : (xs : List Check) (n : ℕ) → firstOf xs ≡ n → (n ≡ 0 → ⊥) → FirstHolds xs n
 first-holds [] n e z = absurd (z (sym e))
 first-holds (x ∷ xs) n e z =
     elim (either (x .holds)) [

@@ -1,0 +1,118 @@
+-- Each change of the table: what its function asks, and what it leaves.
+use Prim.Native.Nat.{ℕ, suc, _+_, _-_, _≤_, _<_}
+use mathlib.Core.Path.{_≡_, refl, sym, _∙_, ap}
+use mathlib.Core.List.{List, [], _∷_}
+use mathlib.Core.Option.{Option, some, none}
+use native.Mathlib.Omega.{arith}
+use lib.ListN.{length, drop, getD, take, set, length-set}
+use lib.Seq.{drop-cons}
+use Rattle.buffers.specs.Choices.{thenSome}
+use Rattle.text.specs.declared.Place.{Place}
+use Rattle.text.specs.Fields.{partOf}
+use Rattle.model.specs.Rows.{Row}
+use Rattle.model.specs.Settings.{spentNumber}
+use Rattle.table.specs.declared.Numbers.{Numbers}
+use Rattle.table.specs.Layout.{rowAt, rowsOf, capacity, Holds}
+use Rattle.table.specs.Places.{rowFrom, keyAt, Insertable, InUse}
+use Rattle.table.specs.Changes.{insertAt, removeAt}
+use Rattle.table.proofs.Held.{rows-length, row-at}
+use Rattle.table.proofs.Changes.{insert-length, remove-length}
+use Rattle.search.specs.Places as places
+use Rattle.verdict.specs.declared.Change.{Change}
+use Rattle.verdict.specs.declared.Change.the-variants.{Keep, Insert, InsertSame, Rewrite, Remove, Sweep}
+use Rattle.verdict.specs.Meaning.{Judged, keyHere, changeMeans, changeTakes, Changeable}
+use Rattle.apply.specs.declared.Progress.{Progress}
+use Rattle.apply.specs.Applied.{judged, Applicable, Applied}
+
+-- The key of a used row, read from the list of the rows.
+head-at : (xs : List Row) (i : ℕ) (d : Row) → i < length xs → places.rowFrom xs i ≡ some (getD xs i d)
+head-at xs i d h = rw (drop-cons xs i d h)
+
+key-here : (n b : List ℕ) (u i : ℕ) → i < u → keyHere (rowsOf n b u) i ≡ keyAt b i
+key-here n b u i h =
+    let d = rowAt n b i in
+    rw (head-at (rowsOf n b u) i d (omega (arith, rows-length n b u))) (ap (λ (x : Row). x .key) (sym (row-at n b u i d h)))
+
+-- A change that can be carried out, at the case that the code found.
+module _ (line : List ℕ) (next instant : ℕ) (fates n b : List ℕ) (u : ℕ) (v : Change) (h : Applicable (judged line next instant fates) n b u v) where
+  abbrev j : Judged
+  j = judged line next instant fates
+
+  long : length (rowsOf n b u) ≡ u
+  long = rows-length n b u
+
+  -- Insertion.
+  module _ (i : ℕ) (m : Numbers) (k : Place) (q : v ≡ Insert i m k) where
+    insert-can : Changeable j (capacity b) (rowsOf n b u) (Insert i m k)
+    insert-can = rw q at (h .can)
+
+    pub insert-within : k .start + k .len ≤ length line
+    insert-within = insert-can .3
+
+    pub insert-ready : Insertable n b u i
+    insert-ready = record { held = h .held; within = omega (arith, long, insert-can .0); free = omega (arith, long, insert-can .1) }
+
+    pub insert-key : (key : List ℕ) → key ≡ partOf line k → length key ≤ 63
+    insert-key key e = rw e (insert-can .2)
+
+    pub inserted : (key n' b' : List ℕ) → key ≡ partOf line k → Holds (capacity b) (insertAt i (rowFrom m key) (rowsOf n b u)) n' b' → Applied j (capacity b) (rowsOf n b u) v n' b' (record { used = u + 1; next = next + 1 })
+    inserted key n' b' e d =
+        rw q (record {
+          held = rw e at d;
+          used-is = let l = insert-length i (rowFrom m (partOf (j .line) k)) (rowsOf n b u) (insert-can .0) in omega (arith, long);
+          next-is = refl;
+        })
+
+  module _ (i : ℕ) (m : Numbers) (q : v ≡ InsertSame i m) where
+    same-can : Changeable j (capacity b) (rowsOf n b u) (InsertSame i m)
+    same-can = rw q at (h .can)
+
+    pub same-ready : Insertable n b u i
+    same-ready = record { held = h .held; within = omega (arith, long, same-can .0); free = omega (arith, long, same-can .1) }
+
+    pub same-below : i < u
+    same-below = omega (arith, long, same-can .0)
+
+    pub inserted-same : (n' b' : List ℕ) → Holds (capacity b) (insertAt i (rowFrom m (keyAt b i)) (rowsOf n b u)) n' b' → Applied j (capacity b) (rowsOf n b u) v n' b' (record { used = u + 1; next = next + 1 })
+    inserted-same n' b' d =
+        let k : keyHere (rowsOf n b u) i ≡ keyAt b i = key-here n b u i (omega (arith, long, same-can .0)) in
+        rw q (record {
+          held = rw k d;
+          used-is = let l = insert-length i (rowFrom m (keyHere (rowsOf n b u) i)) (rowsOf n b u) (omega (arith, same-can .0)) in omega (arith, long);
+          next-is = refl;
+        })
+
+  module _ (i : ℕ) (m : Numbers) (q : v ≡ Rewrite i m) where
+    rewrite-can : i < length (rowsOf n b u)
+    rewrite-can = rw q at (h .can)
+
+    pub rewrite-ready : InUse n b u i
+    rewrite-ready = record { held = h .held; below = omega (arith, long, rewrite-can) }
+
+    pub rewritten : (n' : List ℕ) → Holds (capacity b) (set (rowsOf n b u) i (rowFrom m (keyAt b i))) n' b → Applied j (capacity b) (rowsOf n b u) v n' b (record { used = u; next = next })
+    rewritten n' d =
+        let k : keyHere (rowsOf n b u) i ≡ keyAt b i = key-here n b u i (omega (arith, long, rewrite-can)) in
+        rw q (record {
+          held = rw k d;
+          used-is = sym (length-set (rowsOf n b u) i (rowFrom m (keyHere (rowsOf n b u) i)) ∙ long);
+          next-is = omega arith;
+        })
+
+  module _ (i : ℕ) (q : v ≡ Remove i) where
+    remove-can : i < length (rowsOf n b u)
+    remove-can = rw q at (h .can)
+
+    pub remove-ready : InUse n b u i
+    remove-ready = record { held = h .held; below = omega (arith, long, remove-can) }
+
+    pub remove-some : 1 ≤ u
+    remove-some = omega (arith, long, remove-can)
+
+    pub removed : (n' b' : List ℕ) → Holds (capacity b) (removeAt i (rowsOf n b u)) n' b' → Applied j (capacity b) (rowsOf n b u) v n' b' (record { used = u - 1; next = next })
+    removed n' b' d =
+        rw q (record { held = d; used-is = omega (arith, long, remove-length i (rowsOf n b u) remove-can); next-is = omega arith })
+
+  pub kept : v ≡ Keep → Applied j (capacity b) (rowsOf n b u) v n b (record { used = u; next = next })
+  kept q = rw q (record { held = h .held; used-is = sym long; next-is = omega arith })
+
+pub ruleset applying = (insert-within, insert-ready, insert-key, inserted, same-ready, same-below, inserted-same, rewrite-ready, rewritten, remove-ready, remove-some, removed, kept)

@@ -1,0 +1,85 @@
+-- The change of a sweep.
+use Prim.Native.Nat.{ℕ, zero, suc, _+_, _-_, _≤_, _<_}
+use mathlib.Core.Path.{_≡_, refl, sym, _∙_, ap}
+use mathlib.Core.List.{List, [], _∷_, _++_}
+use native.Mathlib.Omega.{arith}
+use lib.ListN.{length, take, length-append, length-take}
+use Rattle.model.specs.Rows.{Row}
+use Rattle.model.specs.Sweep.{Fate, stays, goes, gains, inPlace, marks, removes}
+use Rattle.table.specs.Layout.{rowsOf, capacity, Holds}
+use Rattle.table.proofs.Held.{rows-length}
+use Rattle.lifecycle.specs.Fates.{fatesIn, total, carriedOut}
+use Rattle.sweep.specs.Passes as passes
+use Rattle.verdict.specs.declared.Change.{Change}
+use Rattle.verdict.specs.declared.Change.the-variants.{Sweep}
+use Rattle.verdict.specs.Meaning.{Judged, changeMeans, Changeable}
+use Rattle.apply.specs.declared.Progress.{Progress}
+use Rattle.apply.specs.Applied.{judged, Applicable, Applied}
+use mir.Val.{Fits}
+use mir.Syntax.{w64}
+
+length-here : (f : Fate) (made n : ℕ) (x : Row) → length (inPlace f made n x) + removes f ≡ 1 + marks f
+length-here stays made n x = refl
+length-here goes made n x = refl
+length-here gains made n x = refl
+
+-- The rows that fates leave: less those that go, plus the markers.
+length-carried : (made n : ℕ) (fs : List Fate) (xs : List Row) → length fs ≡ length xs → length (carriedOut made n fs xs) + total removes fs ≡ length xs + total marks fs
+length-carried made n [] [] e = refl
+length-carried made n [] (x ∷ xs) e = absurd (omega arith)
+length-carried made n (f ∷ fs) [] e = absurd (omega arith)
+length-carried made n (f ∷ fs) (x ∷ xs) e =
+    let here = length-here f made n x in
+    let rest = length-carried made (n + marks f) fs xs (omega arith) in
+    let joined = length-append (inPlace f made n x) (carriedOut made (n + marks f) fs xs) in
+    omega arith
+
+fates-length : (fs : List ℕ) → length (fatesIn fs) ≡ length fs
+fates-length [] = refl
+fates-length (f ∷ fs) = ap suc (fates-length fs)
+
+module _ (line : List ℕ) (next instant : ℕ) (fates n b : List ℕ) (u : ℕ) (v : Change) (h : Applicable (judged line next instant fates) n b u v) (gone new : ℕ) (q : v ≡ Sweep gone new) where
+  abbrev j : Judged
+  j = judged line next instant fates
+
+  long : length (rowsOf n b u) ≡ u
+  long = rows-length n b u
+
+  can : Changeable j (capacity b) (rowsOf n b u) (Sweep gone new)
+  can = rw q at (h .can)
+
+  -- The fates, counted by the used rows or by the list of them.
+  fates-are : fatesIn (take (length (rowsOf n b u)) (j .fates)) ≡ fatesIn (take u (j .fates))
+  fates-are = ap (λ (k : ℕ). fatesIn (take k (j .fates))) long
+
+  pub sweep-ready : passes.Judged n b u fates new next
+  sweep-ready =
+      let g : gone ≡ total removes (fatesIn (take u fates)) = can .0 ∙ ap (total removes) fates-are in
+      record {
+        holds = h .held;
+        each = h .fates-fit;
+        markers = can .1 ∙ ap (total marks) fates-are;
+        room = omega (arith, long, can .2, can .3);
+        numbers = can .4;
+      }
+
+  pub sweep-rows : Fits w64 (u - gone + new)
+  sweep-rows = omega (arith, long, can .2, can .3, h .small)
+
+  pub sweep-numbers : Fits w64 (next + new)
+  sweep-numbers = omega (arith, can .4)
+
+  pub sweep-gone : gone ≤ u
+  sweep-gone = omega (arith, long, can .3)
+
+  pub swept : (n' b' : List ℕ) → Holds (capacity b) (carriedOut instant next (passes.fatesOf u fates) (rowsOf n b u)) n' b' → Applied j (capacity b) (rowsOf n b u) v n' b' (record { used = u - gone + new; next = next + new })
+  swept n' b' d =
+      let fl : length (fatesIn (take (length (rowsOf n b u)) (j .fates))) ≡ length (rowsOf n b u) = fates-length (take (length (rowsOf n b u)) (j .fates)) ∙ simp length-take (omega (arith, long, h .fates-fit)) in
+      let l = length-carried (j .now) (j .next) (fatesIn (take (length (rowsOf n b u)) (j .fates))) (rowsOf n b u) fl in
+      rw q (record {
+        held = rw fates-are d;
+        used-is = omega (arith, long, can .0, can .1, can .3);
+        next-is = refl;
+      })
+
+pub ruleset sweeping = (sweep-ready, sweep-rows, sweep-numbers, sweep-gone, swept)

@@ -1,0 +1,4 @@
+pub mod Steps
+pub mod Laying
+pub mod Whole
+pub mod Passing

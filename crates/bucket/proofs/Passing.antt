@@ -1,0 +1,142 @@
+-- The tests of the code tell what is whole, and what a key is handed back for.
+use Prim.Native.Nat.{ℕ, _+_, _*_, _-_, _≤_, _<_}
+use mathlib.Core.Path.{_≡_, sym, ap, _∙_}
+use mathlib.Core.Logic.{inl, inr}
+use mathlib.Core.Bool.{Bool, true, false, _&&_, and-false}
+use mathlib.Core.List.{List, []}
+use native.Mathlib.Omega.{arith}
+use native.Mathlib.Numerals.{add-one}
+use lib.ListN.{length, getD, drop}
+use borrow.Author.Tests.{le-leb, lt-ltb, le-ltb}
+use Rattle.buffers.proofs.Tests.{either, clash, and-i, and-l, and-r}
+use Rattle.blocks.specs.Blocks.{isBlock}
+use Rattle.blocks.proofs.Blocks.{block-block}
+use Rattle.model.specs.Rows.{soundRow}
+use Rattle.model.specs.Settings.{sound, fits}
+use Rattle.settings.specs.declared.Settings.{Settings}
+use Rattle.settings.specs.Meaning.{prefixesAre, settingsSound}
+use Rattle.table.specs.Layout.{rowAt, rowsOf, capacity}
+use Rattle.table.specs.Places.{keyAt}
+use Rattle.table.proofs.Held.{numbers-laying, keys-laying, rows-length, held-block, held-fit, held-first}
+use Rattle.bucket.specs.Steps.{allBelow, zeros, blockAt, soundAt, aheadAt, soundTable}
+use Rattle.bucket.specs.Whole.{bucketOf, whole, keyOf}
+use Rattle.bucket.proofs.Steps.{below-at, below-all, pick-and, sound-at}
+use Rattle.bucket.proofs.Laying.{rest-free, rows-all, all-rows, next-ordered, ordered-next, numbers-back, keys-back}
+use Rattle.bucket.proofs.Whole.{WholeParts, sound-parts, whole-parts, whole-of}
+
+table-is : (next time : ℕ) (n b : List ℕ) (u : ℕ)
+    → soundTable next time n b u
+    ≡ allBelow (soundAt next time n b) u && (allBelow (aheadAt n b) (u - 1) && (zeros (drop (8 * u) n) && zeros (drop (64 * u) b)))
+unfolding soundTable
+table-is next time n b u = simp pick-and
+
+module _ (s : Settings) (n b : List ℕ) where
+  -- Whole buffers pass.
+  whole-passes : WholeParts s n b → soundTable (s .next) (s .time) n b (s .used) ≡ true
+  unfolding aheadAt
+  whole-passes w =
+      let c = capacity b in
+      let u = s .used in
+      let xs = rowsOf n b u in
+      let p = sound-parts c (bucketOf s n b) (w .is-sound) in
+      let l = rows-length n b u in
+      table-is (s .next) (s .time) n b u
+      ∙ and-i _ _
+      (below-all (soundAt (s .next) (s .time) n b) u (λ i h.
+      sound-at (s .next) (s .time) n b i
+      ∙ and-i _ _
+      (let q : i < length xs = omega arith in ap isBlock (held-block (w .holds) i (rowAt n b 0) q) ∙ block-block _ (held-fit (w .holds) i (rowAt n b 0) q))
+      (all-rows (soundRow (s .next) (s .time)) n b u i (p .rows-sound) h)))
+      (and-i _ _
+      (below-all (aheadAt n b) (u - 1) (λ i h. rw (add-one i) (ordered-next n b u i (p .in-order) (omega arith))))
+      (and-i _ _
+      (ap (λ (k : List ℕ). zeros (drop (8 * u) k)) (w .holds .numbers-are) ∙ (rw l at (rest-free numbers-laying c xs (w .holds .room))))
+      (ap (λ (k : List ℕ). zeros (drop (64 * u) k)) (w .holds .keys-are) ∙ (rw l at (rest-free keys-laying c xs (w .holds .room))))))
+
+  -- Buffers of the right lengths that pass are whole.
+  passes-whole : 1 ≤ capacity b → capacity b ≤ 1024 → s .used ≤ capacity b → length n ≡ 8 * capacity b → length b ≡ 64 * capacity b
+      → settingsSound s ≡ true → soundTable (s .next) (s .time) n b (s .used) ≡ true → whole s n b ≡ true
+  unfolding sound fits settingsSound aheadAt
+  passes-whole some most room numbers-long keys-long f e =
+      let c = capacity b in
+      let u = s .used in
+      let l = rows-length n b u in
+      let e0 = sym (table-is (s .next) (s .time) n b u) ∙ e in
+      let e1 = and-r (allBelow (soundAt (s .next) (s .time) n b) u) _ e0 in
+      let e2 = and-r (allBelow (aheadAt n b) (u - 1)) _ e1 in
+      let at : (i : ℕ) → i < u → isBlock (blockAt b i) && soundRow (s .next) (s .time) (rowAt n b i) ≡ true =
+      λ i h. sym (sound-at (s .next) (s .time) n b i) ∙ below-at (soundAt (s .next) (s .time) n b) u i (and-l _ _ e0) h in
+      whole-of s c (rowsOf n b u) n b some most
+      (sym (numbers-back c u n b numbers-long room (and-l _ _ e2)))
+      (sym (keys-back c u n b keys-long room (λ i h. and-l _ _ (at i h)) (and-r (zeros (drop (8 * u) n)) _ e2)))
+      (sym l)
+      (and-l (prefixesAre (s .rules)) _ f)
+      (and-i _ _ (le-leb (length (rowsOf n b u)) c (rw l room))
+      (and-i _ _ (and-r (prefixesAre (s .rules)) _ f)
+      (and-i _ _
+      (next-ordered n b u (λ i h. rw (← add-one i) (below-at (aheadAt n b) (u - 1) i (and-l _ _ e1) (omega arith))))
+      (rows-all (soundRow (s .next) (s .time)) n b u (λ i h. and-r (isBlock (blockAt b i)) _ (at i h))))))
+
+  not-whole : (WholeParts s n b → ⊥) → false ≡ whole s n b
+  not-whole f =
+      elim (either (whole s n b)) [
+        | inl e ↦ absurd (f (whole-parts s n b e))
+        | inr e ↦ sym e
+      ]
+
+  pub other-numbers : (length n ≡ 8 * capacity b → ⊥) → false ≡ whole s n b
+  other-numbers h = not-whole (λ w. h (w .numbers-long))
+
+  pub other-keys : (length b ≡ 64 * capacity b → ⊥) → false ≡ whole s n b
+  other-keys h = not-whole (λ w. h (w .keys-long))
+
+  pub no-row : capacity b < 1 → false ≡ whole s n b
+  no-row h = not-whole (λ w. let q = w .some in omega arith)
+
+  pub too-many : 1024 < capacity b → false ≡ whole s n b
+  too-many h = not-whole (λ w. let q = w .most in omega arith)
+
+  pub no-room : capacity b < s .used → false ≡ whole s n b
+  no-room h = not-whole (λ w. let q = w .room in omega arith)
+
+  pub unsound : (r : Bool) → r ≡ settingsSound s → r ≡ false → false ≡ whole s n b
+  unfolding settingsSound
+  unsound r e t =
+      not-whole (λ w. clash r (e ∙ and-i _ _ (w .prefixes) (sound-parts (capacity b) (bucketOf s n b) (w .is-sound) .settings-sound)) t)
+
+  pub tested : (r q : Bool) → 1 ≤ capacity b → capacity b ≤ 1024 → s .used ≤ capacity b → length n ≡ 8 * capacity b → length b ≡ 64 * capacity b
+      → r ≡ settingsSound s → r ≡ true → q ≡ soundTable (s .next) (s .time) n b (s .used) → q ≡ whole s n b
+  tested r q h1 h2 h3 h4 h5 e t f =
+      elim (either (soundTable (s .next) (s .time) n b (s .used))) [
+        | inl a ↦ f ∙ a ∙ sym (passes-whole h1 h2 h3 h4 h5 (sym e ∙ t) a)
+        | inr a ↦ f ∙ a ∙ not-whole (λ w. clash _ (whole-passes w) a)
+      ]
+
+pub ruleset whole-cases = (other-numbers, other-keys, no-row, too-many, no-room, unsound, tested)
+
+-- ## The key of a row
+
+module _ (s : Settings) (n b : List ℕ) (i : ℕ) (r : Bool) (e : r ≡ whole s n b) where
+  pub key-unsound : r ≡ false → [] ≡ keyOf s n b i
+  unfolding keyOf
+  key-unsound t = rw (← e, t)
+
+  pub key-past : s .used ≤ i → [] ≡ keyOf s n b i
+  unfolding keyOf
+  key-past h = rw (le-ltb i (s .used) h, and-false (whole s n b))
+
+  pub key-used : (k : List ℕ) → r ≡ true → i < s .used → k ≡ keyAt b i → k ≡ keyOf s n b i
+  unfolding keyOf
+  key-used k t h q = rw (← e, t, lt-ltb i (s .used) h) q
+
+  pub key-there : r ≡ true → i < s .used → 64 * i + 64 ≤ length b
+  key-there t h =
+      let w = whole-parts s n b (sym e ∙ t) in
+      let l = w .keys-long in
+      let m = w .room in
+      omega arith
+
+  pub key-short : r ≡ true → i < s .used → getD b (64 * i) 0 ≤ 63
+  key-short t h = held-first (whole-parts s n b (sym e ∙ t) .holds) i (rowAt n b 0) (rw (rows-length n b (s .used)) h)
+
+pub ruleset key-cases = (key-unsound, key-past, key-used, key-there, key-short)

@@ -1,0 +1,30 @@
+-- `numbers_are_zero` meets its contract.
+use Prim.Native.Nat.{_-_, _≤_}
+use mathlib.Core.Path.{_≡_}
+use mathlib.Core.Bool.{_&&_}
+use lib.ListN.{length, drop}
+use Rattle.bucket.specs.Steps.{zeros}
+use Rattle.bucket.proofs.Steps.{zeros-cases}
+use borrow.Author.Needs.{needs}
+use Rattle.bucket.proofs.numbers_are_zero.Statement.{statement}
+use Rattle.bucket.proofs.numbers_are_zero.Tie as tie
+
+abbrev Inv-loop : tie.InvT-loop
+Inv-loop rows at ok₀ i₀ ok i = (i ≤ length rows) × (zeros (drop at rows) ≡ ok && zeros (drop i rows))
+
+abbrev μ-loop : tie.MeasureT-loop
+μ-loop rows at ok₀ i₀ ok i = length rows - i
+
+pub numbers-are-zero-spec : {M : Type 1} → statement M
+numbers-are-zero-spec =
+    tie.close
+    (tie.spec
+    Inv-loop
+    μ-loop
+    (λ c. search needs)
+    (λ c. search needs)
+    (λ c. search needs)
+    (λ c. search needs)
+    (λ c. search needs)
+    (λ c. search (needs, zeros-cases))
+    (λ c. search zeros-cases))

@@ -1,0 +1,89 @@
+-- The outcome of a line along its conditions: the first that holds refuses, else what is decided is done.
+use Prim.Native.Nat.{ℕ, _≤_, _<_}
+use mathlib.Core.Path.{_≡_, refl, sym, _∙_, ap}
+use mathlib.Core.Logic.{_⊎_, inl, inr}
+use mathlib.Core.Bool.{Bool, true, false, not, _&&_}
+use mathlib.Core.List.{List, [], _∷_, _++_}
+use mathlib.Core.Option.{Option, some, none}
+use native.Mathlib.Omega.{arith}
+use lib.Dec.{eqb, leb, ltb}
+use lib.ListN.{length}
+use borrow.Author.Tests.{eqb-false, not-true, lt-ltb, le-ltb}
+use Rattle.buffers.specs.Choices.{pick, thenSome}
+use Rattle.buffers.specs.Lists.{all}
+use Rattle.buffers.proofs.Tests.{either, and-l, and-r}
+use Rattle.calendar.specs.Calendar.{latest}
+use Rattle.model.specs.Settings.{Bucket}
+use Rattle.model.specs.Requests.{Verb, Request, reads, inRange}
+use Rattle.model.specs.Time.{Now, nowOf}
+use Rattle.model.specs.Refusals.{Check, firstOf, fieldChecks, tableChecks, lacksRight, halfGiven, pastDate}
+use Rattle.settings.specs.declared.Settings.{Settings}
+use Rattle.table.specs.Layout.{capacity}
+use Rattle.bucket.specs.Whole.{bucketOf, whole}
+use Rattle.request.specs.Grammar.{Said, readLine, lineOf}
+use Rattle.verdict.specs.Decision.{Effect, Decision, refuses, does, decide, effect, tableDecision, decision}
+use Rattle.outcome.specs.Outcome.{Outcome, refused, asked, refusalOf, outcome}
+use Rattle.outcome.specs.Steps.{carried, done}
+
+-- every number of the conditions is one of a refusal
+abbrev numbered : List Check → Bool
+numbered xs = all (λ x. not (eqb (x .number) 0)) xs
+
+-- What is decided by conditions and an effect is the first refusal, or the effect.
+module _ (A : Type 0) (stop : ℕ → A) (go-on : Effect → A) where
+  abbrev pub act : Decision → A
+  act (refuses n) = stop n
+  act (does e) = go-on e
+
+  act-decide : (xs : List Check) (e : Effect) → numbered xs ≡ true → pick (eqb (firstOf xs) 0) (go-on e) (stop (firstOf xs)) ≡ act (decide xs e)
+  act-decide [] e h = refl
+  act-decide (x ∷ xs) e h =
+      elim (either (x .holds)) [
+        | inl t ↦ simp (t, not-true (eqb (x .number) 0) (and-l (not (eqb (x .number) 0)) _ h))
+        | inr t ↦ simp t (act-decide xs e (and-r (not (eqb (x .number) 0)) _ h))
+      ]
+
+  -- The conditions in two parts.
+  act-parts : (xs ys : List Check) (e : Effect) → numbered xs ≡ true → act (decide (xs ++ ys) e) ≡ pick (eqb (firstOf xs) 0) (act (decide ys e)) (stop (firstOf xs))
+  act-parts [] ys e h = refl
+  act-parts (x ∷ xs) ys e h =
+      elim (either (x .holds)) [
+        | inl t ↦ simp (t, not-true (eqb (x .number) 0) (and-l (not (eqb (x .number) 0)) _ h))
+        | inr t ↦ simp t (act-parts xs ys e (and-r (not (eqb (x .number) 0)) _ h))
+      ]
+
+module _ (s : Settings) (numbers keys line answer : List ℕ) where
+  -- `done` is such an action.
+  done-act : (now : ℕ) (v : Verb) (d : Decision) → done s numbers keys now v answer d ≡ act Outcome (λ n. refused n s numbers keys answer) (λ e. carried s keys now v answer e) d
+  done-act now v (refuses n) = refl
+  done-act now v (does e) = refl
+
+  pub outcome-1 : whole s numbers keys ≡ false → refused 1 s numbers keys answer ≡ outcome s numbers keys line answer
+  unfolding outcome refusalOf
+  outcome-1 w = simp w
+
+  pub outcome-2 : whole s numbers keys ≡ true → length answer < 256 → refused 2 s numbers keys answer ≡ outcome s numbers keys line answer
+  unfolding outcome refusalOf
+  outcome-2 w l = go (readLine line) refl
+    where
+      go : (o : Option Said) → readLine line ≡ o → refused 2 s numbers keys answer ≡ outcome s numbers keys line answer
+      go none e = simp (w, e, lt-ltb _ _ l)
+      go (some q) e = simp (w, e, lt-ltb _ _ l)
+
+  pub outcome-3 : whole s numbers keys ≡ true → 256 ≤ length answer → readLine line ≡ none → refused 3 s numbers keys answer ≡ outcome s numbers keys line answer
+  unfolding outcome refusalOf
+  outcome-3 w l e = simp (w, e, le-ltb _ _ l)
+
+  -- A readable line that the reader keeps within its ranges is done as it is decided.
+  pub outcome-said : (q : Said) → whole s numbers keys ≡ true → 256 ≤ length answer → readLine line ≡ some q → (leb (q .clock) latest && inRange (q .verb)) ≡ true
+      → done s numbers keys ((nowOf (bucketOf s numbers keys) (asked (length answer) q .call)) .stamp) (q .verb) answer (decision (capacity keys) (bucketOf s numbers keys) (asked (length answer) q)) ≡ outcome s numbers keys line answer
+  unfolding outcome refusalOf
+  outcome-said q w l e r =
+      let b = bucketOf s numbers keys in
+      let a = asked (length answer) q in
+      let now = nowOf (bucketOf s numbers keys) (asked (length answer) q .call) in
+      simp (w, e, le-ltb _ _ l, r)
+      (done-act ((nowOf (bucketOf s numbers keys) (asked (length answer) q .call)) .stamp) (q .verb) (decision (capacity keys) (bucketOf s numbers keys) (asked (length answer) q))
+      ∙ sym (act-decide Outcome (λ n. refused n s numbers keys answer) (λ f. carried s keys ((nowOf (bucketOf s numbers keys) (asked (length answer) q .call)) .stamp) (q .verb) answer f)
+      (fieldChecks (bucketOf s numbers keys) (asked (length answer) q) ++ tableChecks (capacity keys) (bucketOf s numbers keys) (nowOf (bucketOf s numbers keys) (asked (length answer) q .call)) (q .verb))
+      (effect (bucketOf s numbers keys) (nowOf (bucketOf s numbers keys) (asked (length answer) q .call)) (q .verb)) refl))

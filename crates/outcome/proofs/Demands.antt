@@ -1,0 +1,62 @@
+-- Of every outcome: its number is 0 or a refusal's, a refusal is the first condition that holds, and it leaves everything as it was.
+use Prim.Native.Nat.{ℕ, _≤_}
+use mathlib.Core.Path.{_≡_, refl, sym, _∙_, ap}
+use mathlib.Core.Logic.{_⊎_, inl, inr}
+use mathlib.Core.Bool.{Bool, true, false}
+use mathlib.Core.List.{List, [], _∷_, _++_}
+use mathlib.Core.Option.{Option, some, none}
+use native.Mathlib.Omega.{arith}
+use lib.Dec.{eqb, ltb}
+use lib.ListN.{length}
+use borrow.Author.Tests.{eqb-true, eqb-false, ne-eqb}
+use Rattle.buffers.specs.Choices.{pick, thenSome}
+use Rattle.buffers.proofs.Tests.{either}
+use Rattle.model.specs.Requests.{unreadable, reads}
+use Rattle.model.specs.Refusals.{Check, checks}
+use Rattle.model.proofs.Facts.{first-most, FirstHolds, first-holds}
+use Rattle.settings.specs.declared.Settings.{Settings}
+use Rattle.table.specs.Layout.{capacity}
+use Rattle.bucket.specs.Whole.{bucketOf, whole}
+use Rattle.request.specs.Grammar.{Said, readLine, lineOf}
+use Rattle.outcome.specs.Outcome.{Outcome, refused, accepted, asked, refusalOf, outcome}
+
+module _ (s : Settings) (numbers keys line answer : List ℕ) where
+  -- The conditions of the line, in order.
+  abbrev pub conditions : List Check
+  conditions = checks (whole s numbers keys) (capacity keys) (bucketOf s numbers keys) (lineOf (length answer) line)
+
+  -- Demand 1: the number is 0 to 12.
+  pub refusal-range : refusalOf s numbers keys line answer ≤ 12
+  unfolding refusalOf
+  refusal-range = go (readLine line) refl
+    where
+      go : (o : Option Said) → readLine line ≡ o → refusalOf s numbers keys line answer ≤ 12
+      go none e = rw e (first-most 12 (checks (whole s numbers keys) (capacity keys) (bucketOf s numbers keys) (unreadable (length answer))) refl)
+      go (some q) e = rw e (first-most 12 (checks (whole s numbers keys) (capacity keys) (bucketOf s numbers keys) (reads (asked (length answer) q))) refl)
+
+  -- Demand 2: a refusal comes where its condition is the first in order to hold.
+  pub refusal-first : (n : ℕ) → refusalOf s numbers keys line answer ≡ n → (n ≡ 0 → ⊥) → FirstHolds conditions n
+  unfolding refusalOf
+  refusal-first n e z = first-holds conditions n e z
+
+  -- A refused line leaves settings, buffers and answer buffer as they were.
+  pub refused-unchanged : (refusalOf s numbers keys line answer ≡ 0 → ⊥) → outcome s numbers keys line answer ≡ refused (refusalOf s numbers keys line answer) s numbers keys answer
+  unfolding outcome
+  refused-unchanged z = rw (ne-eqb (refusalOf s numbers keys line answer) 0 z)
+
+  -- An unreadable line is refused.
+  pub unreadable-refused : readLine line ≡ none → refusalOf s numbers keys line answer ≡ 0 → ⊥
+  unfolding refusalOf
+  unreadable-refused e z = go (whole s numbers keys) refl
+    where
+      go : (w : Bool) → whole s numbers keys ≡ w → ⊥
+      go true q = elim (either (ltb (length answer) 256)) [
+        | inl t ↦ omega (arith, simp (e, q, t) at z)
+        | inr t ↦ omega (arith, simp (e, q, t) at z)
+      ]
+      go false q = omega (arith, simp (e, q) at z)
+
+  -- With no condition holding the line is accepted, and does what the definitions say of its request.
+  pub accepted-line : (q : Said) → readLine line ≡ some q → refusalOf s numbers keys line answer ≡ 0 → outcome s numbers keys line answer ≡ accepted s numbers keys (asked (length answer) q) answer
+  unfolding outcome
+  accepted-line q e z = simp (z, e)

@@ -1,0 +1,88 @@
+-- What a line does to settings, buffers and answer buffer of any contents (demand 2).
+use Prim.Native.Nat.{ℕ}
+use mathlib.Core.Bool.{Bool, true, false}
+use mathlib.Core.List.{List, [], _∷_, _++_}
+use lib.Dec.{eqb}
+use lib.ListN.{length, drop}
+use Rattle.buffers.specs.Choices.{pick, thenSome}
+use Rattle.blocks.specs.Blocks.{blockOf}
+use Rattle.model.specs.Settings as model
+use Rattle.model.specs.Requests.{Request}
+use Rattle.model.specs.Effects.{after}
+use Rattle.model.specs.Refusals.{firstOf, checks}
+use Rattle.model.specs.Answers.{answerTo}
+use Rattle.settings.specs.declared.Settings.{Settings}
+use Rattle.settings.specs.declared.Rule.{Rule}
+use Rattle.table.specs.Layout.{numbersOf, keysOf, capacity}
+use Rattle.bucket.specs.Whole.{bucketOf, whole}
+use Rattle.request.specs.Grammar.{Said, readLine, lineOf}
+use Rattle.answers.specs.Text.{answerText}
+
+-- ## From the model's settings to those of the code
+
+abbrev pub ruleFrom : model.Rule → Rule
+ruleFrom u = record { prefix = blockOf (u .prefix); current = u .currentDays; noncurrent = u .noncurrentDays }
+
+abbrev pub rulesFrom : List model.Rule → List Rule
+rulesFrom [] = []
+rulesFrom (u ∷ us) = ruleFrom u ∷ rulesFrom us
+
+-- the settings, with this count of used rows
+abbrev pub settingsFrom : model.Settings → ℕ → Settings
+settingsFrom s used =
+    record {
+      time = s .time;
+      used = used;
+      next = s .next;
+      mode = s .config .default .mode;
+      count = s .config .default .count;
+      unit = s .config .default .unit;
+      rules = rulesFrom (s .config .rules);
+    }
+
+-- ## The outcome
+
+-- What a call returns and leaves.
+pub record Outcome : Type 0 where
+  pub number : ℕ
+  pub length : ℕ
+  pub settings : Settings
+  pub numbers : List ℕ
+  pub keys : List ℕ
+  pub answer : List ℕ
+
+-- A refusal leaves everything as it was.
+abbrev pub refused : ℕ → Settings → List ℕ → List ℕ → List ℕ → Outcome
+refused n s numbers keys answer = record { number = n; length = 0; settings = s; numbers = numbers; keys = keys; answer = answer }
+
+-- The text stands at the buffer's start; bytes after it are untouched.
+abbrev pub written : List ℕ → List ℕ → List ℕ
+written text room = text ++ drop (length text) room
+
+-- The request that a readable line asks, with its answer buffer's length.
+abbrev pub asked : ℕ → Said → Request
+asked room q = record { call = record { room = room; clock = q .clock; who = q .who }; verb = q .verb }
+
+-- An accepted line leaves the bucket after it, and its answer.
+abbrev pub accepted : Settings → List ℕ → List ℕ → Request → List ℕ → Outcome
+accepted s numbers keys q answer =
+    let b = bucketOf s numbers keys in
+    record {
+      number = 0;
+      length = length (answerText (answerTo b q));
+      settings = settingsFrom ((after b q) .settings) (length ((after b q) .rows));
+      numbers = numbersOf (capacity keys) ((after b q) .rows);
+      keys = keysOf (capacity keys) ((after b q) .rows);
+      answer = written (answerText (answerTo b q)) answer;
+    }
+
+-- The refusal of a line: the first of the twelve conditions that holds, or 0.
+unfoldable pub refusalOf : Settings → List ℕ → List ℕ → List ℕ → List ℕ → ℕ
+refusalOf s numbers keys line answer = firstOf (checks (whole s numbers keys) (capacity keys) (bucketOf s numbers keys) (lineOf (length answer) line))
+
+-- The outcome of a line.
+unfoldable pub outcome : Settings → List ℕ → List ℕ → List ℕ → List ℕ → Outcome
+outcome s numbers keys line answer =
+    pick (eqb (refusalOf s numbers keys line answer) 0)
+    (thenSome (readLine line) (refused 3 s numbers keys answer) (λ q. accepted s numbers keys (asked (length answer) q) answer))
+    (refused (refusalOf s numbers keys line answer) s numbers keys answer)

@@ -1,0 +1,4 @@
+pub mod Readers
+pub mod Answers
+pub mod Ranges
+pub mod Bounds

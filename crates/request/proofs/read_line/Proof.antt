@@ -1,0 +1,30 @@
+-- `read_line` meets its contract.
+use Rattle.buffers.proofs.Choices.{picks}
+use Rattle.request.proofs.Answers.{answers}
+use Rattle.request.specs.Grammar.{readLine}
+use borrow.Author.Needs.{needs}
+use Rattle.request.proofs.read_line.Statement.{statement}
+use Rattle.request.proofs.read_line.Tie as tie
+
+pub read-line-spec : {M : Type 1} → statement M
+unfolding readLine
+read-line-spec =
+    tie.close
+    (tie.spec
+    (λ c. search (picks, answers) depth 16)
+    (λ c κs. search needs)
+    (λ c κs. search needs)
+    (λ c. search needs)
+    (λ c. search needs)
+    (λ c. search (picks, answers) depth 16)
+    (λ c κs. search needs)
+    (λ c κs. search needs)
+    (λ c. search needs)
+    (λ c. search needs)
+    (λ c. search (picks, answers) depth 16)
+    (λ c κs. search needs)
+    (λ c κs. search needs)
+    (λ c. search needs)
+    (λ c. search needs)
+    (λ c. search (picks, answers) depth 16)
+    (λ c. search (picks, answers) depth 16))

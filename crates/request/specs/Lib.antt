@@ -1,0 +1,5 @@
+pub mod Fields
+pub mod Grammar
+pub mod Meaning
+pub mod Bounds
+pub mod Examples

@@ -1,0 +1,184 @@
+// A request line, read whole: its clock, its rights, its verb with the verb's fields. The definitions are in specs/.
+mod fields;
+mod verbs;
+
+use calendar::DateRead;
+use text::Place;
+ghost use Rattle.request.specs.Meaning.{Read};
+
+// A mode, `-` for missing.
+pub enum Mode {
+    Missing,
+    Governance,
+    Compliance,
+}
+
+// A retain-until date, `-` for missing.
+pub enum Until {
+    Missing,
+    Given(u64),
+}
+
+// A legal hold, `-` for missing.
+pub enum Hold {
+    Missing,
+    Off,
+    On,
+}
+
+// A version number, `-` for the current version.
+pub enum Version {
+    Current,
+    Numbered(u64),
+}
+
+// A default retention's period, `-` for missing.
+pub enum Period {
+    Missing,
+    Days(u64),
+    Years(u64),
+}
+
+// A key, by its place in the line, and a version of it.
+pub struct Name {
+    pub key: Place,
+    pub version: Version,
+}
+
+pub struct Retention {
+    pub mode: Mode,
+    pub until: Until,
+}
+
+// The lock fields of a PUT or COPY.
+pub struct Terms {
+    pub retention: Retention,
+    pub hold: Hold,
+}
+
+// The letters r w d t h b c.
+pub struct Rights {
+    pub r: bool,
+    pub w: bool,
+    pub d: bool,
+    pub t: bool,
+    pub h: bool,
+    pub b: bool,
+    pub c: bool,
+}
+
+pub enum Verb {
+    // key, body, length
+    Put(Place, u64, u64, Terms),
+    // source, target key
+    Copy(Name, Place, Terms),
+    // bypass
+    Retain(Name, Retention, bool),
+    // on
+    SetHold(Name, bool),
+    // key, bypass
+    AddMarker(Place, bool),
+    // key, version, bypass
+    DeleteVersion(Place, u64, bool),
+    SetDefault(Mode, Period),
+    // number, prefix, current days, noncurrent days
+    SetRule(u64, Place, u64, u64),
+    Sweep,
+    Get(Name),
+}
+
+pub struct Request {
+    pub clock: u64,
+    pub rights: Rights,
+    pub verb: Verb,
+}
+
+// What a line says.
+pub enum LineRead {
+    Reads(Request),
+    Unreadable,
+}
+
+// What a field, or some fields together, say: the value, or that they can't be read.
+pub enum KeyRead {
+    Is(Place),
+    Bad,
+}
+
+pub enum VersionRead {
+    Is(Version),
+    Bad,
+}
+
+pub enum ModeRead {
+    Is(Mode),
+    Bad,
+}
+
+pub enum UntilRead {
+    Is(Until),
+    Bad,
+}
+
+pub enum FlagRead {
+    Is(bool),
+    Bad,
+}
+
+pub enum HoldRead {
+    Is(Hold),
+    Bad,
+}
+
+pub enum PeriodRead {
+    Is(Period),
+    Bad,
+}
+
+pub enum RightsRead {
+    Is(Rights),
+    Bad,
+}
+
+pub enum NameRead {
+    Is(Name),
+    Bad,
+}
+
+pub enum RetentionRead {
+    Is(Retention),
+    Bad,
+}
+
+pub enum TermsRead {
+    Is(Terms),
+    Bad,
+}
+
+pub enum VerbRead {
+    Is(Verb),
+    Bad,
+}
+
+// A request line, without its line feed.
+pub fn read_line(line: &[u8]) -> LineRead
+    ensures { λ r. ⌜ Read (now (line .entry)) r ⌝ }
+{
+    if 512 < line.len() {
+        return LineRead::Unreadable;
+    }
+    let DateRead::At(clock) = calendar::read_date(text::field(line, 0)) else {
+        return LineRead::Unreadable;
+    };
+    let RightsRead::Is(rights) = fields::read_rights(text::field(line, 1)) else {
+        return LineRead::Unreadable;
+    };
+    let VerbRead::Is(verb) = verbs::read_verb(text::field(line, 2), line) else {
+        return LineRead::Unreadable;
+    };
+    LineRead::Reads(Request {
+        clock,
+        rights,
+        verb,
+    })
+}

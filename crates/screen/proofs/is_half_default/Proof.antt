@@ -1,0 +1,18 @@
+-- `is_half_default` meets its contract.
+use Rattle.buffers.proofs.Choices.{picks}
+use Rattle.screen.specs.Fields.{halfBy}
+use Rattle.screen.proofs.Cases.{cases}
+use borrow.Author.Needs.{needs}
+use Rattle.screen.proofs.is_half_default.Statement.{statement}
+use Rattle.screen.proofs.is_half_default.Tie as tie
+
+pub is-half-default-spec : {M : Type 1} → statement M
+unfolding halfBy
+is-half-default-spec =
+    tie.close
+    (tie.spec
+    (λ c κs. search needs)
+    (λ c κs. search needs)
+    (λ c. search (cases, picks) depth 9)
+    (λ c κs. search needs)
+    (λ c. search (cases, picks) depth 9))

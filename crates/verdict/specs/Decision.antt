@@ -1,0 +1,38 @@
+-- What the definitions decide of a request on a bucket: the first refusal that holds, or the rows and the answer that the line leaves.
+use Prim.Native.Nat.{ℕ}
+use mathlib.Core.List.{List, [], _∷_, _++_}
+use Rattle.buffers.specs.Choices.{pick}
+use Rattle.model.specs.Rows.{Row}
+use Rattle.model.specs.Settings.{Bucket}
+use Rattle.model.specs.Requests.{Verb, Request}
+use Rattle.model.specs.Time.{Now, nowOf}
+use Rattle.model.specs.Effects.{added, rowsAfter}
+use Rattle.model.specs.Refusals.{Check, fieldChecks, tableChecks}
+use Rattle.model.specs.Answers.{reply}
+use Rattle.answers.specs.Text.{answerText}
+
+-- What an accepted line leaves in the table, the version numbers that it takes, and its answer.
+pub record Effect : Type 0 where
+  pub rows : List Row
+  pub taken : ℕ
+  pub text : List ℕ
+
+pub data Decision : Type 0 where
+  refuses : ℕ → Decision
+  does : Effect → Decision
+
+-- The first condition that holds refuses.
+abbrev pub decide : List Check → Effect → Decision
+decide [] e = does e
+decide (x ∷ xs) e = pick (x .holds) (refuses (x .number)) (decide xs e)
+
+abbrev pub effect : Bucket → Now → Verb → Effect
+effect b now v = record { rows = rowsAfter b now v; taken = added b now v; text = answerText (reply b now v) }
+
+-- By refusals 7 to 12.
+abbrev pub tableDecision : ℕ → Bucket → Now → Verb → Decision
+tableDecision c b now v = decide (tableChecks c b now v) (effect b now v)
+
+-- By refusals 4 to 12.
+abbrev pub decision : ℕ → Bucket → Request → Decision
+decision c b q = decide (fieldChecks b q ++ tableChecks c b (nowOf b (q .call)) (q .verb)) (effect b (nowOf b (q .call)) (q .verb))

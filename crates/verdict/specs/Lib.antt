@@ -1,0 +1,4 @@
+pub mod Decision
+pub mod State
+pub mod Meaning
+pub mod Locks
