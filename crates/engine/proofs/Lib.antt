@@ -1,0 +1,5 @@
+pub mod Carrying
+pub mod Ready
+pub mod Configuring
+pub mod Serving
+pub mod Requesting

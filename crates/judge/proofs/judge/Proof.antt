@@ -1,0 +1,41 @@
+-- `judge` meets its contract.
+use Rattle.judge.proofs.Dispatch.{verb-ways}
+use borrow.Author.Needs.{needs}
+use Rattle.judge.proofs.judge.Statement.{statement}
+use Rattle.judge.proofs.judge.Tie as tie
+
+pub judge-spec : {M : Type 1} → statement M
+judge-spec =
+    tie.close
+    (tie.spec
+    (λ c. search needs)
+    (λ c κs. search (needs, verb-ways))
+    (λ c. search needs)
+    (λ c κs. search (needs, verb-ways))
+    (λ c. search needs)
+    (λ c κs. search (needs, verb-ways))
+    (λ c. search needs)
+    (λ c κs. search (needs, verb-ways))
+    (λ c. search needs)
+    (λ c κs. search (needs, verb-ways))
+    (λ c. search needs)
+    (λ c κs. search (needs, verb-ways))
+    (λ c. search needs)
+    (λ c κs. search needs)
+    (λ c. search needs)
+    (λ c κs. search needs)
+    (λ c. search needs)
+    (λ c κs. search (needs, verb-ways))
+    (λ c. search needs)
+    (λ c κs. search (needs, verb-ways))
+    (λ c. search (needs, verb-ways))
+    (λ c. search (needs, verb-ways))
+    (λ c. search (needs, verb-ways))
+    (λ c. search (needs, verb-ways))
+    (λ c. search (needs, verb-ways))
+    (λ c. search (needs, verb-ways))
+    (λ c. search (needs, verb-ways))
+    (λ c. search (needs, verb-ways))
+    (λ c. search needs)
+    (λ c. search (needs, verb-ways))
+    (λ c. search (needs, verb-ways)))

@@ -1,0 +1,19 @@
+-- `judge_retain` meets its contract.
+use Rattle.judge.proofs.Naming.{data-ways}
+use borrow.Author.Needs.{needs}
+use Rattle.judge.proofs.judge_retain.Statement.{statement}
+use Rattle.judge.proofs.judge_retain.Tie as tie
+
+pub judge-retain-spec : {M : Type 1} → statement M
+judge-retain-spec =
+    tie.close
+    (tie.spec
+    (λ c κs. search needs)
+    (λ c. search needs)
+    (λ c. search needs)
+    (λ c us fs. search (needs, data-ways))
+    (λ c us fs. search (needs, data-ways))
+    (λ c κs. search needs)
+    (λ c κs. search needs)
+    (λ c us fs. search (needs, data-ways))
+    (λ c us fs. search (needs, data-ways)))

@@ -1,0 +1,429 @@
+// A request judged on the table, with shared borrows only: refusals 7 to 12, or the plan of what the line does. The definitions are in verdict.
+use answers::Answer;
+use answers::Shown;
+use request::Hold;
+use request::Mode;
+use request::Name;
+use request::Retention;
+use request::Terms;
+use request::Until;
+use request::Verb;
+use request::Version;
+use search::Found;
+use settings::Rule;
+use table::Numbers;
+use text::Place;
+use verdict::Change;
+use verdict::Looked;
+use verdict::NewLock;
+use verdict::Plan;
+use verdict::State;
+use verdict::Verdict;
+ghost use mathlib.Core.Path.{_≡_};
+ghost use mathlib.Core.List.{List};
+ghost use Prim.Native.Nat.{ℕ};
+ghost use Rattle.buffers.specs.Choices.{orZero};
+ghost use Rattle.buffers.specs.Ranges.{Within};
+ghost use Rattle.model.specs.Requests as model;
+ghost use Rattle.text.specs.Fields.{partOf};
+ghost use Rattle.model.specs.Sweep.{marker};
+ghost use Rattle.model.specs.Effects.{newHold, holdNumber, setRetention, setHold};
+ghost use Rattle.settings.specs.Meaning.{rulesMean};
+ghost use Rattle.table.specs.Places.{rowFrom};
+ghost use Rattle.search.specs.Places.{keyPlace};
+ghost use Rattle.request.specs.Meaning.{modeMeans, untilMeans, holdMeans, nameMeans, retentionMeans, termsMeans, verbMeans, Inside, VerbInside};
+ghost use Rattle.verdict.specs.State.{rowsIn, Ready};
+ghost use Rattle.verdict.specs.Meaning.{Looks};
+ghost use Rattle.judge.specs.Premises.{Asked, Sweepable, JudgesBy, JudgesOn};
+
+// The row that a name in the line names.
+fn look_up(rows: &[u64], keys: &[u8], line: &[u8], s: State, name: Name) -> Looked
+    requires { ⌜ Ready s (now rows) (now keys) ⌝ }
+    requires { ⌜ Inside (now line) (name .key) ⌝ }
+    ensures { λ r. ⌜ Looks (rowsIn s (now (rows .entry)) (now (keys .entry))) (nameMeans (now (line .entry)) name) r ⌝ }
+{
+    let key = name.key;
+    let version = name.version;
+    verdict::look(rows, keys, s, text::part(line, key), version)
+}
+
+// Where a new version of the key goes.
+fn place_for(rows: &[u64], keys: &[u8], s: State, key: &[u8]) -> usize
+    requires { ⌜ Ready s (now rows) (now keys) ⌝ }
+    ensures { λ r. ⌜ Within r (keyPlace (now (key .entry)) (rowsIn s (now (rows .entry)) (now (keys .entry)))) (s .used) ⌝ }
+{
+    let used = s.used;
+    let found = search::find_current(rows, keys, used, key);
+    match found {
+        Found::At(i) => i,
+        Found::Place(i) => i,
+    }
+}
+
+// The hold of a new row: 1 for ON, 0 for OFF; `-` is OFF.
+fn hold_number(hold: Hold) -> u64
+    ensures { λ r. ⌜ r ≡ newHold (holdMeans hold) ⌝ }
+{
+    match hold {
+        Hold::Missing => 0,
+        Hold::Off => 0,
+        Hold::On => 1,
+    }
+}
+
+// The mode, 0 where it is missing.
+fn mode_number(mode: Mode) -> u64
+    ensures { λ r. ⌜ r ≡ orZero (modeMeans mode) ⌝ }
+{
+    match mode {
+        Mode::Missing => 0,
+        Mode::Governance => 1,
+        Mode::Compliance => 2,
+    }
+}
+
+// The date, 0 where it is missing.
+fn date_number(until: Until) -> u64
+    ensures { λ r. ⌜ r ≡ orZero (untilMeans until) ⌝ }
+{
+    match until {
+        Until::Missing => 0,
+        Until::Given(t) => t,
+    }
+}
+
+// The row with another mode and date.
+fn with_retention(n: Numbers, retention: Retention) -> Numbers
+    ensures { λ r. ⌜ ((k : List ℕ) → rowFrom r k ≡ setRetention (orZero (modeMeans (retention .mode))) (orZero (untilMeans (retention .until))) (rowFrom n k)) ⌝ }
+{
+    let mode = retention.mode;
+    let until = retention.until;
+    let mut r = n;
+    r.mode = mode_number(mode);
+    r.until = date_number(until);
+    r
+}
+
+// The row with the hold on or off.
+fn with_hold(n: Numbers, on: bool) -> Numbers
+    ensures { λ r. ⌜ ((k : List ℕ) → rowFrom r k ≡ setHold (holdNumber «on») (rowFrom n k)) ⌝ }
+{
+    let mut r = n;
+    if on {
+        r.hold = 1;
+        return r;
+    }
+    r.hold = 0;
+    r
+}
+
+// The numbers of a delete marker.
+fn marker_numbers(number: u64, instant: u64) -> Numbers
+    ensures { λ r. ⌜ ((k : List ℕ) → rowFrom r k ≡ marker instant number k) ⌝ }
+{
+    Numbers {
+        number,
+        kind: 2,
+        created: instant,
+        body: 0,
+        size: 0,
+        mode: 0,
+        until: 0,
+        hold: 0,
+    }
+}
+
+// PUT, and COPY once its source is found: a new data row with this body and length.
+fn judge_new(
+    rows: &[u64],
+    keys: &[u8],
+    line: &[u8],
+    s: State,
+    key: Place,
+    body: u64,
+    size: u64,
+    terms: Terms,
+    instant: u64,
+) -> Verdict
+    requires { ⌜ Asked s (now rows) (now keys) instant (model.Put (partOf (now line) key) body size (termsMeans terms)) ⌝ }
+    requires { ⌜ Inside (now line) key ⌝ }
+    ensures { λ r. ⌜ JudgesOn s (now (rows .entry)) (now (keys .entry)) (now (line .entry)) instant (model.Put (partOf (now (line .entry)) key) body size (termsMeans terms)) r ⌝ }
+{
+    let retention = terms.retention;
+    let hold = terms.hold;
+    let NewLock::Lock(mode, until) = verdict::new_lock(s, retention, instant) else {
+        return Verdict::Refused(10);
+    };
+    if s.next == 4294967296 {
+        return Verdict::Refused(11);
+    }
+    if keys.len() / 64 <= s.used {
+        return Verdict::Refused(12);
+    }
+    let at = place_for(rows, keys, s, text::part(line, key));
+    let n = Numbers {
+        number: s.next,
+        kind: 1,
+        created: instant,
+        body,
+        size,
+        mode,
+        until,
+        hold: hold_number(hold),
+    };
+    Verdict::Accepted(Plan {
+        change: Change::Insert(at, n, key),
+        answer: Answer::Made(s.next),
+    })
+}
+
+fn judge_copy(
+    rows: &[u64],
+    keys: &[u8],
+    line: &[u8],
+    s: State,
+    source: Name,
+    key: Place,
+    terms: Terms,
+    instant: u64,
+) -> Verdict
+    requires { ⌜ Asked s (now rows) (now keys) instant (model.Copy (nameMeans (now line) source) (partOf (now line) key) (termsMeans terms)) ⌝ }
+    requires { ⌜ Inside (now line) (source .key) ⌝ }
+    requires { ⌜ Inside (now line) key ⌝ }
+    ensures { λ r. ⌜ JudgesOn s (now (rows .entry)) (now (keys .entry)) (now (line .entry)) instant (model.Copy (nameMeans (now (line .entry)) source) (partOf (now (line .entry)) key) (termsMeans terms)) r ⌝ }
+{
+    let Looked::Present(_, n) = look_up(rows, keys, line, s, source) else {
+        return Verdict::Refused(7);
+    };
+    if n.kind == 2 {
+        return Verdict::Refused(8);
+    }
+    judge_new(rows, keys, line, s, key, n.body, n.size, terms, instant)
+}
+
+fn judge_retain(
+    rows: &[u64],
+    keys: &[u8],
+    line: &[u8],
+    s: State,
+    name: Name,
+    retention: Retention,
+    bypass: bool,
+    instant: u64,
+) -> Verdict
+    requires { ⌜ Asked s (now rows) (now keys) instant (model.Retain (nameMeans (now line) name) (retentionMeans retention) «bypass») ⌝ }
+    requires { ⌜ Inside (now line) (name .key) ⌝ }
+    ensures { λ r. ⌜ JudgesOn s (now (rows .entry)) (now (keys .entry)) (now (line .entry)) instant (model.Retain (nameMeans (now (line .entry)) name) (retentionMeans retention) «bypass») r ⌝ }
+{
+    let Looked::Present(i, n) = look_up(rows, keys, line, s, name) else {
+        return Verdict::Refused(7);
+    };
+    if n.kind == 2 {
+        return Verdict::Refused(8);
+    }
+    if verdict::is_admitted(n, instant, bypass, retention) {
+        return Verdict::Accepted(Plan {
+            change: Change::Rewrite(i, with_retention(n, retention)),
+            answer: Answer::Done,
+        });
+    }
+    Verdict::Refused(9)
+}
+
+fn judge_hold(
+    rows: &[u64],
+    keys: &[u8],
+    line: &[u8],
+    s: State,
+    name: Name,
+    on: bool,
+    instant: u64,
+) -> Verdict
+    requires { ⌜ Asked s (now rows) (now keys) instant (model.Hold (nameMeans (now line) name) «on») ⌝ }
+    requires { ⌜ Inside (now line) (name .key) ⌝ }
+    ensures { λ r. ⌜ JudgesOn s (now (rows .entry)) (now (keys .entry)) (now (line .entry)) instant (model.Hold (nameMeans (now (line .entry)) name) «on») r ⌝ }
+{
+    let Looked::Present(i, n) = look_up(rows, keys, line, s, name) else {
+        return Verdict::Refused(7);
+    };
+    if n.kind == 2 {
+        return Verdict::Refused(8);
+    }
+    Verdict::Accepted(Plan {
+        change: Change::Rewrite(i, with_hold(n, on)),
+        answer: Answer::Done,
+    })
+}
+
+fn judge_get(rows: &[u64], keys: &[u8], line: &[u8], s: State, name: Name, instant: u64) -> Verdict
+    requires { ⌜ Asked s (now rows) (now keys) instant (model.Ask (model.Get (nameMeans (now line) name))) ⌝ }
+    requires { ⌜ Inside (now line) (name .key) ⌝ }
+    ensures { λ r. ⌜ JudgesOn s (now (rows .entry)) (now (keys .entry)) (now (line .entry)) instant (model.Ask (model.Get (nameMeans (now (line .entry)) name))) r ⌝ }
+{
+    let Looked::Present(_, n) = look_up(rows, keys, line, s, name) else {
+        return Verdict::Refused(7);
+    };
+    if n.kind == 2 {
+        return Verdict::Refused(8);
+    }
+    let shown = Shown {
+        version: n.number,
+        body: n.body,
+        size: n.size,
+        mode: n.mode,
+        until: n.until,
+        hold: n.hold,
+    };
+    Verdict::Accepted(Plan {
+        change: Change::Keep,
+        answer: Answer::Got(shown),
+    })
+}
+
+// DELETE with `-`.
+fn judge_marker(
+    rows: &[u64],
+    keys: &[u8],
+    line: &[u8],
+    s: State,
+    key: Place,
+    bypass: bool,
+    instant: u64,
+) -> Verdict
+    requires { ⌜ Asked s (now rows) (now keys) instant (model.AddMarker (partOf (now line) key) «bypass») ⌝ }
+    requires { ⌜ Inside (now line) key ⌝ }
+    ensures { λ r. ⌜ JudgesOn s (now (rows .entry)) (now (keys .entry)) (now (line .entry)) instant (model.AddMarker (partOf (now (line .entry)) key) «bypass») r ⌝ }
+{
+    if s.next == 4294967296 {
+        return Verdict::Refused(11);
+    }
+    let used = s.used;
+    if keys.len() / 64 <= used {
+        return Verdict::Refused(12);
+    }
+    let n = marker_numbers(s.next, instant);
+    let found = search::find_current(rows, keys, used, text::part(line, key));
+    match found {
+        Found::At(i) => Verdict::Accepted(Plan {
+            change: Change::InsertSame(i, n),
+            answer: Answer::Marked(s.next),
+        }),
+        Found::Place(i) => Verdict::Accepted(Plan {
+            change: Change::Insert(i, n, key),
+            answer: Answer::Marked(s.next),
+        }),
+    }
+}
+
+// DELETE with a number.
+fn judge_delete(
+    rows: &[u64],
+    keys: &[u8],
+    line: &[u8],
+    s: State,
+    key: Place,
+    version: u64,
+    bypass: bool,
+    instant: u64,
+) -> Verdict
+    requires { ⌜ Asked s (now rows) (now keys) instant (model.DeleteVersion (partOf (now line) key) (model.numbered version) «bypass») ⌝ }
+    requires { ⌜ Inside (now line) key ⌝ }
+    ensures { λ r. ⌜ JudgesOn s (now (rows .entry)) (now (keys .entry)) (now (line .entry)) instant (model.DeleteVersion (partOf (now (line .entry)) key) (model.numbered version) «bypass») r ⌝ }
+{
+    let name = Name {
+        key,
+        version: Version::Numbered(version),
+    };
+    let Looked::Present(i, n) = look_up(rows, keys, line, s, name) else {
+        return Verdict::Refused(7);
+    };
+    if lifecycle::is_locked(n, instant, bypass) {
+        return Verdict::Refused(9);
+    }
+    if n.kind == 2 {
+        return Verdict::Accepted(Plan {
+            change: Change::Remove(i),
+            answer: Answer::RemovedMarker(version),
+        });
+    }
+    Verdict::Accepted(Plan {
+        change: Change::Remove(i),
+        answer: Answer::Removed(version),
+    })
+}
+
+fn judge_sweep(
+    rows: &[u64],
+    keys: &[u8],
+    s: State,
+    rules: [Rule; 8],
+    instant: u64,
+    fates: &mut [u8],
+) -> Verdict
+    requires { ⌜ Asked s (now rows) (now keys) instant model.Sweep ⌝ }
+    requires { ⌜ Sweepable s rules (now fates) ⌝ }
+    ensures { λ r. ⌜ ((line : List ℕ) → JudgesBy s (now (rows .entry)) (now (keys .entry)) line instant (rulesMean rules) (now (fates .exit)) model.Sweep r) ⌝ }
+{
+    let used = s.used;
+    let n = lifecycle::judge(rows, keys, used, rules, instant, fates);
+    let gone = n.removed;
+    let new = n.added;
+    if 4294967296 < s.next + new as u64 {
+        return Verdict::Refused(11);
+    }
+    if keys.len() / 64 < used - gone + new {
+        return Verdict::Refused(12);
+    }
+    Verdict::Accepted(Plan {
+        change: Change::Sweep(gone, new),
+        answer: Answer::Swept(gone as u64, new as u64),
+    })
+}
+
+// DEFAULT and RULE leave the table as it is.
+fn judge_setting() -> Verdict
+    ensures { λ r. ⌜ r ≡ Verdict.Accepted (record { change = Change.Keep; answer = Answer.Done }) ⌝ }
+{
+    Verdict::Accepted(Plan {
+        change: Change::Keep,
+        answer: Answer::Done,
+    })
+}
+
+// Refusals 7 to 12, or the plan.
+pub fn judge(
+    rows: &[u64],
+    keys: &[u8],
+    line: &[u8],
+    s: State,
+    rules: [Rule; 8],
+    verb: Verb,
+    instant: u64,
+    fates: &mut [u8],
+) -> Verdict
+    requires { ⌜ Asked s (now rows) (now keys) instant (verbMeans (now line) verb) ⌝ }
+    requires { ⌜ VerbInside (now line) verb ⌝ }
+    requires { ⌜ Sweepable s rules (now fates) ⌝ }
+    ensures { λ r. ⌜ JudgesBy s (now (rows .entry)) (now (keys .entry)) (now (line .entry)) instant (rulesMean rules) (now (fates .exit)) (verbMeans (now (line .entry)) verb) r ⌝ }
+{
+    match verb {
+        Verb::Put(key, body, size, terms) => {
+            judge_new(rows, keys, line, s, key, body, size, terms, instant)
+        }
+        Verb::Copy(source, key, terms) => {
+            judge_copy(rows, keys, line, s, source, key, terms, instant)
+        }
+        Verb::Retain(name, retention, bypass) => {
+            judge_retain(rows, keys, line, s, name, retention, bypass, instant)
+        }
+        Verb::SetHold(name, on) => judge_hold(rows, keys, line, s, name, on, instant),
+        Verb::AddMarker(key, bypass) => judge_marker(rows, keys, line, s, key, bypass, instant),
+        Verb::DeleteVersion(key, version, bypass) => {
+            judge_delete(rows, keys, line, s, key, version, bypass, instant)
+        }
+        Verb::SetDefault(_, _) => judge_setting(),
+        Verb::SetRule(_, _, _, _) => judge_setting(),
+        Verb::Sweep => judge_sweep(rows, keys, s, rules, instant, fates),
+        Verb::Get(name) => judge_get(rows, keys, line, s, name, instant),
+    }
+}
