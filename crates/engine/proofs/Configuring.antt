@@ -28,6 +28,7 @@ use Rattle.request.specs.declared.Name.{Name}
 use Rattle.request.specs.declared.Retention.{Retention}
 use Rattle.request.specs.declared.Terms.{Terms}
 use Rattle.request.specs.Meaning.{modeMeans, periodMeans, verbMeans, Inside}
+use Rattle.outcome.proofs.Kept.{prefix-short}
 use Rattle.engine.specs.Served.{Settable, Configured}
 
 -- A verb that sets nothing.
@@ -85,14 +86,6 @@ rule-set s r line prefix v i p current noncurrent q h e w =
     })
 
 -- What setting a rule asks.
-prefix-short : (k : List ℕ) → isPrefix k ≡ true → length k ≤ 63
-unfolding isPrefix
-prefix-short k e =
-    elim (either (ltb 63 (length k))) [
-      | inl t ↦ absurd (false≢true (rw t at e))
-      | inr t ↦ ltb-false 63 (length k) t
-    ]
-
 module _ (s : Settings) (line : List ℕ) (v : code.Verb) (h : Settable line s v) (i : ℕ) (p : Place) (current noncurrent : ℕ) (q : v ≡ verb.SetRule i p current noncurrent) where
   ranges : (ltb i 8 && (isPrefix (partOf line p) && (isDays current && isDays noncurrent))) ≡ true
   unfolding inRange

@@ -1,3 +1,4 @@
 pub mod Deciding
 pub mod Back
 pub mod Demands
+pub mod Kept
