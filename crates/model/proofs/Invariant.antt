@@ -36,9 +36,9 @@ use Rattle.model.specs.Requests.{
 use Rattle.model.specs.Time.{Now, nowOf}
 use Rattle.model.specs.Effects.{rowOf, isNamed, setRetention, setHold, holdNumber, newRow, added, rowsAfter, after}
 use Rattle.model.specs.Refusals.{missing, namesMarker}
-use Rattle.model.specs.Answers.{done, removed, removedMarker, shown, reply}
+use Rattle.model.specs.Answers.{done, removed, removedMarker, shown, reply, answerTo, givesNumber}
 use Rattle.model.specs.Run.{Event}
-use Rattle.model.specs.LockClause.{timeAfter, Making, givesNumber, answers, makingBy, makingAfter, madeWith, makingOf, versions, Held}
+use Rattle.model.specs.LockClause.{timeAfter, Making, answers, makingBy, makingAfter, madeWith, makingOf, versions, Held}
 use Rattle.model.proofs.Versions.{insert-other, insert-new, found-some, found-one, change-none, keep-none, swept-none, swept-new}
 use Rattle.model.proofs.Accepted.{Accepted}
 use Rattle.model.proofs.Line.{Change, kept, relocked, reheld, dropped, changed}
@@ -68,7 +68,7 @@ abbrev pub asked : Call → Verb → Request
 asked g w = record { call = g; verb = w }
 
 abbrev pub event : Bucket → Call → Verb → Event
-event b g w = record { before = b; request = asked g w }
+event b g w = record { before = b; request = asked g w; answered = λ v. givesNumber v (answerTo b (asked g w)) }
 
 abbrev pub with : List Event → Bucket → Call → Verb → List Event
 with es b g w = es ++ (event b g w ∷ [])

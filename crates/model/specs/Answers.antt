@@ -3,6 +3,7 @@ use Prim.Native.Nat.{ℕ}
 use mathlib.Core.Bool.{Bool, true, false}
 use mathlib.Core.List.{List}
 use mathlib.Core.Option.{Option, some, none}
+use lib.Dec.{eqb}
 use Rattle.buffers.specs.Choices.{pick, thenSome}
 use Rattle.model.specs.Rows.{Row, isMarker}
 use Rattle.model.specs.Settings.{Bucket}
@@ -60,3 +61,13 @@ reply b now (Ask (Get n)) = thenSome (rowOf (b .rows) n) done (λ x. shown x)
 
 abbrev pub answerTo : Bucket → Request → Answer
 answerTo b q = reply b (nowOf b (q .call)) (q .verb)
+
+-- The answer is that of a PUT or COPY, and gives this number.
+abbrev pub givesNumber : ℕ → Answer → Bool
+givesNumber v done = false
+givesNumber v (made (numbered n)) = eqb n v
+givesNumber v (marked n) = false
+givesNumber v (removed n) = false
+givesNumber v (removedMarker n) = false
+givesNumber v (sweptCounts g n) = false
+givesNumber v (shown x) = false

@@ -36,7 +36,6 @@ use Rattle.model.specs.Requests.{
 use Rattle.model.specs.Time.{nowOf, defaultEnd}
 use Rattle.model.specs.Effects.{rowOf}
 use Rattle.model.specs.Refusals.{namedRow}
-use Rattle.model.specs.Answers.{Answer, done, made, marked, removed, removedMarker, sweptCounts, shown, answerTo}
 use Rattle.model.specs.Run.{Event, run, accepted}
 
 -- ## Time
@@ -68,18 +67,9 @@ pub record Making : Type 0 where
   pub size : ℕ
   pub created : ℕ
 
--- The answer is that of a PUT or COPY, and gives this number.
-abbrev pub givesNumber : ℕ → Answer → Bool
-givesNumber v done = false
-givesNumber v (made (numbered n)) = eqb n v
-givesNumber v (marked n) = false
-givesNumber v (removed n) = false
-givesNumber v (removedMarker n) = false
-givesNumber v (sweptCounts g n) = false
-givesNumber v (shown x) = false
-
+-- The line is a PUT or COPY and answers this number.
 abbrev pub answers : ℕ → Event → Bool
-answers v e = givesNumber v (answerTo (e .before) (e .request))
+answers v e = e .answered v
 
 -- *Made with* (01), by what the versions before the line were made with: a PUT gives body and length, in a COPY they are those its source version was made with.
 abbrev pub makingBy : (ℕ → Option Making) → Event → Verb → Option Making

@@ -8,7 +8,7 @@ use Rattle.model.specs.Settings.{Bucket}
 use Rattle.model.specs.Requests.{Request, Line, unreadable, reads}
 use Rattle.model.specs.Effects.{after}
 use Rattle.model.specs.Refusals.{refusal}
-use Rattle.model.specs.Answers.{Answer, answerTo}
+use Rattle.model.specs.Answers.{Answer, answerTo, givesNumber}
 
 -- The bucket after an accepted line.
 abbrev pub accept : Bucket → Line → Bucket
@@ -24,14 +24,15 @@ abbrev pub run : ℕ → Bucket → List Line → Bucket
 run c b [] = b
 run c b (l ∷ ls) = run c (serve c b l) ls
 
--- An accepted line: the bucket that the lines before it left, and what it says.
+-- An accepted line: the bucket that the lines before it left, what it says, and whether its answer is that of a PUT or COPY with this number.
 pub record Event : Type 0 where
   pub before : Bucket
   pub request : Request
+  pub answered : ℕ → Bool
 
 abbrev pub event : Bucket → Line → List Event
 event b (unreadable room) = []
-event b (reads q) = record { before = b; request = q } ∷ []
+event b (reads q) = record { before = b; request = q; answered = λ v. givesNumber v (answerTo b q) } ∷ []
 
 -- The accepted lines of a list, in order.
 abbrev pub accepted : ℕ → Bucket → List Line → List Event
