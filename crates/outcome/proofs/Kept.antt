@@ -5,6 +5,7 @@ use mathlib.Core.Logic.{_⊎_, inl, inr}
 use mathlib.Core.Bool.{Bool, true, false, _&&_, false≢true}
 use mathlib.Core.List.{List, [], _∷_}
 use mathlib.Core.Option.{Option, some, none}
+use native.Mathlib.Omega.{arith}
 use lib.Dec.{eqb, ltb}
 use lib.ListN.{length}
 use borrow.Author.Tests.{eqb-true, eqb-false, ltb-false}
@@ -14,6 +15,7 @@ use Rattle.buffers.proofs.Tests.{either, and-i, and-l, and-r}
 use Rattle.text.specs.Keys.{isPrefix}
 use Rattle.blocks.specs.Blocks.{blockOf, keyIn, isBlock}
 use Rattle.blocks.proofs.Blocks.{key-back, block-block}
+use Rattle.model.specs.Rows.{Row}
 use Rattle.model.specs.Settings as model
 use Rattle.model.specs.Settings.{soundRule, soundRules, soundConfig, sound}
 use Rattle.model.specs.Requests.{Request, reads}
@@ -22,10 +24,11 @@ use Rattle.model.specs.Refusals.{refusal}
 use Rattle.model.proofs.Sound.{Whole, whole as sound-whole, sound-after}
 use Rattle.settings.specs.declared.Settings.{Settings}
 use Rattle.settings.specs.Meaning.{rulesMean, settingsMean, prefixesAre}
-use Rattle.table.specs.Layout.{capacity}
+use Rattle.table.specs.Layout.{keysOf, capacity}
 use Rattle.bucket.specs.Whole.{bucketOf, whole}
-use Rattle.bucket.proofs.Whole.{WholeParts, whole-parts, whole-of}
-use Rattle.request.specs.Grammar.{Said, readLine}
+use Rattle.table.proofs.Held.{read-back, keys-length}
+use Rattle.bucket.proofs.Whole.{WholeParts, whole-parts, sound-parts, whole-of}
+use Rattle.request.specs.Grammar.{Said, readLine, lineOf}
 use Rattle.outcome.specs.Outcome.{rulesFrom, settingsFrom, Outcome, refused, accepted, asked, refusalOf, outcome}
 use Rattle.outcome.proofs.Demands.{refused-unchanged, unreadable-refused, accepted-line}
 
@@ -65,9 +68,12 @@ settings-mean : (s : model.Settings) (used : ℕ) → soundConfig (s .config) �
 settings-mean s used e = rw (rules-mean (s .config .rules) (rules-of (s .config .rules) (config-rules (s .config) e)))
 
 -- The model's refusal, where the whole is sound.
-model-accepts : (s : Settings) (n b line a : List ℕ) (q : Said) → whole s n b ≡ true → readLine line ≡ some q → refusalOf s n b line a ≡ 0 → refusal (capacity b) (bucketOf s n b) (reads (asked (length a) q)) ≡ 0
+pub model-refusal : (s : Settings) (n b line a : List ℕ) → whole s n b ≡ true → refusalOf s n b line a ≡ refusal (capacity b) (bucketOf s n b) (lineOf (length a) line)
 unfolding refusalOf refusal
-model-accepts s n b line a q w e z = simp ((whole-parts s n b w) .is-sound) (simp (w, e) at z)
+model-refusal s n b line a w = rw (w, (whole-parts s n b w) .is-sound)
+
+model-accepts : (s : Settings) (n b line a : List ℕ) (q : Said) → whole s n b ≡ true → readLine line ≡ some q → refusalOf s n b line a ≡ 0 → refusal (capacity b) (bucketOf s n b) (reads (asked (length a) q)) ≡ 0
+model-accepts s n b line a q w e z = rw e at (sym (model-refusal s n b line a w) ∙ z)
 
 pub accepted-whole : (s : Settings) (n b line a : List ℕ) (q : Said) → whole s n b ≡ true → readLine line ≡ some q → refusalOf s n b line a ≡ 0
     → whole ((accepted s n b (asked (length a) q) a) .settings) ((accepted s n b (asked (length a) q) a) .numbers) ((accepted s n b (asked (length a) q) a) .keys) ≡ true
@@ -78,6 +84,19 @@ accepted-whole s n b line a q w e z =
     whole-of _ (capacity b) ((after (bucketOf s n b) (asked (length a) q)) .rows) _ _ (p .some) (p .most) refl refl refl
     (prefixes-are ((after (bucketOf s n b) (asked (length a) q)) .settings .config .rules) (rules-of _ (config-rules ((after (bucketOf s n b) (asked (length a) q)) .settings .config) c)))
     (rw (settings-mean ((after (bucketOf s n b) (asked (length a) q)) .settings) (length ((after (bucketOf s n b) (asked (length a) q)) .rows)) c) m)
+
+-- The bucket that an accepted line leaves is the model's.
+pub accepted-bucket : (s : Settings) (n b line a : List ℕ) (q : Said) → whole s n b ≡ true → readLine line ≡ some q → refusalOf s n b line a ≡ 0
+    → bucketOf ((accepted s n b (asked (length a) q) a) .settings) ((accepted s n b (asked (length a) q) a) .numbers) ((accepted s n b (asked (length a) q) a) .keys) ≡ after (bucketOf s n b) (asked (length a) q)
+accepted-bucket s n b line a q w e z =
+    let m = sound-after (capacity b) (bucketOf s n b) (asked (length a) q) (model-accepts s n b line a q w e z) in
+    let c = (sound-whole (capacity b) (after (bucketOf s n b) (asked (length a) q)) m) .config-sound in
+    let p = sound-parts (capacity b) (after (bucketOf s n b) (asked (length a) q)) m in
+    rw (settings-mean ((after (bucketOf s n b) (asked (length a) q)) .settings) (length ((after (bucketOf s n b) (asked (length a) q)) .rows)) c, read-back (capacity b) ((after (bucketOf s n b) (asked (length a) q)) .rows) (p .room) (p .keys-fit))
+
+-- The capacity stays.
+pub accepted-capacity : (b : List ℕ) (xs : List Row) → capacity (keysOf (capacity b) xs) ≡ capacity b
+accepted-capacity b xs = let e = keys-length (capacity b) xs in omega arith
 
 -- Every line leaves a whole bucket whole.
 pub outcome-whole : (s : Settings) (n b line a : List ℕ) → whole s n b ≡ true → whole ((outcome s n b line a) .settings) ((outcome s n b line a) .numbers) ((outcome s n b line a) .keys) ≡ true

@@ -1,0 +1,4 @@
+pub mod Demands
+pub mod Answering
+pub mod Runs
+pub mod LockClause

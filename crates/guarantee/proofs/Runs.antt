@@ -1,0 +1,103 @@
+-- A list of calls on whole buffers is the model's run of their lines.
+use Prim.Native.Nat.{ℕ}
+use mathlib.Core.Path.{_≡_, refl, sym, _∙_, ap, ap₂, fun-ext}
+use mathlib.Core.Logic.{_⊎_, inl, inr}
+use mathlib.Core.Bool.{Bool, true, false}
+use mathlib.Core.List.{List, [], _∷_, _++_}
+use mathlib.Core.Option.{Option, some, none}
+use lib.Dec.{eqb}
+use lib.ListN.{length}
+use borrow.Author.Tests.{eqb-true, eqb-false, ne-eqb}
+use Rattle.buffers.specs.Choices.{pick, thenSome}
+use Rattle.buffers.proofs.Tests.{either}
+use Rattle.model.specs.Settings.{Bucket}
+use Rattle.model.specs.Requests.{Line, Request, reads}
+use Rattle.model.specs.Time.{nowOf}
+use Rattle.model.specs.Refusals.{refusal}
+use Rattle.model.specs.Answers.{answerTo, givesNumber}
+use Rattle.model.specs.Run as model
+use Rattle.model.specs.Run.{Event}
+use Rattle.table.specs.Layout.{capacity}
+use Rattle.bucket.specs.Whole.{whole}
+use Rattle.request.specs.Grammar.{readLine, lineOf}
+use Rattle.outcome.specs.Outcome.{asked, refusalOf}
+use Rattle.outcome.proofs.Kept.{model-refusal, accepted-bucket, accepted-capacity, outcome-whole}
+use Rattle.guarantee.specs.Calls.{Lent, Call, held, served, leaves, isAccepted, left, event, accepted, answersNumber}
+use Rattle.guarantee.specs.Promise.{Accepted}
+use Rattle.guarantee.proofs.Demands.{accepts, unchanged, number-is}
+use Rattle.guarantee.proofs.Answering.{answered-is}
+
+-- Lent buffers of this capacity that refusal 1 does not meet.
+pub record Whole (c : ℕ) (s : Lent) : Type 0 where
+  pub is-whole : whole (s .settings) (s .numbers) (s .keys) ≡ true
+  pub size : capacity (s .keys) ≡ c
+
+-- The line of a call, as the bucket meets it.
+abbrev pub lineIn : Call → Line
+lineIn l = lineOf (length (l .answer)) (l .line)
+
+abbrev pub linesIn : List Call → List Line
+linesIn [] = []
+linesIn (l ∷ ls) = lineIn l ∷ linesIn ls
+
+-- ## One call
+
+module _ (c : ℕ) (s : Lent) (l : Call) (w : Whole c s) where
+  abbrev number : ℕ
+  number = refusalOf (s .settings) (s .numbers) (s .keys) (l .line) (l .answer)
+
+  same-refusal : number ≡ refusal c (held s) (lineIn l)
+  same-refusal = rw (← w .size) (model-refusal (s .settings) (s .numbers) (s .keys) (l .line) (l .answer) (w .is-whole))
+
+  -- What an accepted call leaves, and what it says.
+  held-accepted : Accepted s l → number ≡ 0 → held (leaves (served s l)) ≡ model.serve c (held s) (lineIn l)
+  held-accepted a z =
+      let r = sym same-refusal ∙ z in
+      rw (a .does, a .reads) (accepted-bucket (s .settings) (s .numbers) (s .keys) (l .line) (l .answer) (a .said) (w .is-whole) (a .reads) z ∙ sym (rw (rw (a .reads) at r)))
+
+  held-refused : (number ≡ 0 → ⊥) → held (leaves (served s l)) ≡ model.serve c (held s) (lineIn l)
+  held-refused z = rw (unchanged s l z, ne-eqb (refusal c (held s) (lineIn l)) 0 (λ e. z (same-refusal ∙ e)))
+
+  pub held-after : held (leaves (served s l)) ≡ model.serve c (held s) (lineIn l)
+  held-after = elim (either (eqb number 0)) [
+    | inl t ↦ held-accepted (accepts s l (eqb-true number 0 t)) (eqb-true number 0 t)
+    | inr t ↦ held-refused (eqb-false number 0 t)
+  ]
+
+  size-after : capacity ((leaves (served s l)) .keys) ≡ c
+  size-after = elim (either (eqb number 0)) [
+    | inl t ↦ rw ((accepts s l (eqb-true number 0 t)) .does) (accepted-capacity (s .keys) _ ∙ w .size)
+    | inr t ↦ rw (unchanged s l (eqb-false number 0 t)) (w .size)
+  ]
+
+  pub whole-after : Whole c (leaves (served s l))
+  whole-after = record { is-whole = outcome-whole (s .settings) (s .numbers) (s .keys) (l .line) (l .answer) (w .is-whole); size = size-after }
+
+  -- An accepted call says what the model's accepted line says.
+  event-accepted : (a : Accepted s l) → event s l ≡ model.event (held s) (lineIn l)
+  event-accepted a =
+      let q = asked (length (l .answer)) (a .said) in
+      let e : answersNumber (a .said .verb) ((served s l) .answer) ≡ (λ v. givesNumber v (answerTo (held s) q)) = rw (a .does) (fun-ext (λ v. answered-is (held s) (nowOf (held s) (q .call)) (q .verb) (l .answer) v)) in
+      rw (a .reads) (ap (λ (f : ℕ → Bool). record { before = held s; request = q; answered = f } ∷ []) e)
+
+  pub events-after : pick (isAccepted s l) (event s l) [] ≡ pick (eqb (refusal c (held s) (lineIn l)) 0) (model.event (held s) (lineIn l)) []
+  events-after = elim (either (eqb number 0)) [
+    | inl t ↦ rw (number-is s l, ← same-refusal, t) (event-accepted (accepts s l (eqb-true number 0 t)))
+    | inr t ↦ rw (number-is s l, ← same-refusal, t)
+  ]
+
+-- ## A list of calls
+
+pub held-left : (c : ℕ) (s : Lent) (ls : List Call) → Whole c s → held (left s ls) ≡ model.run c (held s) (linesIn ls)
+held-left c s [] w = refl
+held-left c s (l ∷ ls) w = held-left c (leaves (served s l)) ls (whole-after c s l w) ∙ ap (λ (b : Bucket). model.run c b (linesIn ls)) (held-after c s l w)
+
+pub accepted-left : (c : ℕ) (s : Lent) (ls : List Call) → Whole c s → accepted s ls ≡ model.accepted c (held s) (linesIn ls)
+accepted-left c s [] w = refl
+accepted-left c s (l ∷ ls) w =
+    ap₂ (λ (x y : List Event). x ++ y) (events-after c s l w)
+    (accepted-left c (leaves (served s l)) ls (whole-after c s l w) ∙ ap (λ (b : Bucket). model.accepted c b (linesIn ls)) (held-after c s l w))
+
+pub whole-left : (c : ℕ) (s : Lent) (ls : List Call) → Whole c s → Whole c (left s ls)
+whole-left c s [] w = w
+whole-left c s (l ∷ ls) w = whole-left c (leaves (served s l)) ls (whole-after c s l w)

@@ -1,0 +1,91 @@
+-- Calls of the engine on lent buffers: each is handed what the one before it left.
+use Prim.Native.Nat.{ℕ, _*_}
+use mathlib.Core.Bool.{Bool, true, false, _&&_}
+use mathlib.Core.List.{List, [], _∷_, _++_}
+use lib.Dec.{eqb}
+use lib.ListN.{length, replicate}
+use Rattle.buffers.specs.Choices.{pick, thenSome}
+use Rattle.buffers.specs.Lists.{begins}
+use Rattle.model.specs.Settings.{Bucket, fresh}
+use Rattle.model.specs.Requests.{numbered, Verb, Put, Copy, Retain, Hold, AddMarker, DeleteVersion, Set, Sweep, Ask}
+use Rattle.model.specs.Answers.{made}
+use Rattle.model.specs.Run.{Event}
+use Rattle.settings.specs.declared.Settings.{Settings}
+use Rattle.bucket.specs.Whole.{bucketOf}
+use Rattle.request.specs.Grammar.{readLine}
+use Rattle.answers.specs.Text.{answerText}
+use Rattle.outcome.specs.Outcome.{settingsFrom, Outcome, asked, outcome}
+
+-- The bucket as it is lent: its settings, the numbers of its rows, and their key bytes.
+pub record Lent : Type 0 where
+  pub settings : Settings
+  pub numbers : List ℕ
+  pub keys : List ℕ
+
+-- A call: a line's bytes and an answer buffer, each of any contents and length.
+pub record Call : Type 0 where
+  pub line : List ℕ
+  pub answer : List ℕ
+
+-- The bucket that lent buffers hold.
+abbrev pub held : Lent → Bucket
+held s = bucketOf (s .settings) (s .numbers) (s .keys)
+
+-- Fresh: next number 1, everything else zero.
+abbrev pub freshLent : ℕ → Lent
+freshLent c = record { settings = settingsFrom (fresh .settings) 0; numbers = replicate (8 * c) 0; keys = replicate (64 * c) 0 }
+
+-- ## One call
+
+-- What a call returns and leaves, which the contract of the engine's `serve` equates with what the code does.
+abbrev pub served : Lent → Call → Outcome
+served s l = outcome (s .settings) (s .numbers) (s .keys) (l .line) (l .answer)
+
+-- What a call leaves of the bucket.
+abbrev pub leaves : Outcome → Lent
+leaves o = record { settings = o .settings; numbers = o .numbers; keys = o .keys }
+
+-- Accepted: the call returned 0.
+abbrev pub isAccepted : Lent → Call → Bool
+isAccepted s l = eqb ((served s l) .number) 0
+
+-- ## A list of calls
+
+-- What a list of calls leaves.
+abbrev pub left : Lent → List Call → Lent
+left s [] = s
+left s (l ∷ ls) = left (leaves (served s l)) ls
+
+-- The accepted calls of a list.
+abbrev pub acceptedCalls : Lent → List Call → List Call
+acceptedCalls s [] = []
+acceptedCalls s (l ∷ ls) = pick (isAccepted s l) (l ∷ acceptedCalls (leaves (served s l)) ls) (acceptedCalls (leaves (served s l)) ls)
+
+-- ## What accepted calls say
+
+-- A PUT or COPY.
+abbrev pub makesVersion : Verb → Bool
+makesVersion (Put k body size t) = true
+makesVersion (Copy n k t) = true
+makesVersion (Retain n r y) = false
+makesVersion (Hold n on) = false
+makesVersion (AddMarker k y) = false
+makesVersion (DeleteVersion k v y) = false
+makesVersion (Set s) = false
+makesVersion Sweep = false
+makesVersion (Ask q) = false
+
+-- The line is a PUT or COPY, and the answer buffer begins with `ok`, a tab, this number and a line feed.
+abbrev pub answersNumber : Verb → List ℕ → ℕ → Bool
+answersNumber w answer v = makesVersion w && begins (answerText (made (numbered v))) answer
+
+-- An accepted call: the bucket before it, what its line reads as, and the number in its answer buffer.
+abbrev pub event : Lent → Call → List Event
+event s l =
+    thenSome (readLine (l .line)) [] (λ q.
+    record { before = held s; request = asked (length (l .answer)) q; answered = answersNumber (q .verb) ((served s l) .answer) } ∷ [])
+
+-- The accepted lines of a list of calls, in order.
+abbrev pub accepted : Lent → List Call → List Event
+accepted s [] = []
+accepted s (l ∷ ls) = pick (isAccepted s l) (event s l) [] ++ accepted (leaves (served s l)) ls
