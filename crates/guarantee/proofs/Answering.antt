@@ -22,6 +22,7 @@ use Rattle.model.specs.Requests.{Version, numbered, Name, name, Get, Verb, Put,
 use Rattle.model.specs.Time.{Now}
 use Rattle.model.specs.Effects.{rowOf}
 use Rattle.model.specs.Answers.{Answer, done, removed, removedMarker, shown, made, reply, givesNumber}
+use Rattle.model.proofs.Invariant.{removal-answers, shown-answers}
 use Rattle.answers.specs.Text.{fieldsText, okText, answerText}
 use Rattle.outcome.specs.Outcome.{written}
 use Rattle.guarantee.specs.Calls.{answersNumber}
@@ -64,14 +65,6 @@ begins-made v n room =
 
 -- ## Every verb
 
-removal-gives : (a : Bool) (u : Version) (v : ℕ) → givesNumber v (pick a (removedMarker u) (removed u)) ≡ false
-removal-gives true u v = refl
-removal-gives false u v = refl
-
-shown-gives : (o : Option Row) (v : ℕ) → givesNumber v (thenSome o done (λ x. shown x)) ≡ false
-shown-gives none v = refl
-shown-gives (some x) v = refl
-
 pub answered-is : (b : Bucket) (now : Now) (w : Verb) (room : List ℕ) (v : ℕ) → answersNumber w (written (answerText (reply b now w)) room) v ≡ givesNumber v (reply b now w)
 unfolding reply
 answered-is b now (Put k body size t) room v = begins-made v (b .settings .next) _
@@ -79,7 +72,7 @@ answered-is b now (Copy n k t) room v = begins-made v (b .settings .next) _
 answered-is b now (Retain n r y) room v = refl
 answered-is b now (Hold n on) room v = refl
 answered-is b now (AddMarker k y) room v = refl
-answered-is b now (DeleteVersion k u y) room v = sym (removal-gives (thenSome (rowOf (b .rows) (name k (some u))) false isMarker) u v)
+answered-is b now (DeleteVersion k u y) room v = sym (removal-answers (thenSome (rowOf (b .rows) (name k (some u))) false isMarker) u v)
 answered-is b now (Set s) room v = refl
 answered-is b now Sweep room v = refl
-answered-is b now (Ask (Get n)) room v = sym (shown-gives (rowOf (b .rows) n) v)
+answered-is b now (Ask (Get n)) room v = sym (shown-answers (rowOf (b .rows) n) v)

@@ -13,8 +13,7 @@ use Rattle.buffers.specs.Choices.{pick}
 use Rattle.buffers.specs.Lists.{all}
 use Rattle.buffers.proofs.Tests.{either, and-l, and-r}
 use Rattle.calendar.proofs.RoundTrip.{round-trip}
-use Rattle.model.specs.Refusals.{Check, check, firstOf}
-use Rattle.model.proofs.Facts.{FirstHolds}
+use Rattle.model.specs.Refusals.{Check, check, firstOf, FirstHolds}
 use Rattle.request.specs.Grammar.{Said, readLine}
 use Rattle.outcome.specs.Outcome.{refused, asked, refusalOf, outcome}
 use Rattle.outcome.proofs.Demands.{refusal-range, refusal-first, refused-unchanged, unreadable-refused, accepted-line}

@@ -2,3 +2,4 @@ pub mod Demands
 pub mod Answering
 pub mod Runs
 pub mod LockClause
+pub mod Lines

@@ -9,9 +9,8 @@ use Rattle.buffers.specs.Lists.{all}
 use Rattle.calendar.specs.Calendar.{latest}
 use Rattle.calendar.specs.Reading.{readDate}
 use Rattle.calendar.specs.Printing.{printDate}
-use Rattle.model.specs.Refusals.{Check, checks}
+use Rattle.model.specs.Refusals.{Check, FirstHolds, checks}
 use Rattle.model.specs.LockClause.{Kept}
-use Rattle.model.proofs.Facts.{FirstHolds}
 use Rattle.table.specs.Layout.{capacity}
 use Rattle.bucket.specs.Whole.{whole}
 use Rattle.request.specs.Grammar.{Said, readLine, lineOf}

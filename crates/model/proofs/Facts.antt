@@ -14,7 +14,7 @@ use Rattle.buffers.proofs.Tests.{either, and-i, and-l, and-r}
 use Rattle.model.specs.Rows.{Row}
 use Rattle.model.specs.Settings.{Bucket, fresh, sound}
 use Rattle.model.specs.Requests.{Line, unreadable, reads}
-use Rattle.model.specs.Refusals.{Check, check, firstOf, checks, refusal}
+use Rattle.model.specs.Refusals.{Check, check, firstOf, FirstHolds, checks, refusal}
 use Rattle.model.specs.Run.{Event, serve, run, accepted}
 use Rattle.model.specs.LockClause.{timeAfter, versions, distinct}
 use Rattle.model.proofs.Versions.{cons-none}
@@ -38,13 +38,6 @@ pub refusal-range : (c : ℕ) (b : Bucket) (l : Line) → refusal c b l ≤ 12
 unfolding refusal
 refusal-range c b (unreadable room) = first-most 12 (checks (sound c b) c b (unreadable room)) refl
 refusal-range c b (reads q) = first-most 12 (checks (sound c b) c b (reads q)) refl
-
--- The condition of this number holds, and none before it in the list.
-pub record FirstHolds (xs : List Check) (n : ℕ) : Type 0 where
-  pub before : List Check
-  pub after : List Check
-  pub at : xs ≡ before ++ (check n true ∷ after)
-  pub none-before : all (λ x. not (x .holds)) before ≡ true
 
 pub first-holds : (xs : List Check) (n : ℕ) → firstOf xs ≡ n → (n ≡ 0 → ⊥) → FirstHolds xs n
 first-holds [] n e z = absurd (z (sym e))

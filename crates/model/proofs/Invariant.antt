@@ -193,11 +193,11 @@ none-after b now Sweep v l e = swept-none (b .settings .config .rules) now (b .s
 none-after b now (Ask q) v l e = e
 
 -- The answer to a DELETE or a GET makes no version.
-removal-answers : (a : Bool) (u : Version) (v : ℕ) → givesNumber v (pick a (removedMarker u) (removed u)) ≡ false
+pub removal-answers : (a : Bool) (u : Version) (v : ℕ) → givesNumber v (pick a (removedMarker u) (removed u)) ≡ false
 removal-answers true u v = refl
 removal-answers false u v = refl
 
-shown-answers : (o : Option Row) (v : ℕ) → givesNumber v (thenSome o done (λ x. shown x)) ≡ false
+pub shown-answers : (o : Option Row) (v : ℕ) → givesNumber v (thenSome o done (λ x. shown x)) ≡ false
 shown-answers none v = refl
 shown-answers (some x) v = refl
 

@@ -1,5 +1,6 @@
 -- 01, "The twelve refusals": each condition by its own name, and the list of them in 01's order.
 use Prim.Native.Nat.{ℕ, _+_}
+use mathlib.Core.Path.{_≡_}
 use mathlib.Core.Bool.{Bool, true, false, not, _&&_, _||_}
 use mathlib.Core.List.{List, [], _∷_, _++_}
 use mathlib.Core.Option.{Option, some, none}
@@ -198,6 +199,13 @@ check n h = record { number = n; holds = h }
 abbrev pub firstOf : List Check → ℕ
 firstOf [] = 0
 firstOf (x ∷ xs) = pick (x .holds) (x .number) (firstOf xs)
+
+-- The condition of this number holds, and none before it in the list.
+pub record FirstHolds (xs : List Check) (n : ℕ) : Type 0 where
+  pub before : List Check
+  pub after : List Check
+  pub at : xs ≡ before ++ (check n true ∷ after)
+  pub none-before : all (λ x. not (x .holds)) before ≡ true
 
 -- The conditions that only the request's own fields decide.
 abbrev pub fieldChecks : Bucket → Request → List Check

@@ -12,8 +12,8 @@ use borrow.Author.Tests.{eqb-true, eqb-false, ne-eqb}
 use Rattle.buffers.specs.Choices.{pick, thenSome}
 use Rattle.buffers.proofs.Tests.{either}
 use Rattle.model.specs.Requests.{unreadable, reads}
-use Rattle.model.specs.Refusals.{Check, checks}
-use Rattle.model.proofs.Facts.{first-most, FirstHolds, first-holds}
+use Rattle.model.specs.Refusals.{Check, FirstHolds, checks}
+use Rattle.model.proofs.Facts.{first-most, first-holds}
 use Rattle.settings.specs.declared.Settings.{Settings}
 use Rattle.table.specs.Layout.{capacity}
 use Rattle.bucket.specs.Whole.{bucketOf, whole}

@@ -1,6 +1,7 @@
 pub mod Values
 pub mod Scans
 pub mod Fields
+pub mod Lines
 pub mod Reading
 pub mod Printing
 pub mod RoundTrip

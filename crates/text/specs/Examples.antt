@@ -8,6 +8,7 @@ use Rattle.buffers.specs.Texts.{bytes}
 use Rattle.buffers.specs.Lists.{begins}
 use Rattle.text.specs.Numbers.{isDigit, leadingZero, numberOf, positiveOf}
 use Rattle.text.specs.Fields.{fields, fieldOf, placeOf}
+use Rattle.text.specs.Lines.{linesOf}
 use Rattle.text.specs.Keys.{isKeyByte, isPrefix, isKey}
 use Rattle.text.specs.Printing.{digits}
 
@@ -24,6 +25,8 @@ pub record Examples : Type 0 where
   pub split : fields (bytes "GET\tkey\t\t7") ≡ bytes "GET" ∷ bytes "key" ∷ [] ∷ bytes "7" ∷ []
   pub last : placeOf (bytes "GET\tkey\t\t7") 3 ≡ record { start = 9; len = 1 }
   pub missing : fieldOf (bytes "GET\tkey") 2 ≡ []
+  pub lines : linesOf (bytes "GET\n\nPUT") ≡ bytes "GET" ∷ [] ∷ bytes "PUT" ∷ []
+  pub lastFeed : linesOf (bytes "GET\n") ≡ bytes "GET" ∷ []
   pub dashKey : isKey (bytes "-") ≡ true
   pub space : isKey (bytes "a b") ≡ false
   pub emptyKey : isKey [] ≡ false
@@ -49,6 +52,8 @@ examples =
       split = refl;
       last = refl;
       missing = refl;
+      lines = refl;
+      lastFeed = refl;
       dashKey = refl;
       space = refl;
       emptyKey = refl;

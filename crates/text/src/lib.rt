@@ -1,4 +1,4 @@
-// Parts of a line of text: fields between tabs, whole numbers, words, keys and prefixes, and printed numbers. The definitions are in specs/.
+// Parts of a text: lines, fields between tabs, whole numbers, words, keys and prefixes, and printed numbers. The definitions are in specs/.
 ghost use mathlib.Core.Path.{_≡_};
 ghost use Prim.Native.Nat.{_+_, _≤_};
 ghost use lib.ListN.{length};
@@ -7,6 +7,7 @@ ghost use Rattle.buffers.specs.Ranges.{Within};
 ghost use Rattle.buffers.specs.Writes.{Wrote};
 ghost use Rattle.text.specs.Numbers.{valueOf, isDigit, leadingZero, digitMore, digitsOf, numberOf, positiveOf};
 ghost use Rattle.text.specs.Fields.{tabAt, tabsIn, startOf, fieldOf, partOf, Found};
+ghost use Rattle.text.specs.Lines.{feedAt};
 ghost use Rattle.text.specs.Keys.{isKeyByte, keyBytes, isPrefix, isKey, has};
 ghost use Rattle.text.specs.Printing.{digits};
 
@@ -68,6 +69,20 @@ fn first_length(rest: &[u8]) -> usize
     let mut i = 0;
     while i < rest.len() {
         if rest[i] == b'\t' {
+            return i;
+        }
+        i += 1;
+    }
+    i
+}
+
+// The bytes before the first line feed: how many.
+pub fn line_length(rest: &[u8]) -> usize
+    ensures { λ r. ⌜ Within r (feedAt (now (rest .entry))) (length (now (rest .entry))) ⌝ }
+{
+    let mut i = 0;
+    while i < rest.len() {
+        if rest[i] == b'\n' {
             return i;
         }
         i += 1;
