@@ -3,3 +3,4 @@ pub mod Answering
 pub mod Runs
 pub mod LockClause
 pub mod Lines
+pub mod Lists

@@ -1,5 +1,5 @@
 -- A list of lines on one bucket with one answer buffer.
-use Prim.Native.Nat.{ℕ}
+use Prim.Native.Nat.{ℕ, _+_, _≤_}
 use mathlib.Core.List.{List, [], _∷_}
 use mathlib.Core.Path.{_≡_}
 use mathlib.Core.Bool.{true}
@@ -33,7 +33,11 @@ abbrev pub callsOf : Lent → List ℕ → List (List ℕ) → List Call
 callsOf s answer [] = []
 callsOf s answer (l ∷ ls) = call l answer ∷ callsOf (leaves (served s (call l answer))) ((served s (call l answer)) .answer) ls
 
--- What holds between two lines: the bucket is whole, and the lines from i on lead to the end.
-pub record Serving (text : List ℕ) (end : Ended) (i : ℕ) (s : Settings) (numbers keys answer : List ℕ) : Type 0 where
+-- What holds between two lines: the bucket is whole, the lines from i on lead to the end, and the buffers have their lengths.
+pub record Serving (text : List ℕ) (end : Ended) (numbers₀ keys₀ answer₀ : List ℕ) (i : ℕ) (s : Settings) (numbers keys answer : List ℕ) : Type 0 where
   pub is-whole : whole s numbers keys ≡ true
   pub leads : end ≡ servedLines (lent s numbers keys) answer (linesOf (drop i text))
+  pub most : i ≤ length text + 1
+  pub numbers-long : length numbers ≡ length numbers₀
+  pub keys-long : length keys ≡ length keys₀
+  pub answer-long : length answer ≡ length answer₀

@@ -1,0 +1,40 @@
+-- `serve_each` meets its contract.
+use Prim.Native.Nat.{_+_, _-_}
+use lib.ListN.{length}
+use Rattle.text.specs.Lines.{linesOf}
+use Rattle.guarantee.specs.Lists.{lent, servedLines, Serving}
+use Rattle.guarantee.proofs.Lines.{serving}
+use borrow.Author.Needs.{needs}
+use Rattle.guarantee.proofs.serve_each.Statement.{statement}
+use Rattle.guarantee.proofs.serve_each.Tie as tie
+
+abbrev Inv-loop : tie.InvT-loop
+Inv-loop rows₀ keys₀ text answer₀ after₀ i₀ rows keys answer after i =
+    Serving text (servedLines (lent after₀ rows₀ keys₀) answer₀ (linesOf text)) rows₀ keys₀ answer₀ i after rows keys answer
+
+abbrev μ-loop : tie.MeasureT-loop
+μ-loop rows₀ keys₀ text answer₀ after₀ i₀ rows keys answer after i = length text + 1 - i
+
+pub serve-each-spec : {M : Type 1} → statement M
+serve-each-spec =
+    tie.close
+    (tie.spec
+    Inv-loop
+    μ-loop
+    (λ c. search (needs, serving))
+    (λ c. search (needs, serving))
+    (λ c. search (needs, serving))
+    (λ c. search (needs, serving))
+    (λ c κs. search (needs, serving))
+    (λ c. search (needs, serving))
+    (λ c. search (needs, serving))
+    (λ c. search (needs, serving))
+    (λ c. search (needs, serving))
+    (λ c κs. search (needs, serving))
+    (λ c. search (needs, serving))
+    (λ c. search (needs, serving))
+    (λ c. search (needs, serving))
+    (λ c. search (needs, serving))
+    (λ c. search (needs, serving))
+    (λ c. search (needs, serving))
+    (λ c. search (needs, serving)))
