@@ -4,3 +4,4 @@ pub mod Runs
 pub mod LockClause
 pub mod Lines
 pub mod Lists
+pub mod Examples

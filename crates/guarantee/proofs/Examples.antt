@@ -1,0 +1,62 @@
+-- 01's printed run on buffers: request lines as bytes on a fresh bucket, and what is printed of each call.
+use Prim.Native.Nat.{ℕ}
+use mathlib.Core.Path.{_≡_, refl}
+use mathlib.Core.List.{List, [], _∷_, _++_}
+use lib.Dec.{eqb}
+use lib.ListN.{take, replicate}
+use Rattle.buffers.specs.Choices.{pick}
+use Rattle.buffers.specs.Texts.{bytes}
+use Rattle.text.specs.Fields.{fieldOf}
+use Rattle.text.specs.Lines.{linesOf}
+use Rattle.text.specs.Keys.{isKeyByte, isPrefix, isKey}
+use Rattle.text.specs.Numbers.{isDigit, digitMore, leadingZero, numberOf, positiveOf}
+use Rattle.text.specs.Printing.{digits}
+use Rattle.calendar.specs.Calendar.{leap, yearsLength, monthStart, monthLength, validDay, daysOf, guessOf, yearOf, monthOf, dateIn, civilOf}
+use Rattle.calendar.specs.Periods.{periodEnd, expiresAt}
+use Rattle.calendar.specs.Printing.{dateText, printDate}
+use Rattle.calendar.specs.Reading.{digitOf, twoDigits, fourDigits, dayNumber, dayAt, secondOfDay, secondAt, placeOf, milliseconds, fractionOf, readDate}
+use Rattle.model.specs.Answers.{reply}
+use Rattle.model.specs.Effects.{added, removed, rowsAfter, setConfig, configAfter}
+use Rattle.model.specs.Locks.{locked, admits}
+use Rattle.model.specs.Refusals.{halfGiven, needs, granted, lacksRight, pastDate, missing, namesMarker, barred, tooLate, spends, full}
+use Rattle.model.specs.Requests.{inRange}
+use Rattle.model.specs.Rows.{soundRow}
+use Rattle.model.specs.Settings.{soundRules, soundConfig, fits, sound}
+use Rattle.model.specs.Time.{defaultEnd}
+use Rattle.blocks.specs.Blocks.{blockOf, isBlock}
+use Rattle.bucket.specs.Whole.{whole}
+use Rattle.request.specs.Fields.{rightsIn, rightsOf, keyOf, prefixOf, versionOf, modeOf, untilOf, switchOf, holdOf, bypassOf, periodOf}
+use Rattle.request.specs.Grammar.{nameAt, retentionAt, termsOf, putOf, copyOf, retainOf, setHoldOf, deleteOf, defaultOf, ruleOf, sweepOf, getOf, settingByWord, verbByWord, readLine}
+use Rattle.answers.specs.Text.{fieldsText, okText, modeText, untilText, holdText}
+use Rattle.outcome.specs.Outcome.{Outcome, refusalOf, outcome}
+use Rattle.guarantee.specs.Calls.{Lent, freshLent, served, leaves}
+use Rattle.guarantee.specs.Lists.{call}
+
+-- What is printed of a call: the answer, or `no`, a tab, the number, a line feed.
+abbrev printedOf : Outcome → List ℕ
+printedOf o = pick (eqb (o .number) 0) (take (o .length) (o .answer)) (bytes "no\t" ++ digits (o .number) ++ bytes "\n")
+
+abbrev printed : Lent → List ℕ → List (List ℕ) → List ℕ
+printed s answer [] = []
+printed s answer (l ∷ ls) = printedOf (served s (call l answer)) ++ printed (leaves (served s (call l answer))) ((served s (call l answer)) .answer) ls
+
+abbrev text : List ℕ
+text =
+    bytes "2024-03-01T00:00:00Z\tc\tDEFAULT\tCOMPLIANCE\t1d\n"
+    ++ bytes "2024-03-01T00:00:00Z\tw\tPUT\tq/7\t41\t300\t-\t-\t-\n"
+    ++ bytes "2024-03-01T12:00:00Z\tdb\tDELETE\tq/7\t1\tyes\n"
+    ++ bytes "2024-03-01T12:00:00Z\td\tDELETE\tq/7\t-\tno\n"
+    ++ bytes "2024-03-01T06:00:00Z\tr\tGET\tq/7\t1\n"
+    ++ bytes "2024-03-02T00:00:00Z\td\tDELETE\tq/7\t1\tno\n"
+    ++ bytes "2024-03-02T00:00:00Z\tr\tGET\tq/7\t-\n"
+
+pub printed-run : printed (freshLent 4) (replicate 256 0) (linesOf text) ≡
+    bytes "ok\n"
+    ++ bytes "ok\t1\n"
+    ++ bytes "no\t9\n"
+    ++ bytes "ok\t2\tmarker\n"
+    ++ bytes "ok\t1\t41\t300\tCOMPLIANCE\t2024-03-02T00:00:00.000Z\tOFF\n"
+    ++ bytes "ok\t1\tremoved\n"
+    ++ bytes "no\t8\n"
+unfolding fieldOf isKeyByte isPrefix isKey isDigit digitMore leadingZero numberOf positiveOf digits leap yearsLength monthStart monthLength validDay daysOf guessOf yearOf monthOf dateIn civilOf periodEnd expiresAt dateText printDate digitOf twoDigits fourDigits dayNumber dayAt secondOfDay secondAt placeOf milliseconds fractionOf readDate reply added removed rowsAfter setConfig configAfter locked admits halfGiven needs granted lacksRight pastDate missing namesMarker barred tooLate spends full inRange soundRow soundRules soundConfig fits sound defaultEnd blockOf isBlock whole rightsIn rightsOf keyOf prefixOf versionOf modeOf untilOf switchOf holdOf bypassOf periodOf nameAt retentionAt termsOf putOf copyOf retainOf setHoldOf deleteOf defaultOf ruleOf sweepOf getOf settingByWord verbByWord readLine fieldsText okText modeText untilText holdText refusalOf outcome
+printed-run = refl
