@@ -40,7 +40,7 @@ impl Bucket {
     }
 
     /// Writes the bucket over bytes whose lengths fit it.
-    fn to_bytes(&self, settings: &mut [u8], rows: &mut [u8], keys: &mut [u8]) {
+    pub fn to_bytes(&self, settings: &mut [u8], rows: &mut [u8], keys: &mut [u8]) {
         self.settings.to_bytes(settings.try_into().expect("the length was tested"));
         for (row, bytes) in self.rows.iter().zip(rows.chunks_exact_mut(ROW_BYTES)) {
             for (number, eight) in row.iter().zip(bytes.chunks_exact_mut(8)) {
