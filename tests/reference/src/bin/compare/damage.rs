@@ -37,10 +37,35 @@ fn flip(side: &mut Side, random: &mut Random) {
 fn set_number(side: &mut Side, random: &mut Random) {
     let value = some_number(side, random);
     let row = some_place(side, random) / 8 * 8;
-    match random.below(3) {
+    match random.below(5) {
         0 => side.settings.set_word(8 * random.below(6), value),
         1 => side.settings.set_word(48 + 80 * random.below(8) + 64 + 8 * random.below(2), value),
         _ => side.rows.set_word(row, value),
+    }
+}
+
+/// Puts values at or over their limits into the default, the next number or the used rows.
+fn set_limits(side: &mut Side, random: &mut Random) {
+    let used = side.settings.word(8);
+    match random.below(3) {
+        0 => {
+            side.settings.set_word(24, random.pick(&[0, 1, 1, 2, 2, 3]));
+            side.settings.set_word(32, random.pick(&[0, 1, 100, 101, 36500, 36501]));
+            side.settings.set_word(40, random.pick(&[0, 1, 1, 2, 2, 3]));
+        }
+        1 => side.settings.set_word(16, random.pick(&[0, 1, SPENT, SPENT + 1])),
+        _ => side.settings.set_word(8, random.pick(&[0, used + 1, used.wrapping_sub(1), 1025])),
+    }
+}
+
+/// Puts a byte at or over the limits of key bytes and lengths into a key or a prefix.
+fn set_key_byte(side: &mut Side, random: &mut Random) {
+    let byte = random.pick(&[0, 1, 2, 0x20, 0x21, 0x3F, 0x40, 0x7E, 0x7F, 0x80]);
+    let (row, within) = (some_place(side, random) / 64 * 64, random.below(4));
+    if random.once_in(3) {
+        side.settings.bytes()[48 + 80 * random.below(8) + within] = byte;
+    } else {
+        side.keys.bytes()[row + within] = byte;
     }
 }
 
@@ -60,9 +85,11 @@ fn swap_rows(side: &mut Side, random: &mut Random) {
 
 /// Damages a bucket whose lengths fit.
 pub fn bucket(side: &mut Side, random: &mut Random) {
-    match random.below(6) {
-        0 | 1 | 2 => flip(side, random),
-        3 | 4 => set_number(side, random),
+    match random.below(9) {
+        0..=2 => flip(side, random),
+        3..=5 => set_number(side, random),
+        6 => set_key_byte(side, random),
+        7 => set_limits(side, random),
         _ => swap_rows(side, random),
     }
 }

@@ -3,6 +3,7 @@ use crate::random::Random;
 use crate::sides::Side;
 use reference::bucket::{CREATED, MAX_LENGTH, UNTIL, VERSION};
 use reference::dates::{self, DAY, LAST};
+use reference::settings::DefaultRetention;
 
 const KEYS: [&str; 8] = ["a", "b", "a/1", "a/2", "a/", "-", "!", "~"];
 const PREFIXES: [&str; 6] = ["", "a", "a/", "-", "b", "zz"];
@@ -59,7 +60,21 @@ impl Maker<'_> {
             4 => (self.time() + 1).min(LAST),
             5 => (self.time() + self.random.next() % (DAY / 2)).min(LAST),
             6 => self.number_of(UNTIL).map_or(self.time(), |date| date.min(self.time() + 5 * DAY)),
+            7 => self.last_default(),
             _ => self.time(),
+        }
+    }
+
+    /// The clock at which the default's date is the last instant or 1 ms after it, where that is not far.
+    fn last_default(&mut self) -> u64 {
+        let words = [24, 32, 40].map(|at| self.side.settings.word(at));
+        let [mode, count, unit] = words;
+        let clock =
+            LAST.saturating_sub(DefaultRetention { mode, count, unit }.period()) + self.random.next() % 2;
+        if (self.time()..LAST.min(self.time() + 5 * DAY)).contains(&clock) {
+            clock
+        } else {
+            self.time()
         }
     }
 

@@ -100,7 +100,7 @@ pub fn mutated(line: &[u8], random: &mut Random) -> Vec<u8> {
         }
         5 => {
             let at = random.below(line.len() + 1);
-            line.insert(at, random.pick(b"\t\n\r 0Z.\0"));
+            line.insert(at, random.pick(b"\t\n\r 0Z.!~\0\x7f\x80"));
         }
         _ => line = change_fields(&line, random),
     }
