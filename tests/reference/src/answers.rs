@@ -1,4 +1,4 @@
-//! The answers of accepted lines.
+//! The answers of accepted lines, and refusals in print.
 use crate::bucket::{Row, BODY, HOLD, LENGTH, MODE, UNTIL, VERSION};
 use crate::dates;
 use crate::requests::{COMPLIANCE, GOVERNANCE};
@@ -86,6 +86,15 @@ pub fn write(answer: &Answer, buffer: &mut [u8]) -> usize {
         }
         Answer::Got(row) => writer.row(row),
     }
+    writer.text(b"\n");
+    writer.length
+}
+
+/// Writes a refusal as the program prints it.
+pub fn write_refusal(number: u64, buffer: &mut [u8]) -> usize {
+    let mut writer = Writer { buffer, length: 0 };
+    writer.text(b"no");
+    writer.number(number);
     writer.text(b"\n");
     writer.length
 }

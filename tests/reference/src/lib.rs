@@ -1,6 +1,8 @@
 //! The locked bucket of the gauge hub, written from document 01 and from nothing else.
 //!
 //! The modules follow the document's sections. The engine that is proved is compared with this one.
+#![forbid(unsafe_code)]
+
 pub mod answers;
 pub mod bucket;
 pub mod dates;

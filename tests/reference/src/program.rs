@@ -1,4 +1,5 @@
 //! The program of the document's end: lines in, answers out.
+use crate::answers;
 use crate::bucket::{Bucket, MAX_CAPACITY};
 use crate::requests::MAX_LINE;
 use std::io::{self, BufRead, Write};
@@ -50,10 +51,9 @@ pub fn run(mut input: impl BufRead, mut output: impl Write) -> io::Result<()> {
     let mut answer = vec![0; ANSWER];
     let mut line = Line { bytes: [0; MAX_LINE + 1], length: 0 };
     while line.read(&mut input)? {
-        match bucket.serve(&line.bytes[..line.length], &mut answer) {
-            Ok(length) => output.write_all(&answer[..length])?,
-            Err(refusal) => writeln!(output, "no\t{refusal}")?,
-        }
+        let served = bucket.serve(&line.bytes[..line.length], &mut answer);
+        let length = served.unwrap_or_else(|refusal| answers::write_refusal(refusal, &mut answer));
+        output.write_all(&answer[..length])?;
     }
     output.flush()
 }
