@@ -1,0 +1,13 @@
+//! Links `compare` with the engine's static library, whose folder is in KNITPASTURE_LIB.
+use std::env;
+
+fn main() {
+    println!("cargo:rerun-if-env-changed=KNITPASTURE_LIB");
+    println!("cargo:rerun-if-changed=build.rs");
+    if env::var_os("CARGO_FEATURE_ENGINE").is_none() {
+        return;
+    }
+    let folder = env::var("KNITPASTURE_LIB").expect("KNITPASTURE_LIB names the folder of libhub.a");
+    println!("cargo:rerun-if-changed={folder}/libhub.a");
+    println!("cargo:rustc-link-arg-bin=compare={folder}/libhub.a");
+}

@@ -1,0 +1,197 @@
+//! Request lines that fit the bucket's state often enough to reach every number.
+use crate::random::Random;
+use crate::sides::Side;
+use reference::bucket::{CREATED, MAX_LENGTH, UNTIL, VERSION};
+use reference::dates::{self, DAY, LAST};
+use reference::settings::DefaultRetention;
+
+const KEYS: [&str; 8] = ["a", "b", "a/1", "a/2", "a/", "-", "!", "~"];
+const PREFIXES: [&str; 6] = ["", "a", "a/", "-", "b", "zz"];
+
+/// A random line over the state of a bucket.
+pub struct Maker<'a> {
+    pub random: &'a mut Random,
+    pub side: &'a Side,
+    /// How many keys are in use; few keys hit often.
+    pub keys: usize,
+}
+
+impl Maker<'_> {
+    fn time(&self) -> u64 {
+        self.side.settings.word(0)
+    }
+
+    /// The place of some used row, if the settings say that there is one.
+    fn row(&mut self) -> Option<usize> {
+        let fitting = self.side.rows.seen().len().min(self.side.keys.seen().len()) / 64;
+        let used = self.side.settings.word(8).min(fitting as u64) as usize;
+        (used > 0).then(|| self.random.below(used))
+    }
+
+    fn number_of(&mut self, place: usize) -> Option<u64> {
+        self.row().map(|at| self.side.rows.word(64 * at + 8 * place))
+    }
+
+    /// Instants at which something changes: lock dates, sweeps, the bucket's time and the last instant.
+    fn instant(&mut self) -> u64 {
+        let days = self.random.below(4) as u64 * DAY;
+        let base = match self.random.below(8) {
+            0 => self.number_of(UNTIL).unwrap_or(0),
+            1 => self.number_of(CREATED).unwrap_or(0) + days,
+            2 => LAST,
+            _ => self.time() + days,
+        };
+        let nudged = match self.random.below(4) {
+            0 => base.saturating_sub(1),
+            1 => base + 1,
+            2 => base + self.random.next() % DAY,
+            _ => base,
+        };
+        nudged.min(LAST)
+    }
+
+    /// A clock: mostly the bucket's time or soon after it, seldom far, sometimes set back.
+    fn clock(&mut self) -> u64 {
+        match self.random.below(20) {
+            0 => self.time().saturating_sub(self.random.next() % (3 * DAY)),
+            1 => self.instant().min(self.time() + 40 * DAY),
+            2 => (self.time() + DAY).min(LAST),
+            3 => (self.time() + DAY - 1).min(LAST),
+            4 => (self.time() + 1).min(LAST),
+            5 => (self.time() + self.random.next() % (DAY / 2)).min(LAST),
+            6 => self.number_of(UNTIL).map_or(self.time(), |date| date.min(self.time() + 5 * DAY)),
+            7 => self.last_default(),
+            _ => self.time(),
+        }
+    }
+
+    /// The clock at which the default's date is the last instant or 1 ms after it, where that is not far.
+    fn last_default(&mut self) -> u64 {
+        let words = [24, 32, 40].map(|at| self.side.settings.word(at));
+        let [mode, count, unit] = words;
+        let clock =
+            LAST.saturating_sub(DefaultRetention { mode, count, unit }.period()) + self.random.next() % 2;
+        if (self.time()..LAST.min(self.time() + 5 * DAY)).contains(&clock) {
+            clock
+        } else {
+            self.time()
+        }
+    }
+
+    fn date(&mut self, instant: u64) -> String {
+        let text = String::from_utf8(dates::print(instant).to_vec()).expect("dates are ASCII");
+        match self.random.below(4) {
+            0 if instant % 1000 == 0 => text.replace(".000Z", "Z"),
+            1 => text.replace('Z', &format!("{}Z", self.random.below(1000000))),
+            2 if instant % 10 == 0 => text.replace("0Z", "Z"),
+            _ => text,
+        }
+    }
+
+    fn rights(&mut self) -> String {
+        let mut letters: Vec<char> = "rwdthbc".chars().collect();
+        for at in (1..letters.len()).rev() {
+            letters.swap(at, self.random.below(at + 1));
+        }
+        let count = if self.random.once_in(6) { self.random.below(8) } else { 7 };
+        let field: String = letters[..count].iter().collect();
+        if field.is_empty() {
+            "-".into()
+        } else {
+            field
+        }
+    }
+
+    fn key(&mut self) -> String {
+        match self.random.below(40) {
+            0 => "k".repeat(63),
+            1 => format!("r{}", self.random.below(100000)),
+            _ => {
+                let count = self.keys.min(KEYS.len());
+                KEYS[self.random.below(count)].into()
+            }
+        }
+    }
+
+    /// A key and a version field, mostly of a row that is there.
+    fn name(&mut self) -> String {
+        if let (false, Some(at)) = (self.random.once_in(8), self.row()) {
+            let block = &self.side.keys.seen()[64 * at..64 * at + 64];
+            let key = String::from_utf8_lossy(&block[1..=(block[0] as usize).min(63)]).into_owned();
+            let version = self.side.rows.word(64 * at + 8 * VERSION).to_string();
+            let version = if self.random.once_in(4) { "-".into() } else { version };
+            return format!("{key}\t{version}");
+        }
+        let version = ["-", "1", "2", "5", "4294967295"][self.random.below(5)];
+        format!("{}\t{version}", self.key())
+    }
+
+    /// A mode and a date, seldom only one of them.
+    fn retention(&mut self, none: usize) -> String {
+        let mode = self.random.pick(&["GOVERNANCE", "COMPLIANCE"]);
+        let instant = if self.random.once_in(3) { self.instant() } else { self.soon() };
+        let date = self.date(instant);
+        match self.random.below(24) {
+            0 => format!("{mode}\t-"),
+            1 => format!("-\t{date}"),
+            chance if chance < 2 + none => "-\t-".into(),
+            _ => format!("{mode}\t{date}"),
+        }
+    }
+
+    fn soon(&mut self) -> u64 {
+        (self.time() + self.random.below(4) as u64 * DAY + self.random.below(3) as u64).min(LAST)
+    }
+
+    fn bypass(&mut self) -> &'static str {
+        self.random.pick(&["yes", "no"])
+    }
+
+    fn days(&mut self) -> u64 {
+        self.random.pick(&[0, 0, 1, 1, 1, 2, 3, 36500])
+    }
+
+    fn new_row(&mut self) -> String {
+        let retention = self.retention(15);
+        format!("{retention}\t{}", self.random.pick(&["-", "-", "-", "-", "OFF", "OFF", "ON"]))
+    }
+
+    fn put(&mut self) -> String {
+        let body = if self.random.once_in(9) { u64::MAX } else { self.random.next() % 100 };
+        let length = self.random.pick(&[0, 1, 300, MAX_LENGTH]);
+        format!("PUT\t{}\t{body}\t{length}\t{}", self.key(), self.new_row())
+    }
+
+    fn default(&mut self) -> String {
+        let mode = self.random.pick(&["GOVERNANCE", "COMPLIANCE", "-"]);
+        let period = self.random.pick(&["1d", "2d", "36500d", "1y", "100y"]);
+        let odd = self.random.once_in(12);
+        format!("DEFAULT\t{mode}\t{}", if (mode == "-") != odd { "-" } else { period })
+    }
+
+    fn rule(&mut self) -> String {
+        let (number, prefix) = (self.random.below(8), self.random.pick(&PREFIXES));
+        format!("RULE\t{number}\t{prefix}\t{}\t{}", self.days(), self.days())
+    }
+
+    fn verb(&mut self) -> String {
+        match self.random.below(100) {
+            0..=25 => self.put(),
+            26..=36 => format!("COPY\t{}\t{}\t{}", self.name(), self.key(), self.new_row()),
+            37..=50 => format!("RETAIN\t{}\t{}\t{}", self.name(), self.retention(5), self.bypass()),
+            51..=58 => format!("HOLD\t{}\t{}", self.name(), self.random.pick(&["ON", "OFF", "OFF"])),
+            59..=72 => format!("DELETE\t{}\t{}", self.name(), self.bypass()),
+            73..=76 => format!("DELETE\t{}\t-\t{}", self.key(), self.bypass()),
+            77..=79 => self.default(),
+            80..=84 => self.rule(),
+            85..=91 => "SWEEP".into(),
+            _ => format!("GET\t{}", self.name()),
+        }
+    }
+
+    pub fn line(&mut self) -> Vec<u8> {
+        let instant = self.clock();
+        let clock = self.date(instant);
+        format!("{clock}\t{}\t{}", self.rights(), self.verb()).into_bytes()
+    }
+}

@@ -1,0 +1,126 @@
+//! One list of lines, from a fresh bucket or a filled one.
+use crate::damage;
+use crate::lines::Maker;
+use crate::mutate::mutated;
+use crate::random::Random;
+use crate::sides::{Side, Sides};
+use crate::tally::Tally;
+use reference::Bucket;
+
+/// How one list is served.
+struct List<'a> {
+    sides: Sides,
+    random: Random,
+    keys: usize,
+    tally: &'a mut Tally,
+}
+
+fn some_capacity(random: &mut Random) -> usize {
+    match random.below(40) {
+        0..=23 => 1 + random.below(8),
+        24..=35 => 9 + random.below(40),
+        36..=38 => 50 + random.below(200),
+        _ => 1024 - random.below(2) * random.below(700),
+    }
+}
+
+/// A bucket that the reference has filled to some height.
+fn filled(capacity: usize, random: &mut Random) -> Side {
+    let mut bucket = Bucket::fresh(capacity);
+    let mut answer = [0; 256];
+    for number in 0..capacity - random.below(capacity.min(4)) {
+        let day = 1 + number * 27 / capacity;
+        let key = random.below(capacity);
+        let line = format!("2024-01-{day:02}T00:00:00Z\tw\tPUT\ta/{key}\t{number}\t1\t-\t-\t-");
+        bucket.serve(line.as_bytes(), &mut answer).expect("the table has room");
+    }
+    let mut side = Side::new(capacity);
+    bucket.to_bytes(side.settings.bytes(), side.rows.bytes(), side.keys.bytes());
+    side
+}
+
+/// What to print of a line in which the sides differ.
+fn shown(line: &[u8]) -> String {
+    format!("line \"{}\" ({} bytes)", line.escape_ascii(), line.len())
+}
+
+impl List<'_> {
+    fn line(&mut self) -> Vec<u8> {
+        let mut maker = Maker { random: &mut self.random, side: &self.sides.engine, keys: self.keys };
+        let line = maker.line();
+        if self.random.once_in(10) {
+            mutated(&line, &mut self.random)
+        } else {
+            line
+        }
+    }
+
+    /// An answer buffer of some length that is full of junk.
+    fn lend_answer(&mut self) {
+        let length = match self.random.below(40) {
+            0 => self.random.below(256),
+            1 => 255,
+            2..=5 => 257 + self.random.below(100),
+            6 => 65536,
+            _ => 256,
+        };
+        let junk = self.random.next();
+        let answer = &mut self.sides.engine.answer;
+        if answer.seen().len() != length {
+            answer.resize(length);
+        }
+        for (at, byte) in answer.bytes().iter_mut().take(400).enumerate() {
+            *byte = (junk >> (at % 57)) as u8;
+        }
+    }
+
+    fn serve(&mut self, line: &[u8]) -> Result<(), String> {
+        self.lend_answer();
+        let number = self.sides.serve(line).map_err(|difference| format!("{}\n{difference}", shown(line)))?;
+        self.tally.count(line, number);
+        Ok(())
+    }
+
+    /// Serves a line on a bucket that something was done to, and then puts the bucket back.
+    fn serve_changed(&mut self, change: fn(&mut Side, &mut Random), line: &[u8]) -> Result<(), String> {
+        let before = self.sides.engine.clone();
+        change(&mut self.sides.engine, &mut self.random);
+        self.serve(line)?;
+        if self.random.once_in(8) {
+            let number = self.sides.fresh().map_err(|difference| format!("fresh\n{difference}"))?;
+            self.tally.fresh[number as usize] += 1;
+        }
+        self.sides.engine = before;
+        Ok(())
+    }
+
+    fn step(&mut self) -> Result<(), String> {
+        let line = self.line();
+        match self.random.below(60) {
+            0..=2 => self.serve_changed(damage::bucket, &line)?,
+            3 => self.serve_changed(damage::lengths, &line)?,
+            4 if self.random.once_in(3) => damage::sound_change(&mut self.sides.engine, &mut self.random),
+            _ => {}
+        }
+        self.serve(&line)
+    }
+}
+
+/// Serves the next list of a run; an error says in which line the sides differ.
+pub fn run(seed: u64, broken: bool, tally: &mut Tally) -> Result<(), String> {
+    let mut random = Random::new(seed, tally.lists);
+    let capacity = some_capacity(&mut random);
+    let fill = capacity > 8 && random.once_in(3);
+    let side = if fill { filled(capacity, &mut random) } else { Side::new(capacity) };
+    let keys = 1 + random.below(8);
+    let steps = 50 + random.below(300);
+    let mut list = List { sides: Sides::new(side, broken), random, keys, tally };
+    if !fill {
+        let number = list.sides.fresh()?;
+        list.tally.fresh[number as usize] += 1;
+    }
+    for step in 0..steps {
+        list.step().map_err(|said| format!("step {step}, capacity {capacity}, {said}"))?;
+    }
+    Ok(())
+}

@@ -1,0 +1,65 @@
+//! Compares the engine, through its C entries, with the reference: each number and each byte.
+mod damage;
+mod engine;
+mod lines;
+mod lists;
+mod mutate;
+mod random;
+mod sides;
+mod tally;
+
+use std::env;
+use std::process::ExitCode;
+use std::time::{Duration, Instant, SystemTime, UNIX_EPOCH};
+use tally::Tally;
+
+struct Options {
+    seconds: u64,
+    seed: u64,
+    lists: u64,
+    broken: bool,
+}
+
+/// A seed that differs from run to run; it is printed.
+fn some_seed() -> u64 {
+    SystemTime::now().duration_since(UNIX_EPOCH).map_or(1, |since| since.as_nanos() as u64)
+}
+
+fn options() -> Option<Options> {
+    let mut options = Options { seconds: 60, seed: some_seed(), lists: u64::MAX, broken: false };
+    let mut words = env::args().skip(1);
+    while let Some(word) = words.next() {
+        match word.as_str() {
+            "--seconds" => options.seconds = words.next()?.parse().ok()?,
+            "--seed" => options.seed = words.next()?.parse().ok()?,
+            "--lists" => options.lists = words.next()?.parse().ok()?,
+            "--break" => options.broken = true,
+            _ => return None,
+        }
+    }
+    Some(options)
+}
+
+fn main() -> ExitCode {
+    let Some(options) = options() else {
+        eprintln!("usage: compare [--seconds N] [--seed S] [--lists N] [--break]");
+        return ExitCode::from(2);
+    };
+    println!("seed {}", options.seed);
+    let end = Instant::now() + Duration::from_secs(options.seconds);
+    let mut tally = Tally::default();
+    while tally.lists < options.lists && Instant::now() < end {
+        if let Err(difference) = lists::run(options.seed, options.broken, &mut tally) {
+            println!("seed {}, list {}: DIFFERENCE\n{difference}", options.seed, tally.lists);
+            return ExitCode::FAILURE;
+        }
+        tally.lists += 1;
+    }
+    tally.print();
+    if !tally.missing().is_empty() {
+        println!("numbers that never came: {:?}", tally.missing());
+        return ExitCode::FAILURE;
+    }
+    println!("no difference");
+    ExitCode::SUCCESS
+}

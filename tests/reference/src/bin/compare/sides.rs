@@ -1,0 +1,131 @@
+//! The two sides that are compared: equal buffers, lent to the engine and to the reference.
+use crate::engine;
+use reference::settings::{word, BYTES};
+
+/// The bytes before and after each lent buffer, which nobody may touch.
+const GUARD: usize = 32;
+const GUARD_BYTE: u8 = 0xA5;
+
+/// A buffer with guards around it.
+#[derive(Clone, PartialEq, Eq)]
+pub struct Lent {
+    whole: Vec<u8>,
+}
+
+impl Lent {
+    pub fn new(length: usize) -> Lent {
+        let mut lent = Lent { whole: vec![GUARD_BYTE; length + 2 * GUARD] };
+        lent.bytes().fill(0);
+        lent
+    }
+
+    pub fn bytes(&mut self) -> &mut [u8] {
+        let end = self.whole.len() - GUARD;
+        &mut self.whole[GUARD..end]
+    }
+
+    pub fn seen(&self) -> &[u8] {
+        &self.whole[GUARD..self.whole.len() - GUARD]
+    }
+
+    /// Makes the buffer longer with zeros or shorter.
+    pub fn resize(&mut self, length: usize) {
+        let mut bytes = self.seen().to_vec();
+        bytes.resize(length, 0);
+        *self = Lent::new(length);
+        self.bytes().copy_from_slice(&bytes);
+    }
+
+    pub fn word(&self, at: usize) -> u64 {
+        word(&self.seen()[at..at + 8])
+    }
+
+    pub fn set_word(&mut self, at: usize, value: u64) {
+        self.bytes()[at..at + 8].copy_from_slice(&value.to_le_bytes());
+    }
+
+    fn first_difference(&self, other: &Lent) -> Option<usize> {
+        (0..self.whole.len()).find(|&at| self.whole[at] != other.whole[at])
+    }
+}
+
+/// A bucket in bytes, and the answer buffer.
+#[derive(Clone, PartialEq, Eq)]
+pub struct Side {
+    pub settings: Lent,
+    pub rows: Lent,
+    pub keys: Lent,
+    pub answer: Lent,
+}
+
+impl Side {
+    pub fn new(capacity: usize) -> Side {
+        let table = Lent::new(64 * capacity);
+        Side { settings: Lent::new(BYTES), rows: table.clone(), keys: table, answer: Lent::new(256) }
+    }
+
+    /// Where the other side differs, in words.
+    fn difference(&self, other: &Side) -> Option<String> {
+        let parts = [
+            ("settings", &self.settings, &other.settings),
+            ("rows", &self.rows, &other.rows),
+            ("keys", &self.keys, &other.keys),
+            ("answer", &self.answer, &other.answer),
+        ];
+        parts.into_iter().filter(|(_, one, two)| one != two).find_map(|(name, one, two)| {
+            let at = one.first_difference(two)?;
+            let (was, is) = (one.whole[at], two.whole[at]);
+            let place = at as i64 - GUARD as i64;
+            Some(format!("{name}, byte {place}: the engine has {was:#04x}, the reference {is:#04x}"))
+        })
+    }
+}
+
+/// The engine's bytes; the reference works on a copy of them.
+pub struct Sides {
+    pub engine: Side,
+    reference: Side,
+    broken: bool,
+}
+
+impl Sides {
+    /// With `broken` the reference's answers are perturbed, so that a difference must be found.
+    pub fn new(side: Side, broken: bool) -> Sides {
+        Sides { engine: side.clone(), reference: side, broken }
+    }
+
+    /// Has both serve a line: the number, or what differs.
+    pub fn serve(&mut self, line: &[u8]) -> Result<u64, String> {
+        self.reference.clone_from(&self.engine);
+        let (one, two) = (&mut self.engine, &mut self.reference);
+        let engine =
+            engine::serve(one.settings.bytes(), one.rows.bytes(), one.keys.bytes(), line, one.answer.bytes());
+        let reference = reference::serve_bytes(
+            two.settings.bytes(),
+            two.rows.bytes(),
+            two.keys.bytes(),
+            line,
+            two.answer.bytes(),
+        );
+        if self.broken && reference == 0 {
+            two.answer.bytes()[0] ^= 1;
+        }
+        self.agreed(engine, reference)
+    }
+
+    /// Has both make a fresh bucket.
+    pub fn fresh(&mut self) -> Result<u64, String> {
+        self.reference.clone_from(&self.engine);
+        let (one, two) = (&mut self.engine, &mut self.reference);
+        let engine = engine::fresh(one.settings.bytes(), one.rows.bytes(), one.keys.bytes());
+        let reference = reference::fresh_bytes(two.settings.bytes(), two.rows.bytes(), two.keys.bytes());
+        self.agreed(engine, reference)
+    }
+
+    fn agreed(&self, engine: u64, reference: u64) -> Result<u64, String> {
+        if engine != reference {
+            return Err(format!("the engine returned {engine}, the reference {reference}"));
+        }
+        self.engine.difference(&self.reference).map_or(Ok(engine), Err)
+    }
+}

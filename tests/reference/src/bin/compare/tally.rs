@@ -1,0 +1,44 @@
+//! How often each number came, by verb.
+
+const VERBS: [&str; 10] =
+    ["PUT", "COPY", "RETAIN", "HOLD", "DELETE", "DEFAULT", "RULE", "SWEEP", "GET", "other"];
+const NUMBERS: usize = 13;
+
+#[derive(Default)]
+pub struct Tally {
+    pub lists: u64,
+    pub lines: u64,
+    pub fresh: [u64; 2],
+    counts: [[u64; NUMBERS]; VERBS.len()],
+}
+
+/// The place of a line's verb, by its third field.
+fn verb_of(line: &[u8]) -> usize {
+    let word = line.split(|&byte| byte == b'\t').nth(2).unwrap_or(b"");
+    VERBS.iter().position(|verb| verb.as_bytes() == word).unwrap_or(VERBS.len() - 1)
+}
+
+impl Tally {
+    pub fn count(&mut self, line: &[u8], number: u64) {
+        self.lines += 1;
+        self.counts[verb_of(line)][number as usize] += 1;
+    }
+
+    /// The numbers from 0 to 12 that never came.
+    pub fn missing(&self) -> Vec<usize> {
+        (0..NUMBERS).filter(|&number| self.counts.iter().all(|row| row[number] == 0)).collect()
+    }
+
+    pub fn print(&self) {
+        println!("{} lists, {} lines", self.lists, self.lines);
+        println!("fresh buckets: {} made, {} refused", self.fresh[0], self.fresh[1]);
+        print!("{:8}", "number");
+        (0..NUMBERS).for_each(|number| print!("{number:>9}"));
+        println!();
+        for (verb, row) in VERBS.iter().zip(&self.counts) {
+            print!("{verb:8}");
+            row.iter().for_each(|count| print!("{count:>9}"));
+            println!();
+        }
+    }
+}

@@ -1,0 +1,88 @@
+//! A line served on a bucket, and on a bucket that stands in bytes.
+use crate::answers::{self, LEAST_BUFFER};
+use crate::bucket::{Bucket, MAX_CAPACITY};
+use crate::refusals::{refuse, screen, SHORT_ANSWER, UNREADABLE, UNSOUND};
+use crate::requests;
+use crate::settings::{self, word, Settings};
+
+/// The bytes of a row, of its numbers and of its key alike.
+pub const ROW_BYTES: usize = 64;
+
+impl Bucket {
+    /// Serves a line on a sound bucket: the length of the answer, or the refusal.
+    pub fn serve(&mut self, line: &[u8], answer: &mut [u8]) -> Result<usize, u64> {
+        refuse(answer.len() < LEAST_BUFFER, SHORT_ANSWER)?;
+        let request = requests::read(line).ok_or(UNREADABLE)?;
+        let now = self.settings.time.max(request.clock);
+        screen(&request, now)?;
+        let said = self.carry_out(&request.verb, now)?;
+        self.settings.time = now;
+        Ok(answers::write(&said, answer))
+    }
+
+    /// The bucket that bytes say, sound or not, if their lengths fit one capacity.
+    pub fn from_bytes(settings: &[u8], rows: &[u8], keys: &[u8]) -> Option<Bucket> {
+        let settings = settings.try_into().ok()?;
+        if !lengths_fit(rows, keys) {
+            return None;
+        }
+        let mut bucket = Bucket::fresh(rows.len() / ROW_BYTES);
+        bucket.settings = Settings::from_bytes(settings);
+        for (row, bytes) in bucket.rows.iter_mut().zip(rows.chunks_exact(ROW_BYTES)) {
+            for (number, eight) in row.iter_mut().zip(bytes.chunks_exact(8)) {
+                *number = word(eight);
+            }
+        }
+        for (key, bytes) in bucket.keys.iter_mut().zip(keys.chunks_exact(ROW_BYTES)) {
+            key.copy_from_slice(bytes);
+        }
+        Some(bucket)
+    }
+
+    /// Writes the bucket over bytes whose lengths fit it.
+    pub fn to_bytes(&self, settings: &mut [u8], rows: &mut [u8], keys: &mut [u8]) {
+        self.settings.to_bytes(settings.try_into().expect("the length was tested"));
+        for (row, bytes) in self.rows.iter().zip(rows.chunks_exact_mut(ROW_BYTES)) {
+            for (number, eight) in row.iter().zip(bytes.chunks_exact_mut(8)) {
+                eight.copy_from_slice(&number.to_le_bytes());
+            }
+        }
+        for (key, bytes) in self.keys.iter().zip(keys.chunks_exact_mut(ROW_BYTES)) {
+            bytes.copy_from_slice(key);
+        }
+    }
+}
+
+fn lengths_fit(rows: &[u8], keys: &[u8]) -> bool {
+    let capacity = rows.len() / ROW_BYTES;
+    (1..=MAX_CAPACITY).contains(&capacity) && rows.len() == capacity * ROW_BYTES && keys.len() == rows.len()
+}
+
+/// Serves a line on bytes of any contents and length: 0 or the refusal.
+pub fn serve_bytes(
+    settings: &mut [u8],
+    rows: &mut [u8],
+    keys: &mut [u8],
+    line: &[u8],
+    answer: &mut [u8],
+) -> u64 {
+    let Some(mut bucket) = Bucket::from_bytes(settings, rows, keys).filter(Bucket::sound) else {
+        return UNSOUND;
+    };
+    match bucket.serve(line, answer) {
+        Ok(_) => {
+            bucket.to_bytes(settings, rows, keys);
+            0
+        }
+        Err(refusal) => refusal,
+    }
+}
+
+/// Makes bytes a fresh bucket: 0, or 1 where their lengths don't fit.
+pub fn fresh_bytes(settings: &mut [u8], rows: &mut [u8], keys: &mut [u8]) -> u64 {
+    if settings.len() != settings::BYTES || !lengths_fit(rows, keys) {
+        return UNSOUND;
+    }
+    Bucket::fresh(rows.len() / ROW_BYTES).to_bytes(settings, rows, keys);
+    0
+}

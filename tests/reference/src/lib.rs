@@ -1,0 +1,19 @@
+//! The locked bucket of the gauge hub, written from document 01 and from nothing else.
+//!
+//! The modules follow the document's sections. The engine that is proved is compared with this one.
+#![forbid(unsafe_code)]
+
+pub mod answers;
+pub mod bucket;
+pub mod dates;
+pub mod entry;
+pub mod locks;
+pub mod program;
+pub mod refusals;
+pub mod requests;
+pub mod settings;
+pub mod sweep;
+pub mod verbs;
+
+pub use bucket::Bucket;
+pub use entry::{fresh_bytes, serve_bytes};

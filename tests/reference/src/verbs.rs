@@ -1,0 +1,131 @@
+//! What each verb does: refusals 7 to 12 in their order, and then the change.
+use crate::answers::Answer;
+use crate::bucket::{block, Bucket, Row, BODY, DATA, HOLD, KIND, LENGTH, MARKER, MODE, UNTIL, VERSION};
+use crate::dates;
+use crate::locks::{admits, locked};
+use crate::refusals::{refuse, DATE_TOO_FAR, FULL, IS_MARKER, LOCKED, NO_ROW, NUMBERS_SPENT};
+use crate::requests::{Name, Period, Retention, Verb};
+use crate::settings::{DefaultRetention, Rule, SPENT};
+
+impl Bucket {
+    /// Judges a screened verb and, if nothing refuses it, carries it out.
+    pub fn carry_out(&mut self, verb: &Verb, now: u64) -> Result<Answer, u64> {
+        match *verb {
+            Verb::Put { key, body, length, retention, hold } => {
+                self.put(key, [body, length], retention, hold, now)
+            }
+            Verb::Copy { source, target, retention, hold } => {
+                let row = self.rows[self.named_data(source)?];
+                self.put(target, [row[BODY], row[LENGTH]], retention, hold, now)
+            }
+            Verb::Retain { name, retention, bypass } => self.retain(name, retention, bypass, now),
+            Verb::Hold { name, on } => {
+                let at = self.named_data(name)?;
+                self.rows[at][HOLD] = u64::from(on);
+                Ok(Answer::Plain)
+            }
+            Verb::Delete { name, bypass } => match name.version {
+                None => self.mark(name.key, now),
+                Some(number) => self.delete(name, number, bypass, now),
+            },
+            Verb::Default { mode, period } => Ok(self.set_default(mode, period)),
+            Verb::Rule { number, prefix, current, noncurrent } => {
+                let set = Rule { prefix: block(prefix), current, noncurrent };
+                let absent = current == 0 && noncurrent == 0;
+                self.settings.rules[number] = if absent { Rule::ABSENT } else { set };
+                Ok(Answer::Plain)
+            }
+            Verb::Sweep => self.sweep_line(now),
+            Verb::Get { name } => Ok(Answer::Got(self.rows[self.named_data(name)?])),
+        }
+    }
+
+    fn named(&self, name: Name) -> Result<usize, u64> {
+        self.find(&block(name.key), name.version).ok_or(NO_ROW)
+    }
+
+    fn named_data(&self, name: Name) -> Result<usize, u64> {
+        let at = self.named(name)?;
+        refuse(self.rows[at][KIND] == MARKER, IS_MARKER)?;
+        Ok(at)
+    }
+
+    /// Refusals 11 and 12.
+    fn fits(&self, removed: usize, added: usize) -> Result<(), u64> {
+        refuse(added as u64 > SPENT - self.settings.next, NUMBERS_SPENT)?;
+        refuse(self.used() - removed + added > self.capacity(), FULL)
+    }
+
+    /// Adds a row with the next number before the key's other rows.
+    fn add(&mut self, key: &[u8], mut row: Row) -> Result<u64, u64> {
+        self.fits(0, 1)?;
+        let key = block(key);
+        let number = self.settings.next;
+        row[VERSION] = number;
+        self.insert(self.first_place(&key), row, &key);
+        self.settings.next += 1;
+        Ok(number)
+    }
+
+    /// The mode and date of a new data row; the default applies where no mode is given.
+    fn new_retention(&self, given: Retention, now: u64) -> Result<[u64; 2], u64> {
+        if let (Some(mode), Some(date)) = (given.mode, given.date) {
+            return Ok([mode, date]);
+        }
+        let default = &self.settings.default;
+        if default.mode == 0 {
+            return Ok([0, 0]);
+        }
+        let date = now + default.period();
+        refuse(date > dates::LAST, DATE_TOO_FAR)?;
+        Ok([default.mode, date])
+    }
+
+    fn put(
+        &mut self,
+        key: &[u8],
+        [body, length]: [u64; 2],
+        retention: Retention,
+        hold: Option<bool>,
+        now: u64,
+    ) -> Result<Answer, u64> {
+        let [mode, until] = self.new_retention(retention, now)?;
+        let hold = u64::from(hold == Some(true));
+        self.add(key, [0, DATA, now, body, length, mode, until, hold]).map(Answer::Added)
+    }
+
+    fn mark(&mut self, key: &[u8], now: u64) -> Result<Answer, u64> {
+        self.add(key, [0, MARKER, now, 0, 0, 0, 0, 0]).map(Answer::Marked)
+    }
+
+    fn retain(&mut self, name: Name, wish: Retention, bypass: bool, now: u64) -> Result<Answer, u64> {
+        let at = self.named_data(name)?;
+        refuse(!admits(&self.rows[at], now, bypass, wish), LOCKED)?;
+        self.rows[at][MODE] = wish.mode.unwrap_or(0);
+        self.rows[at][UNTIL] = wish.date.unwrap_or(0);
+        Ok(Answer::Plain)
+    }
+
+    fn delete(&mut self, name: Name, number: u64, bypass: bool, now: u64) -> Result<Answer, u64> {
+        let at = self.named(name)?;
+        refuse(locked(&self.rows[at], now, bypass), LOCKED)?;
+        let marker = self.rows[at][KIND] == MARKER;
+        self.remove(at);
+        Ok(Answer::Removed { number, marker })
+    }
+
+    fn set_default(&mut self, mode: Option<u64>, period: Option<Period>) -> Answer {
+        self.settings.default = match (mode, period) {
+            (Some(mode), Some(Period { count, unit })) => DefaultRetention { mode, count, unit },
+            _ => DefaultRetention::default(),
+        };
+        Answer::Plain
+    }
+
+    fn sweep_line(&mut self, now: u64) -> Result<Answer, u64> {
+        let counts = self.sweep_counts(now);
+        self.fits(counts.removed, counts.added)?;
+        self.sweep(now, counts);
+        Ok(Answer::Swept { removed: counts.removed, added: counts.added })
+    }
+}

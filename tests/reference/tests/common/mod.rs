@@ -1,0 +1,55 @@
+//! A bucket for the tests, served with lines in which `|` stands for a tab.
+#![allow(dead_code)]
+use reference::bucket::{Block, Row};
+use reference::Bucket;
+
+pub struct Hub {
+    pub bucket: Bucket,
+}
+
+impl Hub {
+    pub fn new(capacity: usize) -> Hub {
+        Hub { bucket: Bucket::fresh(capacity) }
+    }
+
+    /// The answer to a line, as `bucketrun` prints it; a refusal changes nothing.
+    pub fn say(&mut self, line: &str) -> String {
+        let before = self.bucket.clone();
+        let mut answer = [b'?'; 300];
+        let said = match self.bucket.serve(line.replace('|', "\t").as_bytes(), &mut answer) {
+            Ok(length) => {
+                assert!(answer[length..].iter().all(|&byte| byte == b'?'), "bytes after the answer");
+                String::from_utf8(answer[..length].to_vec()).unwrap()
+            }
+            Err(number) => {
+                assert_eq!(before, self.bucket, "a refusal changes nothing");
+                assert_eq!(answer, [b'?'; 300], "a refusal writes nothing");
+                format!("no\t{number}\n")
+            }
+        };
+        assert!(self.bucket.sound(), "the bucket is sound after {line}");
+        said.strip_suffix('\n').unwrap().replace('\t', "|")
+    }
+
+    /// Serves lines and compares each answer.
+    pub fn run(&mut self, lines: &[(&str, &str)]) {
+        for (line, expected) in lines {
+            assert_eq!(self.say(line), *expected, "{line}");
+        }
+    }
+
+    /// The used rows with their keys as text.
+    pub fn table(&self) -> Vec<(String, Row)> {
+        let text = |key: &Block| String::from_utf8(key[1..=key[0] as usize].to_vec()).unwrap();
+        (0..self.bucket.used()).map(|at| (text(&self.bucket.keys[at]), self.bucket.rows[at])).collect()
+    }
+
+    /// The used rows as key and version number.
+    pub fn names(&self) -> Vec<(String, u64)> {
+        self.table().into_iter().map(|(key, row)| (key, row[0])).collect()
+    }
+}
+
+pub fn names(list: &[(&str, u64)]) -> Vec<(String, u64)> {
+    list.iter().map(|(key, number)| (key.to_string(), *number)).collect()
+}

@@ -1,0 +1,45 @@
+//! The program's lines: long ones, empty ones, and the bytes after the last line feed.
+use reference::program::run;
+use std::io::BufReader;
+
+fn said(input: &[u8]) -> String {
+    [1, 7, 512, 65536]
+        .map(|buffer| {
+            let mut output = Vec::new();
+            run(BufReader::with_capacity(buffer, input), &mut output).unwrap();
+            String::from_utf8(output).unwrap()
+        })
+        .into_iter()
+        .reduce(|one, other| {
+            assert_eq!(one, other, "the buffer's size plays no part");
+            other
+        })
+        .unwrap()
+}
+
+const SWEEP: &str = "2024-01-01T00:00:00Z\tc\tSWEEP";
+
+#[test]
+fn nothing_in_nothing_out() {
+    assert_eq!(said(b""), "");
+}
+
+#[test]
+fn an_empty_line_is_a_line() {
+    assert_eq!(said(b"\n\n"), "no\t3\nno\t3\n");
+}
+
+#[test]
+fn bytes_after_the_last_line_feed() {
+    assert_eq!(said(format!("{SWEEP}\n{SWEEP}").as_bytes()), "ok\t0\t0\nok\t0\t0\n");
+    assert_eq!(said(format!("{SWEEP}\nx").as_bytes()), "ok\t0\t0\nno\t3\n");
+}
+
+#[test]
+fn a_long_line_gets_one_answer() {
+    for length in [512, 513, 514, 1024, 100000] {
+        let long = "x".repeat(length);
+        assert_eq!(said(format!("{long}\n{SWEEP}\n").as_bytes()), "no\t3\nok\t0\t0\n");
+        assert_eq!(said(long.as_bytes()), "no\t3\n");
+    }
+}
