@@ -1,0 +1,4 @@
+pub mod Numbers
+pub mod Serving
+pub mod Fits
+pub mod Hub
