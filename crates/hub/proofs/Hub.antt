@@ -6,26 +6,21 @@ use mathlib.Core.Bool.{Bool, true, false}
 use mathlib.Core.List.{List}
 use native.Mathlib.Omega.{arith}
 use lib.Dec.{eqb, ltb}
-use lib.ListN.{length, replicate, length-replicate}
+use lib.ListN.{length}
 use borrow.Author.Tests.{eqb-true, eqb-false, eq-eqb, le-ltb}
 use Rattle.buffers.proofs.Tests.{either}
-use Rattle.text.specs.Keys.{isPrefix}
-use Rattle.blocks.specs.Blocks.{blockOf, isBlock}
-use Rattle.model.specs.Settings.{soundConfig, soundRules}
 use Rattle.settings.specs.declared.Settings.{Settings}
 use Rattle.settings.specs.Bytes.{settingsOf, settingsBytes}
-use Rattle.settings.specs.Changes.{Fresh}
-use Rattle.settings.specs.Meaning.{settingsSound}
 use Rattle.settings.proofs.RoundTrip.{settings-length, settings-back}
 use Rattle.table.specs.Layout.{capacity}
 use Rattle.bucket.specs.Whole.{whole}
-use Rattle.bucket.proofs.Whole.{fresh-whole, whole-parts}
+use Rattle.bucket.proofs.Whole.{whole-parts}
 use Rattle.outcome.specs.Outcome.{Outcome, refusalOf, outcome}
 use Rattle.outcome.proofs.Demands.{refusal-range}
 use Rattle.outcome.proofs.Deciding.{outcome-1}
 use Rattle.outcome.proofs.Kept.{outcome-whole}
-use Rattle.hub.specs.Bytes.{numbersFrom, numbersBytes, ByteOutcome, byteOutcome, spelledOutcome, servedBytes, hubServed, freshSettings, hubFresh, freshOutcome}
-use Rattle.hub.proofs.Numbers.{length-numbers, length-bytes, numbers-back, zeros-read}
+use Rattle.hub.specs.Bytes.{numbersFrom, numbersBytes, ByteOutcome, byteOutcome, outcomeBytes, spelledOutcome, servedBytes, hubServed}
+use Rattle.hub.proofs.Numbers.{length-bytes, numbers-back}
 use Rattle.hub.proofs.Serving.{outcome-number}
 use Rattle.hub.proofs.Fits.{whole-fits, whole-words}
 
@@ -89,6 +84,12 @@ module _ (settings rows keys line answer : List ℕ) where
         | inr t ↦ wrong (rw t)
       ]
 
+  -- Bytes of fitting lengths that spell s and n are served as these.
+  pub reads-as : (s : Settings) (n k : List ℕ) → length settings ≡ 688 → length rows ≤ 65536 → length rows % 8 ≡ 0 → settingsOf settings ≡ s → numbersFrom (length rows / 8) rows ≡ n → keys ≡ k
+      → call ≡ outcomeBytes (outcome s n k line answer) settings rows keys answer
+  unfolding hubServed
+  reads-as s n k l m e es en ek = simp (eq-eqb (length settings) 688 l, le-ltb 65536 (length rows) m, eq-eqb (length rows % 8) 0 e) (rw (es, en, ek))
+
   -- Demand 1, over bytes: the number is 0 to 12.
   pub hub-range : call .number ≤ 12
   hub-range = ⊎-elim (λ w. rw (w .is) (w .to)) (λ w. rw (w .is) (omega arith)) ways
@@ -107,6 +108,7 @@ module _ (settings rows keys line answer : List ℕ) where
     pub keys-are : call .keys ≡ core .keys
     pub answer-is : call .answer ≡ core .answer
     pub settings-long : length (call .settings) ≡ 688
+    pub rows-long : length (call .rows) ≡ 64 * capacity (core .keys)
     pub is-whole : whole (core .settings) (core .numbers) (core .keys) ≡ true
 
   handing : Accepts → HandsOn
@@ -122,42 +124,21 @@ module _ (settings rows keys line answer : List ℕ) where
         keys-are = rw (w .is);
         answer-is = rw (w .is);
         settings-long = rw (w .is) (settings-length (core .settings) fit);
+        rows-long = rw (w .is) (omega (arith, length-bytes (core .numbers), (whole-parts (core .settings) (core .numbers) (core .keys) o) .numbers-long));
         is-whole = o;
       }
 
   pub hub-hands-on : call .number ≡ 0 → HandsOn
   hub-hands-on z = ⊎-elim (λ w. absurd (omega (arith, w .from, sym (ap (λ (o : ByteOutcome). o .number) (w .is)) ∙ z))) (λ w. handing w) ways
 
--- ## A fresh bucket
-
-fresh-fresh : Fresh freshSettings
-unfolding blockOf isBlock isPrefix settingsSound soundConfig soundRules
-fresh-fresh = record { means = refl; unused = refl; sound = refl }
-
--- Rows and keys for c rows.
-module _ (settings rows keys : List ℕ) (c : ℕ) (some : 1 ≤ c) (most : c ≤ 1024) (ls : length settings ≡ 688) (lr : length rows ≡ 64 * c) (lk : length keys ≡ 64 * c) where
-  pub fresh-made : hubFresh settings rows keys ≡ freshOutcome 0 (settingsBytes freshSettings) (replicate (64 * c) 0) (replicate (64 * c) 0)
-  unfolding hubFresh
-  fresh-made =
-      let a : length rows % 64 ≡ 0 = omega (arith, lr) in
-      let k : length keys ≡ length rows = lk ∙ sym lr in
-      simp (eq-eqb (length settings) 688 ls, le-ltb (length rows) 64 (omega arith), le-ltb 65536 (length rows) (omega arith), eq-eqb (length rows % 64) 0 a, eq-eqb (length keys) (length rows) k)
-      (rw (lr, lk))
-
-  -- They read as fresh settings and zeros, which are whole.
-  pub record ReadsFresh : Type 0 where
-    pub settings-read : settingsOf (hubFresh settings rows keys .settings) ≡ freshSettings
-    pub numbers-read : numbersFrom (8 * c) (hubFresh settings rows keys .rows) ≡ replicate (8 * c) 0
-    pub keys-are : hubFresh settings rows keys .keys ≡ replicate (64 * c) 0
-    pub is-whole : whole freshSettings (replicate (8 * c) 0) (replicate (64 * c) 0) ≡ true
-
-  pub reads-fresh : ReadsFresh
-  reads-fresh =
-      let w = fresh-whole freshSettings c fresh-fresh some most in
-      let n : 64 * c ≡ 8 * (8 * c) = omega arith in
-      record {
-        settings-read = rw fresh-made (settings-back freshSettings (whole-fits freshSettings _ _ w));
-        numbers-read = rw (fresh-made, n) (zeros-read (8 * c));
-        keys-are = rw fresh-made;
-        is-whole = w;
-      }
+-- The next call reads exactly what the accepted line left: its outcome is that of its line on the outcome before.
+pub hub-next : (settings rows keys line answer line′ answer′ : List ℕ) → (call settings rows keys line answer) .number ≡ 0
+    → hubServed ((call settings rows keys line answer) .settings) ((call settings rows keys line answer) .rows) ((call settings rows keys line answer) .keys) line′ answer′
+    ≡ outcomeBytes (outcome ((core settings rows keys line answer) .settings) ((core settings rows keys line answer) .numbers) ((core settings rows keys line answer) .keys) line′ answer′)
+    ((call settings rows keys line answer) .settings) ((call settings rows keys line answer) .rows) ((call settings rows keys line answer) .keys) answer′
+hub-next settings rows keys line answer line′ answer′ z =
+    let h = hub-hands-on settings rows keys line answer z in
+    let o = core settings rows keys line answer in
+    let m = (whole-parts (o .settings) (o .numbers) (o .keys) (h .is-whole)) .most in
+    let l = h .rows-long in
+    reads-as _ _ _ line′ answer′ (o .settings) (o .numbers) (o .keys) (h .settings-long) (omega arith) (omega arith) (h .settings-read) (h .numbers-read) (h .keys-are)

@@ -2,3 +2,4 @@ pub mod Numbers
 pub mod Serving
 pub mod Fits
 pub mod Hub
+pub mod FreshBucket
