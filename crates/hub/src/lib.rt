@@ -1,8 +1,26 @@
-// The entries of the hub: settings and rows travel as bytes. The definitions are in specs/.
+// The entries of the hub: the settings lent by reference, and settings and rows as bytes. The definitions are in specs/.
+use settings::Settings;
 ghost use mathlib.Core.Path.{_≡_};
 ghost use Prim.Native.Nat.{_*_};
 ghost use lib.ListN.{length, replicate};
+ghost use Rattle.outcome.specs.Outcome.{outcome};
+ghost use Rattle.hub.specs.Lent.{lent, lentFrom};
 ghost use Rattle.hub.specs.Bytes.{numbersFrom, numbersBytes, byteOutcome, servedBytes, hubServed, freshOutcome, hubFresh};
+
+// Serves a line on settings that are lent and altered here, and returns 0 or the refusal.
+pub fn serve_lent(
+    settings: &mut Settings,
+    rows: &mut [u64],
+    keys: &mut [u8],
+    line: &[u8],
+    answer: &mut [u8],
+) -> u64
+    ensures { λ r. ⌜ lent r (now (settings .exit)) (now (rows .exit)) (now (keys .exit)) (now (answer .exit)) ≡ lentFrom (outcome (now (settings .entry)) (now (rows .entry)) (now (keys .entry)) (now (line .entry)) (now (answer .entry))) ⌝ }
+{
+    let r = engine::serve(*settings, rows, keys, line, answer);
+    *settings = r.settings;
+    r.number
+}
 
 // Room for the numbers of the largest table.
 fn no_numbers() -> [u64; 8192]
