@@ -2,7 +2,7 @@
 use Prim.Native.Nat.{ℕ, zero, suc, _≤_, _<_}
 use mathlib.Core.Path.{_≡_, refl, sym, ap, _∙_}
 use mathlib.Core.Logic.{_⊎_, inl, inr, ⊎-elim}
-use mathlib.Core.Bool.{Bool, true, false, _&&_, _||_, false≢true}
+use mathlib.Core.Bool.{true, _&&_, _||_}
 use mathlib.Core.List.{List, [], _∷_}
 use native.Mathlib.Omega.{arith}
 use lib.Dec.{eqb, leb, ltb}
@@ -25,7 +25,7 @@ use Rattle.settings.specs.Bytes.{isWord, ruleFits, settingsFit}
 use Rattle.settings.specs.Meaning.{ruleMeans, rulesMean, settingsMean, prefixesAre}
 use Rattle.table.specs.Layout.{numbersOf, capacity, rowsOf}
 use Rattle.bucket.specs.Whole.{bucketOf, whole}
-use Rattle.bucket.proofs.Whole.{WholeParts, whole-parts, SoundParts, sound-parts}
+use Rattle.bucket.proofs.Whole.{whole-parts, sound-parts}
 
 word : (n k : ℕ) → n ≤ k → k < 18446744073709551616 → isWord n ≡ true
 word n k h l = lt-ltb n 18446744073709551616 (omega arith)

@@ -1,7 +1,7 @@
 -- A fresh bucket over bytes: what is returned, and that the bytes read as fresh settings and zeros, on which the first line is served.
 use Prim.Native.Nat.{ℕ, _*_, _/_, _%_, _≤_}
-use mathlib.Core.Path.{_≡_, refl, sym, ap, _∙_}
-use mathlib.Core.Logic.{_⊎_, inl, inr, ⊎-elim}
+use mathlib.Core.Path.{_≡_, refl, sym, _∙_}
+use mathlib.Core.Logic.{_⊎_, inl, inr}
 use mathlib.Core.Bool.{true}
 use mathlib.Core.List.{List}
 use native.Mathlib.Omega.{arith}
@@ -19,7 +19,7 @@ use Rattle.settings.proofs.RoundTrip.{settings-length, settings-back}
 use Rattle.bucket.specs.Whole.{whole}
 use Rattle.bucket.proofs.Whole.{fresh-whole}
 use Rattle.outcome.specs.Outcome.{outcome}
-use Rattle.hub.specs.Bytes.{numbersFrom, outcomeBytes, hubServed, freshSettings, FreshOutcome, freshOutcome, hubFresh}
+use Rattle.hub.specs.Bytes.{numbersFrom, outcomeBytes, hubServed, freshSettings, freshOutcome, hubFresh}
 use Rattle.hub.proofs.Numbers.{zeros-read}
 use Rattle.hub.proofs.Fits.{whole-fits}
 use Rattle.hub.proofs.Hub.{reads-as}

@@ -1,8 +1,8 @@
 -- Of every call over bytes: its number is 0 to 12, a refusal leaves every byte as it was, and an accepted line leaves bytes that read as its outcome.
-use Prim.Native.Nat.{ℕ, _*_, _/_, _%_, _≤_, _<_}
-use mathlib.Core.Path.{_≡_, refl, sym, ap, _∙_}
+use Prim.Native.Nat.{ℕ, _*_, _/_, _%_, _≤_}
+use mathlib.Core.Path.{_≡_, sym, ap, _∙_}
 use mathlib.Core.Logic.{_⊎_, inl, inr, ⊎-elim}
-use mathlib.Core.Bool.{Bool, true, false}
+use mathlib.Core.Bool.{true}
 use mathlib.Core.List.{List}
 use native.Mathlib.Omega.{arith}
 use lib.Dec.{eqb, ltb}
@@ -15,7 +15,7 @@ use Rattle.settings.proofs.RoundTrip.{settings-length, settings-back}
 use Rattle.table.specs.Layout.{capacity}
 use Rattle.bucket.specs.Whole.{whole}
 use Rattle.bucket.proofs.Whole.{whole-parts}
-use Rattle.outcome.specs.Outcome.{Outcome, refusalOf, outcome}
+use Rattle.outcome.specs.Outcome.{Outcome, outcome}
 use Rattle.outcome.proofs.Demands.{refusal-range}
 use Rattle.outcome.proofs.Deciding.{outcome-1}
 use Rattle.outcome.proofs.Kept.{outcome-whole}
@@ -26,7 +26,7 @@ use Rattle.hub.proofs.Fits.{whole-fits, whole-words}
 
 -- ## A line
 
--- An accepted outcome comes of what is whole, and is whole.
+-- An accepted outcome comes of what is whole.
 outcome-accepted : (s : Settings) (n b line a : List ℕ) → (outcome s n b line a) .number ≡ 0 → whole s n b ≡ true
 outcome-accepted s n b line a z =
     elim (either (whole s n b)) [
@@ -51,18 +51,16 @@ module _ (settings rows keys line answer : List ℕ) where
 
   -- The call was accepted.
   record Accepts : Type 0 where
-    pub settings-long : length settings ≡ 688
-    pub rows-even : length rows % 8 ≡ 0
     pub zero : core .number ≡ 0
     pub is : call ≡ byteOutcome 0 (settingsBytes (core .settings)) (numbersBytes (core .numbers)) (core .keys) (core .answer)
 
   core-most : core .number ≤ 12
   core-most = rw (outcome-number (settingsOf settings) (numbersFrom (length rows / 8) rows) keys line answer) (refusal-range (settingsOf settings) (numbersFrom (length rows / 8) rows) keys line answer)
 
-  fitting : length settings ≡ 688 → length rows % 8 ≡ 0 → call ≡ servedBytes (length rows / 8) settings rows keys line answer → Refuses ⊎ Accepts
-  fitting l m e =
+  fitting : call ≡ servedBytes (length rows / 8) settings rows keys line answer → Refuses ⊎ Accepts
+  fitting e =
       elim (either (eqb (core .number) 0)) [
-        | inl t ↦ inr (record { settings-long = l; rows-even = m; zero = eqb-true (core .number) 0 t; is = e ∙ rw t })
+        | inl t ↦ inr (record { zero = eqb-true (core .number) 0 t; is = e ∙ rw t })
         | inr t ↦ let z = eqb-false (core .number) 0 t in
             inl (record { number = core .number; from = omega arith; to = core-most; is = e ∙ rw t })
       ]
@@ -77,7 +75,7 @@ module _ (settings rows keys line answer : List ℕ) where
         | inl t ↦ elim (either (ltb 65536 (length rows))) [
           | inl u ↦ wrong (simp (t, u))
           | inr u ↦ elim (either (eqb (length rows % 8) 0)) [
-            | inl v ↦ fitting (eqb-true (length settings) 688 t) (eqb-true (length rows % 8) 0 v) (simp (t, u, v))
+            | inl v ↦ fitting (simp (t, u, v))
             | inr v ↦ wrong (simp (t, u, v))
           ]
         ]
@@ -100,7 +98,7 @@ module _ (settings rows keys line answer : List ℕ) where
       ⊎-elim (λ w. w .is ∙ ap (λ (n : ℕ). byteOutcome n settings rows keys answer) (sym (ap (λ (o : ByteOutcome). o .number) (w .is))))
       (λ w. absurd (z (ap (λ (o : ByteOutcome). o .number) (w .is)))) ways
 
-  -- What an accepted call leaves reads as the outcome of its line, and the buffers are as long as they were.
+  -- What an accepted call leaves reads as the outcome of its line, which is whole, and has the lengths that the next call asks for.
   pub record HandsOn : Type 0 where
     pub accepted : core .number ≡ 0
     pub settings-read : settingsOf (call .settings) ≡ core .settings

@@ -5,7 +5,7 @@ use mathlib.Core.Bool.{true}
 use mathlib.Core.List.{List, [], _∷_, _++_, append-assoc, append-nil}
 use native.Mathlib.Omega.{arith}
 use native.Mathlib.Numerals.{add-one}
-use lib.ListN.{length, getD, take, drop, set, replicate, length-append, length-take, length-drop, length-set, length-replicate, take-append-drop}
+use lib.ListN.{length, getD, take, drop, set, replicate, length-append, length-take, length-drop, take-append-drop}
 use lib.Seq.{take-suc, take-suc-set, take-all, take-at, drop-at, drop-drop, getD-drop}
 use borrow.Author.Tests.{ltb-true}
 use Rattle.buffers.specs.Lists.{all}

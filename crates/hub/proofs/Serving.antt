@@ -1,31 +1,29 @@
 -- A line served on bytes, and a fresh bucket: one law for each way through.
-use Prim.Native.Nat.{ℕ, _*_, _-_, _/_, _%_, _≤_, _<_}
+use Prim.Native.Nat.{ℕ, _-_, _/_, _≤_}
 use mathlib.Core.Path.{_≡_, refl, sym, ap, _∙_}
 use mathlib.Core.Logic.{inl, inr}
-use mathlib.Core.Bool.{Bool, true, false}
-use mathlib.Core.List.{List, []}
+use mathlib.Core.List.{List}
 use mathlib.Core.Option.{Option, some, none}
 use native.Mathlib.Omega.{arith}
 use lib.Dec.{eqb}
-use lib.ListN.{length, take, drop, replicate}
+use lib.ListN.{length, replicate}
 use lib.Seq.{drop-length, length-take-le}
 use borrow.Author.Tests.{eqb-true, eqb-false, eq-eqb, ne-eqb}
 use borrow.Rule.Slice.PartMut.{midOf}
-use Rattle.buffers.specs.Choices.{pick}
 use Rattle.buffers.specs.Moves.{movedDown}
 use Rattle.buffers.proofs.Tests.{either, and-l}
 use Rattle.model.specs.Settings as model
 use Rattle.settings.specs.declared.Settings.{Settings}
 use Rattle.settings.specs.Bytes.{settingsOf, settingsBytes}
 use Rattle.settings.specs.Changes.{Fresh}
-use Rattle.settings.specs.Meaning.{settingsMean, prefixesAre, settingsSound}
+use Rattle.settings.specs.Meaning.{settingsMean, settingsSound}
 use Rattle.request.specs.Grammar.{Said, readLine}
 use Rattle.outcome.specs.Outcome.{Outcome, settingsFrom, refused, refusalOf, outcome}
 use Rattle.outcome.proofs.Back.{settings-back}
 use Rattle.outcome.proofs.Demands.{refused-unchanged, unreadable-refused, accepted-line}
 use Rattle.engine.specs.declared.Served.{Served}
 use Rattle.engine.specs.Served.{served}
-use Rattle.hub.specs.Bytes.{numbersFrom, numbersBytes, ByteOutcome, byteOutcome, outcomeBytes, servedBytes, freshSettings, freshOutcome}
+use Rattle.hub.specs.Bytes.{numbersFrom, numbersBytes, ByteOutcome, byteOutcome, servedBytes, freshSettings, freshOutcome}
 
 -- ## A line
 
@@ -92,5 +90,3 @@ fresh-bytes s b f e = e ∙ ap settingsBytes (fresh-is s f)
 pub fresh-left : (s : Settings) (settings rows keys settings′ rows′ keys′ : List ℕ) → Fresh s → settings′ ≡ settingsBytes s → rows′ ≡ replicate (length rows) 0 → keys′ ≡ replicate (length keys) 0
     → freshOutcome 0 settings′ rows′ keys′ ≡ freshOutcome 0 (settingsBytes freshSettings) (replicate (length rows) 0) (replicate (length keys) 0)
 fresh-left s settings rows keys settings′ rows′ keys′ f e g h = rw (g, h, fresh-bytes s settings′ f e)
-
-pub ruleset entries = (line-refused, line-accepted, line-served, fresh-left)

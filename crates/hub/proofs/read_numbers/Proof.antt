@@ -1,6 +1,5 @@
 -- `read_numbers` meets its contract: the numbers before `i` are read.
 use Prim.Native.Nat.{_-_}
-use lib.ListN.{length}
 use Rattle.hub.proofs.Numbers.{Reading, number-cases}
 use borrow.Author.Needs.{needs}
 use Rattle.hub.proofs.read_numbers.Statement.{statement}

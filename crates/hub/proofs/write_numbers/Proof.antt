@@ -1,6 +1,5 @@
 -- `write_numbers` meets its contract: the numbers before `i` are written.
 use Prim.Native.Nat.{_-_}
-use lib.ListN.{length}
 use Rattle.hub.proofs.Numbers.{Writing, number-cases, write-step}
 use borrow.Author.Needs.{needs}
 use Rattle.hub.proofs.write_numbers.Statement.{statement}
