@@ -1,0 +1,5 @@
+pub mod Numbers
+pub mod Serving
+pub mod Fits
+pub mod Hub
+pub mod FreshBucket

@@ -1,0 +1,92 @@
+-- A line served on bytes, and a fresh bucket: one law for each way through.
+use Prim.Native.Nat.{ℕ, _-_, _/_, _≤_}
+use mathlib.Core.Path.{_≡_, refl, sym, ap, _∙_}
+use mathlib.Core.Logic.{inl, inr}
+use mathlib.Core.List.{List}
+use mathlib.Core.Option.{Option, some, none}
+use native.Mathlib.Omega.{arith}
+use lib.Dec.{eqb}
+use lib.ListN.{length, replicate}
+use lib.Seq.{drop-length, length-take-le}
+use borrow.Author.Tests.{eqb-true, eqb-false, eq-eqb, ne-eqb}
+use borrow.Rule.Slice.PartMut.{midOf}
+use Rattle.buffers.specs.Moves.{movedDown}
+use Rattle.buffers.proofs.Tests.{either, and-l}
+use Rattle.model.specs.Settings as model
+use Rattle.settings.specs.declared.Settings.{Settings}
+use Rattle.settings.specs.Bytes.{settingsOf, settingsBytes}
+use Rattle.settings.specs.Changes.{Fresh}
+use Rattle.settings.specs.Meaning.{settingsMean, settingsSound}
+use Rattle.request.specs.Grammar.{Said, readLine}
+use Rattle.outcome.specs.Outcome.{Outcome, settingsFrom, refused, refusalOf, outcome}
+use Rattle.outcome.proofs.Back.{settings-back}
+use Rattle.outcome.proofs.Demands.{refused-unchanged, unreadable-refused, accepted-line}
+use Rattle.engine.specs.declared.Served.{Served}
+use Rattle.engine.specs.Served.{served}
+use Rattle.hub.specs.Bytes.{numbersFrom, numbersBytes, ByteOutcome, byteOutcome, servedBytes, freshSettings, freshOutcome}
+
+-- ## A line
+
+-- The number of an outcome is the refusal, 0 where there is none.
+pub outcome-number : (s : Settings) (n b line a : List ℕ) → (outcome s n b line a) .number ≡ refusalOf s n b line a
+outcome-number s n b line a =
+    elim (either (eqb (refusalOf s n b line a) 0)) [
+      | inl t ↦ go (readLine line) refl (eqb-true (refusalOf s n b line a) 0 t)
+      | inr t ↦ ap (λ (o : Outcome). o .number) (refused-unchanged s n b line a (eqb-false (refusalOf s n b line a) 0 t))
+    ]
+  where
+    go : (o : Option Said) → readLine line ≡ o → refusalOf s n b line a ≡ 0 → (outcome s n b line a) .number ≡ refusalOf s n b line a
+    go none e z = absurd (unreadable-refused s n b line a e z)
+    go (some q) e z = ap (λ (o : Outcome). o .number) (accepted-line s n b line a q e z) ∙ sym z
+
+-- An outcome with a refusal's number left everything as it was.
+pub outcome-refused : (s : Settings) (n b line a : List ℕ) → ((outcome s n b line a) .number ≡ 0 → ⊥) → outcome s n b line a ≡ refused ((outcome s n b line a) .number) s n b a
+outcome-refused s n b line a z =
+    refused-unchanged s n b line a (λ q. z (outcome-number s n b line a ∙ q)) ∙ ap (λ (k : ℕ). refused k s n b a) (sym (outcome-number s n b line a))
+
+module _ (k : ℕ) (settings rows keys line answer : List ℕ) (s : Settings) (n : List ℕ) (r : Served) (n′ keys′ answer′ : List ℕ)
+    (es : s ≡ settingsOf settings) (en : n ≡ numbersFrom k rows) (er : served r n′ keys′ answer′ ≡ outcome s n keys line answer) where
+  number-is : r .number ≡ (outcome s n keys line answer) .number
+  number-is = ap (λ (o : Outcome). o .number) er
+
+  pub line-refused : (r .number ≡ 0 → ⊥) → byteOutcome (r .number) settings rows keys′ answer′ ≡ servedBytes k settings rows keys line answer
+  line-refused z =
+      let u : outcome s n keys line answer ≡ refused ((outcome s n keys line answer) .number) s n keys answer = outcome-refused s n keys line answer (λ q. z (number-is ∙ q)) in
+      let ek : keys′ ≡ keys = ap (λ (o : Outcome). o .keys) (er ∙ u) in
+      let ea : answer′ ≡ answer = ap (λ (o : Outcome). o .answer) (er ∙ u) in
+      rw (← es, ← en, ← er, ne-eqb (r .number) 0 z, ek, ea)
+
+  pub line-accepted : (settings′ rows′ : List ℕ) → r .number ≡ 0 → settings′ ≡ settingsBytes (r .settings) → rows′ ≡ numbersBytes n′
+      → byteOutcome 0 settings′ rows′ keys′ answer′ ≡ servedBytes k settings rows keys line answer
+  line-accepted settings′ rows′ z e f = rw (← es, ← en, ← er, eq-eqb (r .number) 0 z, e, f)
+
+-- A table of as many numbers as the rows have is lent of the room for all.
+pub part-long : (rows room : List ℕ) → length room ≡ 8192 → length rows ≤ 65536 → length (midOf 0 (length rows / 8 - 0) room) ≡ length rows / 8
+part-long rows room e h =
+    let n : length rows / 8 - 0 ≡ length rows / 8 = omega arith in
+    rw n (length-take-le (length rows / 8) room (omega arith))
+
+pub line-served : (o : ByteOutcome) (settings rows keys line answer room : List ℕ) → length room ≡ 8192 → length rows ≤ 65536
+    → o ≡ servedBytes (length (midOf 0 (length rows / 8 - 0) room)) settings rows keys line answer → o ≡ servedBytes (length rows / 8) settings rows keys line answer
+line-served o settings rows keys line answer room e h q = q ∙ ap (λ (k : ℕ). servedBytes k settings rows keys line answer) (part-long rows room e h)
+
+-- ## A fresh bucket
+
+-- Moved down by its whole length a buffer is all zeros.
+pub cleared : (b exit : List ℕ) → exit ≡ movedDown (length b) b → exit ≡ replicate (length b) 0
+unfolding movedDown
+cleared b exit e = e ∙ rw drop-length
+
+-- Fresh settings are the model's, with no row used.
+pub fresh-is : (s : Settings) → Fresh s → s ≡ freshSettings
+unfolding settingsSound
+fresh-is s f =
+    sym (settings-back s (and-l _ _ (f .sound))) ∙ ap (λ (u : ℕ). settingsFrom (settingsMean s) u) (f .unused)
+    ∙ ap (λ (m : model.Settings). settingsFrom m 0) (f .means)
+
+pub fresh-bytes : (s : Settings) (b : List ℕ) → Fresh s → b ≡ settingsBytes s → b ≡ settingsBytes freshSettings
+fresh-bytes s b f e = e ∙ ap settingsBytes (fresh-is s f)
+
+pub fresh-left : (s : Settings) (settings rows keys settings′ rows′ keys′ : List ℕ) → Fresh s → settings′ ≡ settingsBytes s → rows′ ≡ replicate (length rows) 0 → keys′ ≡ replicate (length keys) 0
+    → freshOutcome 0 settings′ rows′ keys′ ≡ freshOutcome 0 (settingsBytes freshSettings) (replicate (length rows) 0) (replicate (length keys) 0)
+fresh-left s settings rows keys settings′ rows′ keys′ f e g h = rw (g, h, fresh-bytes s settings′ f e)

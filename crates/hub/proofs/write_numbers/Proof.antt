@@ -1,0 +1,29 @@
+-- `write_numbers` meets its contract: the numbers before `i` are written.
+use Prim.Native.Nat.{_-_}
+use Rattle.hub.proofs.Numbers.{Writing, number-cases, write-step}
+use borrow.Author.Needs.{needs}
+use Rattle.hub.proofs.write_numbers.Statement.{statement}
+use Rattle.hub.proofs.write_numbers.Tie as tie
+
+abbrev Inv-loop : tie.InvT-loop
+Inv-loop t b₀ n i₀ b i = Writing t b₀ b i
+
+abbrev μ-loop : tie.MeasureT-loop
+μ-loop t b₀ n i₀ b i = n - i
+
+pub write-numbers-spec : {M : Type 1} → statement M
+write-numbers-spec =
+    tie.close
+    (tie.spec
+    Inv-loop
+    μ-loop
+    (λ c. search (needs, number-cases))
+    (λ c. search (needs, number-cases))
+    (λ c. search (needs, number-cases))
+    (λ c. search (needs, number-cases))
+    (λ c κs. search (needs, number-cases))
+    (λ c. search (needs, number-cases))
+    (λ c. search (needs, number-cases))
+    (λ c. (search needs, write-step _ _ _ _ _ _ (c .before .before .before .before .before .before .loop .inv .1) (c .before .before .put-word .ensures) (search needs)))
+    (λ c. search (needs, number-cases))
+    (λ c. search (needs, number-cases)))
