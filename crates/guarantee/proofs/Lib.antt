@@ -4,4 +4,5 @@ pub mod Runs
 pub mod LockClause
 pub mod Lines
 pub mod Lists
+pub mod Bytes
 pub mod Examples

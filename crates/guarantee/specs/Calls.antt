@@ -6,7 +6,7 @@ use lib.Dec.{eqb}
 use lib.ListN.{length, replicate}
 use Rattle.buffers.specs.Choices.{pick, thenSome}
 use Rattle.buffers.specs.Lists.{begins}
-use Rattle.model.specs.Settings.{Bucket, fresh}
+use Rattle.model.specs.Settings.{Bucket}
 use Rattle.model.specs.Requests.{numbered, Verb, Put, Copy, Retain, Hold, AddMarker, DeleteVersion, Set, Sweep, Ask}
 use Rattle.model.specs.Answers.{made}
 use Rattle.model.specs.Run.{Event}
@@ -14,7 +14,8 @@ use Rattle.settings.specs.declared.Settings.{Settings}
 use Rattle.bucket.specs.Whole.{bucketOf}
 use Rattle.request.specs.Grammar.{readLine}
 use Rattle.answers.specs.Text.{answerText}
-use Rattle.outcome.specs.Outcome.{settingsFrom, Outcome, asked, outcome}
+use Rattle.outcome.specs.Outcome.{Outcome, asked, outcome}
+use Rattle.hub.specs.Bytes.{freshSettings}
 
 -- The bucket as it is lent: its settings, the numbers of its rows, and their key bytes.
 pub record Lent : Type 0 where
@@ -33,7 +34,7 @@ held s = bucketOf (s .settings) (s .numbers) (s .keys)
 
 -- Fresh: next number 1, everything else zero.
 abbrev pub freshLent : ℕ → Lent
-freshLent c = record { settings = settingsFrom (fresh .settings) 0; numbers = replicate (8 * c) 0; keys = replicate (64 * c) 0 }
+freshLent c = record { settings = freshSettings; numbers = replicate (8 * c) 0; keys = replicate (64 * c) 0 }
 
 -- ## One call
 

@@ -1,3 +1,4 @@
 pub mod Calls
 pub mod Lists
 pub mod Promise
+pub mod Bytes
