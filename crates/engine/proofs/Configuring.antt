@@ -20,14 +20,15 @@ use Rattle.model.specs.Effects.{setConfig, configAfter}
 use Rattle.settings.specs.declared.Settings.{Settings}
 use Rattle.settings.specs.Meaning.{rulesMean, settingsMean, prefixesAre}
 use Rattle.settings.specs.Changes.{withDefault, WithRule}
-use Rattle.request.specs.declared.Mode.{Mode}
-use Rattle.request.specs.declared.Period.{Period}
+use Rattle.fields.specs.declared.Mode.{Mode}
+use Rattle.fields.specs.declared.Period.{Period}
 use Rattle.request.specs.declared.Verb as code
 use Rattle.request.specs.declared.Verb.the-variants as verb
 use Rattle.request.specs.declared.Name.{Name}
 use Rattle.request.specs.declared.Retention.{Retention}
 use Rattle.request.specs.declared.Terms.{Terms}
-use Rattle.request.specs.Meaning.{modeMeans, periodMeans, verbMeans, Inside}
+use Rattle.fields.specs.Meaning.{modeMeans, periodMeans, Inside}
+use Rattle.request.specs.Meaning.{verbMeans}
 use Rattle.outcome.proofs.Kept.{prefix-short}
 use Rattle.engine.specs.Served.{Settable, Configured}
 

@@ -15,7 +15,8 @@ use Rattle.bucket.specs.Whole.{bucketOf, whole}
 use Rattle.bucket.proofs.Whole.{WholeParts, whole-parts}
 use Rattle.request.specs.declared.Request.{Request}
 use Rattle.request.specs.declared.Verb.{Verb}
-use Rattle.request.specs.Meaning.{rightsMeans, verbMeans, VerbInside}
+use Rattle.fields.specs.Meaning.{rightsMeans}
+use Rattle.request.specs.Meaning.{verbMeans, VerbInside}
 use Rattle.screen.specs.Screen.{screened}
 use Rattle.verdict.specs.declared.State.{State}
 use Rattle.verdict.specs.declared.Plan.{Plan}

@@ -22,7 +22,8 @@ use Rattle.request.specs.declared.LineRead.{LineRead}
 use Rattle.request.specs.declared.LineRead.the-variants.{Reads, Unreadable}
 use Rattle.request.specs.Grammar.{readLine}
 use Rattle.request.proofs.Ranges.{read-in-range}
-use Rattle.request.specs.Meaning.{rightsMeans, verbMeans, Read}
+use Rattle.fields.specs.Meaning.{rightsMeans}
+use Rattle.request.specs.Meaning.{verbMeans, Read}
 use Rattle.screen.specs.Screen.{screened}
 use Rattle.verdict.specs.declared.Verdict.{Verdict}
 use Rattle.verdict.specs.declared.Verdict.the-variants.{Refused, Accepted}

@@ -19,7 +19,8 @@ use Rattle.verdict.specs.declared.Plan.{Plan}
 use Rattle.verdict.specs.Decision.{Effect}
 use Rattle.verdict.specs.Meaning.{changeMeans, changeTakes}
 use Rattle.apply.specs.Applied.{judged, Applicable}
-use Rattle.request.specs.Meaning.{rightsMeans, verbMeans, VerbInside}
+use Rattle.fields.specs.Meaning.{rightsMeans}
+use Rattle.request.specs.Meaning.{verbMeans, VerbInside}
 use Rattle.verdict.specs.declared.State.{State}
 use Rattle.outcome.specs.Outcome.{Outcome}
 use Rattle.engine.specs.declared.Served.{Served}

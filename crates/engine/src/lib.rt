@@ -1,7 +1,7 @@
 // The engine: a line is read, judged with shared borrows only, carried out and answered. The definitions are in outcome.
+use fields::Mode;
+use fields::Period;
 use request::LineRead;
-use request::Mode;
-use request::Period;
 use request::Request;
 use request::Verb;
 use settings::Settings;
@@ -19,7 +19,8 @@ ghost use Rattle.settings.specs.Meaning.{prefixesAre};
 ghost use Rattle.table.specs.Layout.{rowsOf, capacity};
 ghost use Rattle.bucket.specs.Whole.{bucketOf, whole};
 ghost use Rattle.request.specs.Grammar.{readLine};
-ghost use Rattle.request.specs.Meaning.{modeMeans, periodMeans, rightsMeans, verbMeans, VerbInside};
+ghost use Rattle.fields.specs.Meaning.{modeMeans, periodMeans, rightsMeans};
+ghost use Rattle.request.specs.Meaning.{verbMeans, VerbInside};
 ghost use Rattle.answers.specs.Meaning.{textOf, Printable};
 ghost use Rattle.verdict.specs.Decision.{decision};
 ghost use Rattle.verdict.specs.Meaning.{changeMeans, changeTakes};

@@ -25,7 +25,7 @@ use Rattle.model.specs.Settings.{soundRules, soundConfig, fits, sound}
 use Rattle.model.specs.Time.{defaultEnd}
 use Rattle.blocks.specs.Blocks.{blockOf, isBlock}
 use Rattle.bucket.specs.Whole.{whole}
-use Rattle.request.specs.Fields.{rightsIn, rightsOf, keyOf, prefixOf, versionOf, modeOf, untilOf, switchOf, holdOf, bypassOf, periodOf}
+use Rattle.fields.specs.Fields.{rightsIn, rightsOf, keyOf, prefixOf, versionOf, modeOf, untilOf, switchOf, holdOf, bypassOf, periodOf}
 use Rattle.request.specs.Grammar.{nameAt, retentionAt, termsOf, putOf, copyOf, retainOf, setHoldOf, deleteOf, defaultOf, ruleOf, sweepOf, getOf, settingByWord, verbByWord, readLine}
 use Rattle.answers.specs.Text.{fieldsText, okText, modeText, untilText, holdText}
 use Rattle.outcome.specs.Outcome.{Outcome, refusalOf, outcome}

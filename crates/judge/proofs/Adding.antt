@@ -31,7 +31,7 @@ use Rattle.table.specs.Layout.{capacity}
 use Rattle.table.specs.Places.{rowFrom}
 use Rattle.table.specs.Changes.{insertAt}
 use Rattle.table.proofs.Held.{rows-length}
-use Rattle.request.specs.Meaning.{Inside}
+use Rattle.fields.specs.Meaning.{Inside}
 use Rattle.search.specs.declared.Found.{Found}
 use Rattle.search.specs.declared.Found.the-variants.{At, Place as Free}
 use Rattle.search.specs.Places as places

@@ -6,14 +6,15 @@ use mathlib.Core.List.{List}
 use Rattle.text.specs.declared.Place.{Place}
 use Rattle.model.specs.Settings.{Rule}
 use Rattle.model.specs.Requests as model
-use Rattle.request.specs.declared.Mode.{Mode}
-use Rattle.request.specs.declared.Period.{Period}
+use Rattle.fields.specs.declared.Mode.{Mode}
+use Rattle.fields.specs.declared.Period.{Period}
 use Rattle.request.specs.declared.Name.{Name}
 use Rattle.request.specs.declared.Retention.{Retention}
 use Rattle.request.specs.declared.Terms.{Terms}
 use Rattle.request.specs.declared.Verb.{Verb}
 use Rattle.request.specs.declared.Verb.the-variants as verb
-use Rattle.request.specs.Meaning.{verbMeans, Inside, VerbInside}
+use Rattle.fields.specs.Meaning.{Inside}
+use Rattle.request.specs.Meaning.{verbMeans, VerbInside}
 use Rattle.answers.specs.declared.Answer.the-variants.{Done}
 use Rattle.verdict.specs.declared.State.{State}
 use Rattle.verdict.specs.declared.Verdict.{Verdict}

@@ -1,14 +1,14 @@
 // A request judged on the table, with shared borrows only: refusals 7 to 12, or the plan of what the line does. The definitions are in verdict.
 use answers::Answer;
 use answers::Shown;
-use request::Hold;
-use request::Mode;
+use fields::Hold;
+use fields::Mode;
+use fields::Until;
+use fields::Version;
 use request::Name;
 use request::Retention;
 use request::Terms;
-use request::Until;
 use request::Verb;
-use request::Version;
 use search::Found;
 use settings::Rule;
 use table::Numbers;
@@ -31,7 +31,8 @@ ghost use Rattle.model.specs.Effects.{newHold, holdNumber, setRetention, setHol
 ghost use Rattle.settings.specs.Meaning.{rulesMean};
 ghost use Rattle.table.specs.Places.{rowFrom};
 ghost use Rattle.search.specs.Places.{keyPlace};
-ghost use Rattle.request.specs.Meaning.{modeMeans, untilMeans, holdMeans, nameMeans, retentionMeans, termsMeans, verbMeans, Inside, VerbInside};
+ghost use Rattle.fields.specs.Meaning.{modeMeans, untilMeans, holdMeans, Inside};
+ghost use Rattle.request.specs.Meaning.{nameMeans, retentionMeans, termsMeans, verbMeans, VerbInside};
 ghost use Rattle.verdict.specs.State.{rowsIn, Ready};
 ghost use Rattle.verdict.specs.Meaning.{Looks};
 ghost use Rattle.judge.specs.Premises.{Asked, Sweepable, JudgesBy, JudgesOn};

@@ -16,13 +16,13 @@ use Rattle.text.specs.Keys.{isKey, isPrefix}
 use Rattle.calendar.specs.Calendar.{latest}
 use Rattle.model.specs.Rows.{largestSize, bodies}
 use Rattle.model.specs.Requests.{isVersion, isName, isModeField, isDateField, isRetention, isPeriodField, inRange}
-use Rattle.request.specs.declared.Mode.{Mode}
-use Rattle.request.specs.declared.Until.{Until}
-use Rattle.request.specs.declared.Until.the-variants as until
-use Rattle.request.specs.declared.Version.{Version}
-use Rattle.request.specs.declared.Version.the-variants as version
-use Rattle.request.specs.declared.Period.{Period}
-use Rattle.request.specs.declared.Period.the-variants as period
+use Rattle.fields.specs.declared.Mode.{Mode}
+use Rattle.fields.specs.declared.Until.{Until}
+use Rattle.fields.specs.declared.Until.the-variants as until
+use Rattle.fields.specs.declared.Version.{Version}
+use Rattle.fields.specs.declared.Version.the-variants as version
+use Rattle.fields.specs.declared.Period.{Period}
+use Rattle.fields.specs.declared.Period.the-variants as period
 use Rattle.request.specs.declared.Name.{Name}
 use Rattle.request.specs.declared.Retention.{Retention}
 use Rattle.request.specs.declared.Terms.{Terms}
@@ -31,7 +31,8 @@ use Rattle.request.specs.declared.Verb.{Verb}
 use Rattle.request.specs.declared.Verb.the-variants as verb
 use Rattle.request.specs.declared.LineRead.{LineRead}
 use Rattle.request.specs.declared.LineRead.the-variants.{Reads}
-use Rattle.request.specs.Meaning.{modeMeans, untilMeans, versionMeans, periodMeans, nameMeans, retentionMeans, rightsMeans, verbMeans, saidOf, Inside, VerbInside, Read}
+use Rattle.fields.specs.Meaning.{modeMeans, untilMeans, versionMeans, periodMeans, rightsMeans, Inside}
+use Rattle.request.specs.Meaning.{nameMeans, retentionMeans, verbMeans, saidOf, VerbInside, Read}
 use Rattle.request.specs.Bounds.{KeyFits, VersionFits, UntilFits, PeriodFits, NameFits, PutFits, CopyFits, RetainFits, DeleteFits, RuleFits, VerbFits}
 use Rattle.request.proofs.Ranges.{read-in-range}
 

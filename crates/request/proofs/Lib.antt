@@ -1,4 +1,3 @@
-pub mod Readers
 pub mod Answers
 pub mod Ranges
 pub mod Bounds

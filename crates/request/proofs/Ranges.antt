@@ -18,7 +18,7 @@ use Rattle.calendar.proofs.Reading.{read-most}
 use Rattle.model.specs.Settings.{days, years, isPeriod}
 use Rattle.model.specs.Rows.{bodies}
 use Rattle.model.specs.Requests.{Version, numbered, Name, Retention, Terms, Verb, AddMarker, DeleteVersion, Period, isVersion, isName, isModeField, isDateField, isRetention, isPeriodField, inRange}
-use Rattle.request.specs.Fields.{keyOf, prefixOf, versionOf, modeOf, untilOf, periodOf}
+use Rattle.fields.specs.Fields.{keyOf, prefixOf, versionOf, modeOf, untilOf, periodOf}
 use Rattle.request.specs.Grammar.{nameAt, retentionAt, termsOf, putOf, copyOf, retainOf, setHoldOf, deleteOf, defaultOf, ruleOf, sweepOf, getOf, settingByWord, verbByWord, Said, readLine}
 
 -- whatever is read passes the test

@@ -5,12 +5,12 @@ use lib.ListN.{length}
 use Rattle.text.specs.declared.Place.{Place}
 use Rattle.calendar.specs.Calendar.{latest}
 use Rattle.model.specs.Rows.{largestSize}
-use Rattle.request.specs.declared.Until.{Until}
-use Rattle.request.specs.declared.Until.the-variants as until
-use Rattle.request.specs.declared.Version.{Version}
-use Rattle.request.specs.declared.Version.the-variants as version
-use Rattle.request.specs.declared.Period.{Period}
-use Rattle.request.specs.declared.Period.the-variants as period
+use Rattle.fields.specs.declared.Until.{Until}
+use Rattle.fields.specs.declared.Until.the-variants as until
+use Rattle.fields.specs.declared.Version.{Version}
+use Rattle.fields.specs.declared.Version.the-variants as version
+use Rattle.fields.specs.declared.Period.{Period}
+use Rattle.fields.specs.declared.Period.the-variants as period
 use Rattle.request.specs.declared.Name.{Name}
 use Rattle.request.specs.declared.Retention.{Retention}
 use Rattle.request.specs.declared.Terms.{Terms}

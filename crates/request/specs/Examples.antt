@@ -16,7 +16,7 @@ use Rattle.calendar.specs.Reading.{digitOf, twoDigits, fourDigits, dayNumber, d
 use Rattle.model.specs.Rows.{compliance}
 use Rattle.model.specs.Settings.{days}
 use Rattle.model.specs.Requests.{Rights, numbered, name, noRetention, Verb, Put, AddMarker, DeleteVersion, Set, DefaultRetention, Ask, Get}
-use Rattle.request.specs.Fields.{rightsIn, rightsOf, keyOf, versionOf, modeOf, untilOf, holdOf, bypassOf, periodOf}
+use Rattle.fields.specs.Fields.{rightsIn, rightsOf, keyOf, versionOf, modeOf, untilOf, holdOf, bypassOf, periodOf}
 use Rattle.request.specs.Grammar.{nameAt, retentionAt, termsOf, putOf, deleteOf, defaultOf, getOf, settingByWord, verbByWord, Said, readLine}
 
 -- the bytes of a text in which `|` stands for a tab

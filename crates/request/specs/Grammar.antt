@@ -38,7 +38,7 @@ use Rattle.model.specs.Requests.{
   unreadable,
   reads,
 }
-use Rattle.request.specs.Fields.{rightsOf, keyOf, prefixOf, versionOf, modeOf, untilOf, switchOf, holdOf, bypassOf, periodOf}
+use Rattle.fields.specs.Fields.{rightsOf, keyOf, prefixOf, versionOf, modeOf, untilOf, switchOf, holdOf, bypassOf, periodOf}
 
 -- ## Fields that several verbs have
 

@@ -1,4 +1,3 @@
-pub mod Fields
 pub mod Grammar
 pub mod Meaning
 pub mod Bounds

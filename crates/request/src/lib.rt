@@ -1,43 +1,16 @@
 // A request line, read whole: its clock, its rights, its verb with the verb's fields. The definitions are in specs/.
-mod fields;
 mod verbs;
 
 use calendar::DateRead;
+use fields::Hold;
+use fields::Mode;
+use fields::Period;
+use fields::Rights;
+use fields::RightsRead;
+use fields::Until;
+use fields::Version;
 use text::Place;
 ghost use Rattle.request.specs.Meaning.{Read};
-
-// A mode, `-` for missing.
-pub enum Mode {
-    Missing,
-    Governance,
-    Compliance,
-}
-
-// A retain-until date, `-` for missing.
-pub enum Until {
-    Missing,
-    Given(u64),
-}
-
-// A legal hold, `-` for missing.
-pub enum Hold {
-    Missing,
-    Off,
-    On,
-}
-
-// A version number, `-` for the current version.
-pub enum Version {
-    Current,
-    Numbered(u64),
-}
-
-// A default retention's period, `-` for missing.
-pub enum Period {
-    Missing,
-    Days(u64),
-    Years(u64),
-}
 
 // A key, by its place in the line, and a version of it.
 pub struct Name {
@@ -54,17 +27,6 @@ pub struct Retention {
 pub struct Terms {
     pub retention: Retention,
     pub hold: Hold,
-}
-
-// The letters r w d t h b c.
-pub struct Rights {
-    pub r: bool,
-    pub w: bool,
-    pub d: bool,
-    pub t: bool,
-    pub h: bool,
-    pub b: bool,
-    pub c: bool,
 }
 
 pub enum Verb {
@@ -99,47 +61,7 @@ pub enum LineRead {
     Unreadable,
 }
 
-// What a field, or some fields together, say: the value, or that they can't be read.
-pub enum KeyRead {
-    Is(Place),
-    Bad,
-}
-
-pub enum VersionRead {
-    Is(Version),
-    Bad,
-}
-
-pub enum ModeRead {
-    Is(Mode),
-    Bad,
-}
-
-pub enum UntilRead {
-    Is(Until),
-    Bad,
-}
-
-pub enum FlagRead {
-    Is(bool),
-    Bad,
-}
-
-pub enum HoldRead {
-    Is(Hold),
-    Bad,
-}
-
-pub enum PeriodRead {
-    Is(Period),
-    Bad,
-}
-
-pub enum RightsRead {
-    Is(Rights),
-    Bad,
-}
-
+// What some fields together say: the value, or that they can't be read.
 pub enum NameRead {
     Is(Name),
     Bad,

@@ -5,10 +5,11 @@ use mathlib.Core.Bool.{Bool, true, false}
 use mathlib.Core.List.{List}
 use Rattle.buffers.specs.Choices.{pick}
 use Rattle.model.specs.Settings.{Config}
-use Rattle.request.specs.declared.Until.{Until}
-use Rattle.request.specs.declared.Rights.{Rights}
+use Rattle.fields.specs.declared.Until.{Until}
+use Rattle.fields.specs.declared.Rights.{Rights}
 use Rattle.request.specs.declared.Verb.{Verb}
-use Rattle.request.specs.Meaning.{rightsMeans, verbMeans}
+use Rattle.fields.specs.Meaning.{rightsMeans}
+use Rattle.request.specs.Meaning.{verbMeans}
 use Rattle.screen.specs.Fields.{halfBy, allowedBy, pastOf, pastBy}
 use Rattle.screen.specs.Screen.{screened}
 use Rattle.screen.proofs.Model.{screened-by}

@@ -11,10 +11,11 @@ use Rattle.model.specs.Settings.{Config}
 use Rattle.model.specs.Requests.{Letter, writing, deleting, retaining, holding, bypassing, has}
 use Rattle.model.specs.Refusals.{needIf, need, halfGiven, needs, granted, lacksRight, pastDate}
 use Rattle.request.specs.declared.Terms.{Terms}
-use Rattle.request.specs.declared.Rights.{Rights}
+use Rattle.fields.specs.declared.Rights.{Rights}
 use Rattle.request.specs.declared.Verb.{Verb}
 use Rattle.request.specs.declared.Verb.the-variants.{Put, Copy, Retain, SetHold, AddMarker, DeleteVersion, SetDefault, SetRule, Sweep, Get}
-use Rattle.request.specs.Meaning.{modeMeans, holdMeans, rightsMeans, verbMeans}
+use Rattle.fields.specs.Meaning.{modeMeans, holdMeans, rightsMeans}
+use Rattle.request.specs.Meaning.{verbMeans}
 use Rattle.screen.specs.Fields.{halfBy, mayPut, allowedBy, pastOf, pastBy}
 use Rattle.screen.specs.Screen.{screened}
 

@@ -4,15 +4,15 @@ use mathlib.Core.Bool.{Bool, true, false, not}
 use lib.Dec.{leb}
 use Rattle.buffers.specs.Choices.{pick, thenSome, isSome}
 use Rattle.model.specs.Refusals.{oneOf}
-use Rattle.request.specs.declared.Mode.{Mode}
-use Rattle.request.specs.declared.Until.{Until}
-use Rattle.request.specs.declared.Period.{Period}
+use Rattle.fields.specs.declared.Mode.{Mode}
+use Rattle.fields.specs.declared.Until.{Until}
+use Rattle.fields.specs.declared.Period.{Period}
 use Rattle.request.specs.declared.Retention.{Retention}
 use Rattle.request.specs.declared.Terms.{Terms}
-use Rattle.request.specs.declared.Rights.{Rights}
+use Rattle.fields.specs.declared.Rights.{Rights}
 use Rattle.request.specs.declared.Verb.{Verb}
 use Rattle.request.specs.declared.Verb.the-variants.{Put, Copy, Retain, SetHold, AddMarker, DeleteVersion, SetDefault, SetRule, Sweep, Get}
-use Rattle.request.specs.Meaning.{modeMeans, untilMeans, holdMeans, periodMeans}
+use Rattle.fields.specs.Meaning.{modeMeans, untilMeans, holdMeans, periodMeans}
 
 -- 4 for mode and date
 abbrev pub halfOf : Retention → Bool

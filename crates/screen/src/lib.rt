@@ -1,12 +1,12 @@
 // Refusals 4 to 6: those that a request's own fields decide. The definitions are in specs/.
-use request::Hold;
-use request::Mode;
-use request::Period;
+use fields::Hold;
+use fields::Mode;
+use fields::Period;
+use fields::Rights;
+use fields::Until;
 use request::Request;
 use request::Retention;
-use request::Rights;
 use request::Terms;
-use request::Until;
 use request::Verb;
 ghost use mathlib.Core.Path.{_≡_};
 ghost use mathlib.Core.List.{List};
@@ -14,7 +14,8 @@ ghost use Prim.Native.Nat.{ℕ};
 ghost use mathlib.Core.Bool.{true};
 ghost use Rattle.buffers.specs.Choices.{pick, isSome};
 ghost use Rattle.model.specs.Settings.{Config};
-ghost use Rattle.request.specs.Meaning.{modeMeans, untilMeans, holdMeans, periodMeans, rightsMeans, verbMeans};
+ghost use Rattle.fields.specs.Meaning.{modeMeans, untilMeans, holdMeans, periodMeans, rightsMeans};
+ghost use Rattle.request.specs.Meaning.{verbMeans};
 ghost use Rattle.screen.specs.Fields.{halfOf, halfBy, mayPut, mayBypass, allowedBy, pastOf, pastBy};
 ghost use Rattle.screen.specs.Screen.{screened};
 

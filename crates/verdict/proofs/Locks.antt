@@ -11,10 +11,10 @@ use Rattle.calendar.specs.Periods.{periodEnd}
 use Rattle.model.specs.Settings.{Rule}
 use Rattle.model.specs.Time.{defaultEnd}
 use Rattle.model.specs.Locks.{noEarlier}
-use Rattle.request.specs.declared.Mode.{Mode}
-use Rattle.request.specs.declared.Mode.the-variants.{Missing, Governance, Compliance}
-use Rattle.request.specs.declared.Until.{Until}
-use Rattle.request.specs.Meaning.{modeMeans, untilMeans}
+use Rattle.fields.specs.declared.Mode.{Mode}
+use Rattle.fields.specs.declared.Mode.the-variants.{Missing, Governance, Compliance}
+use Rattle.fields.specs.declared.Until.{Until}
+use Rattle.fields.specs.Meaning.{modeMeans, untilMeans}
 use Rattle.verdict.specs.declared.State.{State}
 use Rattle.verdict.specs.declared.NewLock.{NewLock}
 use Rattle.verdict.specs.State.{configBy}

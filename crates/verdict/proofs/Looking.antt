@@ -19,16 +19,16 @@ use Rattle.search.specs.Places as places
 use Rattle.search.specs.Searching.{Searchable}
 use Rattle.search.proofs.Positions.{rows-row, holds-searchable, current-used, version-used}
 use Rattle.search.proofs.Named.{current-row, version-row}
-use Rattle.request.specs.declared.Version as request
-use Rattle.request.specs.declared.Version.the-variants.{Current, Numbered}
-use Rattle.request.specs.Meaning.{versionMeans}
+use Rattle.fields.specs.declared.Version as fields
+use Rattle.fields.specs.declared.Version.the-variants.{Current, Numbered}
+use Rattle.fields.specs.Meaning.{versionMeans}
 use Rattle.verdict.specs.declared.State.{State}
 use Rattle.verdict.specs.State.{rowsIn, Ready}
 use Rattle.verdict.specs.Meaning.{foundBy, keyHere}
 
 -- ## What is found, by the version's case
 
-module _ (xs : List Row) (k : List ℕ) (v : request.Version) (r : Found) where
+module _ (xs : List Row) (k : List ℕ) (v : fields.Version) (r : Found) where
   pub found-current : v ≡ Current → r ≡ places.currentIn k xs → r ≡ foundBy xs k (versionMeans v)
   found-current q h = cc
 

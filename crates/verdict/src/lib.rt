@@ -1,9 +1,9 @@
 // The types of a verdict on a line, and the tests that several verbs share. The definitions are in specs/.
 use answers::Answer;
-use request::Mode;
+use fields::Mode;
+use fields::Until;
+use fields::Version;
 use request::Retention;
-use request::Until;
-use request::Version;
 use search::Found;
 use table::Numbers;
 use text::Place;
@@ -20,7 +20,8 @@ ghost use Rattle.model.specs.Locks.{noEarlier, admits};
 ghost use Rattle.table.specs.Layout.{rowsOf};
 ghost use Rattle.table.specs.Places.{rowFrom};
 ghost use Rattle.search.specs.Searching.{Searchable};
-ghost use Rattle.request.specs.Meaning.{versionMeans, modeMeans, untilMeans, retentionMeans};
+ghost use Rattle.fields.specs.Meaning.{versionMeans, modeMeans, untilMeans};
+ghost use Rattle.request.specs.Meaning.{retentionMeans};
 ghost use Rattle.verdict.specs.State.{configBy, rowsIn, Ready};
 ghost use Rattle.verdict.specs.Meaning.{foundBy, Looks};
 ghost use Rattle.verdict.specs.Locks.{newLock, lockMeans};

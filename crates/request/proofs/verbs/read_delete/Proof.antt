@@ -1,6 +1,7 @@
 -- `read_delete` meets its contract.
 use Rattle.buffers.proofs.Choices.{picks}
-use Rattle.request.proofs.Answers.{answers}
+use Rattle.fields.proofs.Answers.{keys, versions, bypasses}
+use Rattle.request.proofs.Answers.{deletions}
 use Rattle.request.specs.Grammar.{deleteOf}
 use borrow.Author.Needs.{needs}
 use Rattle.request.proofs.verbs.read_delete.Statement.{statement}
@@ -12,22 +13,22 @@ read-delete-spec =
     tie.close
     (tie.spec
     (λ c κs. search needs)
-    (λ c. search (picks, answers) depth 16)
+    (λ c. search (picks, keys, versions, bypasses, deletions) depth 16)
     (λ c κs. search needs)
     (λ c. search needs)
     (λ c. search needs)
-    (λ c. search (picks, answers) depth 16)
-    (λ c κs. search needs)
-    (λ c κs. search needs)
-    (λ c. search needs)
-    (λ c. search needs)
-    (λ c. search (picks, answers) depth 16)
+    (λ c. search (picks, keys, versions, bypasses, deletions) depth 16)
     (λ c κs. search needs)
     (λ c κs. search needs)
     (λ c. search needs)
     (λ c. search needs)
-    (λ c. search (picks, answers) depth 16)
+    (λ c. search (picks, keys, versions, bypasses, deletions) depth 16)
+    (λ c κs. search needs)
+    (λ c κs. search needs)
     (λ c. search needs)
     (λ c. search needs)
-    (λ c. search (picks, answers) depth 16)
-    (λ c. search (picks, answers) depth 16))
+    (λ c. search (picks, keys, versions, bypasses, deletions) depth 16)
+    (λ c. search needs)
+    (λ c. search needs)
+    (λ c. search (picks, keys, versions, bypasses, deletions) depth 16)
+    (λ c. search (picks, keys, versions, bypasses, deletions) depth 16))

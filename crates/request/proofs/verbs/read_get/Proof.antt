@@ -1,6 +1,6 @@
 -- `read_get` meets its contract.
 use Rattle.buffers.proofs.Choices.{picks}
-use Rattle.request.proofs.Answers.{answers}
+use Rattle.request.proofs.Answers.{names}
 use Rattle.request.specs.Grammar.{getOf}
 use borrow.Author.Needs.{needs}
 use Rattle.request.proofs.verbs.read_get.Statement.{statement}
@@ -12,9 +12,9 @@ read-get-spec =
     tie.close
     (tie.spec
     (λ c κs. search needs)
-    (λ c. search (picks, answers) depth 16)
+    (λ c. search (picks, names) depth 16)
     (λ c κs. search needs)
     (λ c. search needs)
     (λ c. search needs)
-    (λ c. search (picks, answers) depth 16)
-    (λ c. search (picks, answers) depth 16))
+    (λ c. search (picks, names) depth 16)
+    (λ c. search (picks, names) depth 16))

@@ -1,6 +1,6 @@
 -- `read_name` meets its contract.
 use Rattle.buffers.proofs.Choices.{picks}
-use Rattle.request.proofs.Answers.{answers}
+use Rattle.fields.proofs.Answers.{keys, versions}
 use Rattle.request.specs.Grammar.{nameAt}
 use borrow.Author.Needs.{needs}
 use Rattle.request.proofs.verbs.read_name.Statement.{statement}
@@ -14,10 +14,10 @@ read-name-spec =
     (λ c κs. search needs)
     (λ c. search needs)
     (λ c. search needs)
-    (λ c. search (picks, answers) depth 16)
+    (λ c. search (picks, keys, versions) depth 16)
     (λ c κs. search needs)
     (λ c κs. search needs)
     (λ c. search needs)
     (λ c. search needs)
-    (λ c. search (picks, answers) depth 16)
-    (λ c. search (picks, answers) depth 16))
+    (λ c. search (picks, keys, versions) depth 16)
+    (λ c. search (picks, keys, versions) depth 16))

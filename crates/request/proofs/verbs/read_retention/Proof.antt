@@ -1,6 +1,6 @@
 -- `read_retention` meets its contract.
 use Rattle.buffers.proofs.Choices.{picks}
-use Rattle.request.proofs.Answers.{answers}
+use Rattle.fields.proofs.Answers.{modes, untils}
 use Rattle.request.specs.Grammar.{retentionAt}
 use borrow.Author.Needs.{needs}
 use Rattle.request.proofs.verbs.read_retention.Statement.{statement}
@@ -15,10 +15,10 @@ read-retention-spec =
     (λ c κs. search needs)
     (λ c. search needs)
     (λ c. search needs)
-    (λ c. search (picks, answers) depth 16)
+    (λ c. search (picks, modes, untils) depth 16)
     (λ c κs. search needs)
     (λ c κs. search needs)
     (λ c. search needs)
     (λ c. search needs)
-    (λ c. search (picks, answers) depth 16)
-    (λ c. search (picks, answers) depth 16))
+    (λ c. search (picks, modes, untils) depth 16)
+    (λ c. search (picks, modes, untils) depth 16))

@@ -1,6 +1,5 @@
 -- `read_sweep` meets its contract.
 use Rattle.buffers.proofs.Choices.{picks}
-use Rattle.request.proofs.Answers.{answers}
 use Rattle.request.specs.Grammar.{sweepOf}
 use borrow.Author.Needs.{needs}
 use Rattle.request.proofs.verbs.read_sweep.Statement.{statement}
@@ -12,5 +11,5 @@ read-sweep-spec =
     tie.close
     (tie.spec
     (λ c κs. search needs)
-    (λ c. search (picks, answers) depth 16)
-    (λ c. search (picks, answers) depth 16))
+    (λ c. search picks depth 16)
+    (λ c. search picks depth 16))

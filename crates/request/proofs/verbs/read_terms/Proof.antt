@@ -1,6 +1,7 @@
 -- `read_terms` meets its contract.
 use Rattle.buffers.proofs.Choices.{picks}
-use Rattle.request.proofs.Answers.{answers}
+use Rattle.fields.proofs.Answers.{holds}
+use Rattle.request.proofs.Answers.{retentions}
 use Rattle.request.specs.Grammar.{termsOf}
 use borrow.Author.Needs.{needs}
 use Rattle.request.proofs.verbs.read_terms.Statement.{statement}
@@ -14,10 +15,10 @@ read-terms-spec =
     (λ c κs. search needs)
     (λ c. search needs)
     (λ c. search needs)
-    (λ c. search (picks, answers) depth 16)
+    (λ c. search (picks, holds, retentions) depth 16)
     (λ c κs. search needs)
     (λ c κs. search needs)
     (λ c. search needs)
     (λ c. search needs)
-    (λ c. search (picks, answers) depth 16)
-    (λ c. search (picks, answers) depth 16))
+    (λ c. search (picks, holds, retentions) depth 16)
+    (λ c. search (picks, holds, retentions) depth 16))

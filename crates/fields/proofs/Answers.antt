@@ -1,0 +1,152 @@
+-- A definition by `thenSome`, followed where the code has taken a field's answer apart: what is said of a field's bytes is said of the field.
+use Prim.Native.Nat.{ℕ}
+use mathlib.Core.Path.{_≡_, ap}
+use mathlib.Core.Bool.{Bool}
+use mathlib.Core.List.{List}
+use mathlib.Core.Option.{Option, some}
+use Rattle.buffers.specs.Choices.{thenSome}
+use Rattle.text.specs.declared.Place.{Place}
+use Rattle.text.specs.declared.Value.{Value}
+use Rattle.text.specs.declared.Value.the-variants as value
+use Rattle.text.specs.Numbers.{valueOf, numberOf}
+use Rattle.text.specs.Fields.{partOf}
+use Rattle.calendar.specs.declared.DateRead.{DateRead}
+use Rattle.calendar.specs.declared.DateRead.the-variants.{At, Unreadable}
+use Rattle.calendar.specs.Reading.{instantOf, readDate}
+use Rattle.model.specs.Requests as model
+use Rattle.fields.specs.declared.Mode.{Mode}
+use Rattle.fields.specs.declared.Until.{Until}
+use Rattle.fields.specs.declared.Hold.{Hold}
+use Rattle.fields.specs.declared.Period.{Period}
+use Rattle.fields.specs.declared.Rights.{Rights}
+use Rattle.fields.specs.declared.Version.{Version}
+use Rattle.fields.specs.declared.KeyRead.{KeyRead}
+use Rattle.fields.specs.declared.KeyRead.the-variants as key-read
+use Rattle.fields.specs.declared.VersionRead.{VersionRead}
+use Rattle.fields.specs.declared.VersionRead.the-variants as version-read
+use Rattle.fields.specs.declared.ModeRead.{ModeRead}
+use Rattle.fields.specs.declared.ModeRead.the-variants as mode-read
+use Rattle.fields.specs.declared.UntilRead.{UntilRead}
+use Rattle.fields.specs.declared.UntilRead.the-variants as until-read
+use Rattle.fields.specs.declared.FlagRead.{FlagRead}
+use Rattle.fields.specs.declared.FlagRead.the-variants as flag-read
+use Rattle.fields.specs.declared.HoldRead.{HoldRead}
+use Rattle.fields.specs.declared.HoldRead.the-variants as hold-read
+use Rattle.fields.specs.declared.PeriodRead.{PeriodRead}
+use Rattle.fields.specs.declared.PeriodRead.the-variants as period-read
+use Rattle.fields.specs.declared.RightsRead.{RightsRead}
+use Rattle.fields.specs.declared.RightsRead.the-variants as rights-read
+use Rattle.fields.specs.Fields.{rightsOf, versionOf, modeOf, untilOf, switchOf, holdOf, bypassOf, periodOf}
+use Rattle.fields.specs.Meaning.{modeMeans, untilMeans, holdMeans, versionMeans, periodMeans, rightsMeans, versionFrom, modeFrom, untilFrom, flagFrom, holdFrom, periodFrom, rightsFrom, Inside, KeyAt}
+
+pub some-is : (A : Type 0) (a b : A) → a ≡ b → some a ≡ some b
+some-is A a b e = ap some e
+
+pub given-is : (a b : Bool) → b ≡ a → some (some a) ≡ some (some b)
+given-is a b e = cc
+
+module _ (A : Type 0) (v y : A) where
+  -- ## A switch in the same text
+
+  pub flag-is : (r : FlagRead) (w : Option Bool) (b : Bool) (f : Bool → A) → flagFrom r ≡ w → r ≡ flag-read.Is b → v ≡ f b → v ≡ thenSome w y f
+  flag-is r w b f e h q = cc
+
+  pub flag-bad : (r : FlagRead) (w : Option Bool) (f : Bool → A) → flagFrom r ≡ w → r ≡ flag-read.Bad → v ≡ y → v ≡ thenSome w y f
+  flag-bad r w f e h q = cc
+
+  -- ## Fields
+
+  pub number-is : (r : Value) (k n : ℕ) (t u : List ℕ) (f : ℕ → A) → valueOf r ≡ numberOf k t → t ≡ u → r ≡ value.Is n → v ≡ f n → v ≡ thenSome (numberOf k u) y f
+  number-is r k n t u f e i h q = cc
+
+  pub number-bad : (r : Value) (k : ℕ) (t u : List ℕ) (f : ℕ → A) → valueOf r ≡ numberOf k t → t ≡ u → r ≡ value.Bad → v ≡ y → v ≡ thenSome (numberOf k u) y f
+  number-bad r k t u f e i h q = cc
+
+  pub clock-is : (r : DateRead) (n : ℕ) (t u : List ℕ) (f : ℕ → A) → instantOf r ≡ readDate t → t ≡ u → r ≡ At n → v ≡ f n → v ≡ thenSome (readDate u) y f
+  clock-is r n t u f e i h q = cc
+
+  pub clock-bad : (r : DateRead) (t u : List ℕ) (f : ℕ → A) → instantOf r ≡ readDate t → t ≡ u → r ≡ Unreadable → v ≡ y → v ≡ thenSome (readDate u) y f
+  clock-bad r t u f e i h q = cc
+
+  pub version-is : (r : VersionRead) (x : Version) (t u : List ℕ) (f : Option model.Version → A) → versionFrom r ≡ versionOf t → t ≡ u → r ≡ version-read.Is x → v ≡ f (versionMeans x) → v ≡ thenSome (versionOf u) y f
+  version-is r x t u f e i h q = cc
+
+  pub version-bad : (r : VersionRead) (t u : List ℕ) (f : Option model.Version → A) → versionFrom r ≡ versionOf t → t ≡ u → r ≡ version-read.Bad → v ≡ y → v ≡ thenSome (versionOf u) y f
+  version-bad r t u f e i h q = cc
+
+  pub mode-is : (r : ModeRead) (x : Mode) (t u : List ℕ) (f : Option ℕ → A) → modeFrom r ≡ modeOf t → t ≡ u → r ≡ mode-read.Is x → v ≡ f (modeMeans x) → v ≡ thenSome (modeOf u) y f
+  mode-is r x t u f e i h q = cc
+
+  pub mode-bad : (r : ModeRead) (t u : List ℕ) (f : Option ℕ → A) → modeFrom r ≡ modeOf t → t ≡ u → r ≡ mode-read.Bad → v ≡ y → v ≡ thenSome (modeOf u) y f
+  mode-bad r t u f e i h q = cc
+
+  pub until-is : (r : UntilRead) (x : Until) (t u : List ℕ) (f : Option ℕ → A) → untilFrom r ≡ untilOf t → t ≡ u → r ≡ until-read.Is x → v ≡ f (untilMeans x) → v ≡ thenSome (untilOf u) y f
+  until-is r x t u f e i h q = cc
+
+  pub until-bad : (r : UntilRead) (t u : List ℕ) (f : Option ℕ → A) → untilFrom r ≡ untilOf t → t ≡ u → r ≡ until-read.Bad → v ≡ y → v ≡ thenSome (untilOf u) y f
+  until-bad r t u f e i h q = cc
+
+  pub hold-is : (r : HoldRead) (x : Hold) (t u : List ℕ) (f : Option Bool → A) → holdFrom r ≡ holdOf t → t ≡ u → r ≡ hold-read.Is x → v ≡ f (holdMeans x) → v ≡ thenSome (holdOf u) y f
+  hold-is r x t u f e i h q = cc
+
+  pub hold-bad : (r : HoldRead) (t u : List ℕ) (f : Option Bool → A) → holdFrom r ≡ holdOf t → t ≡ u → r ≡ hold-read.Bad → v ≡ y → v ≡ thenSome (holdOf u) y f
+  hold-bad r t u f e i h q = cc
+
+  pub period-is : (r : PeriodRead) (x : Period) (t u : List ℕ) (f : Option model.Period → A) → periodFrom r ≡ periodOf t → t ≡ u → r ≡ period-read.Is x → v ≡ f (periodMeans x) → v ≡ thenSome (periodOf u) y f
+  period-is r x t u f e i h q = cc
+
+  pub period-bad : (r : PeriodRead) (t u : List ℕ) (f : Option model.Period → A) → periodFrom r ≡ periodOf t → t ≡ u → r ≡ period-read.Bad → v ≡ y → v ≡ thenSome (periodOf u) y f
+  period-bad r t u f e i h q = cc
+
+  pub rights-is : (r : RightsRead) (x : Rights) (t u : List ℕ) (f : model.Rights → A) → rightsFrom r ≡ rightsOf t → t ≡ u → r ≡ rights-read.Is x → v ≡ f (rightsMeans x) → v ≡ thenSome (rightsOf u) y f
+  rights-is r x t u f e i h q = cc
+
+  pub rights-bad : (r : RightsRead) (t u : List ℕ) (f : model.Rights → A) → rightsFrom r ≡ rightsOf t → t ≡ u → r ≡ rights-read.Bad → v ≡ y → v ≡ thenSome (rightsOf u) y f
+  rights-bad r t u f e i h q = cc
+
+  pub switch-is : (r : FlagRead) (x : Bool) (t u : List ℕ) (f : Bool → A) → flagFrom r ≡ switchOf t → t ≡ u → r ≡ flag-read.Is x → v ≡ f x → v ≡ thenSome (switchOf u) y f
+  switch-is r x t u f e i h q = cc
+
+  pub switch-bad : (r : FlagRead) (t u : List ℕ) (f : Bool → A) → flagFrom r ≡ switchOf t → t ≡ u → r ≡ flag-read.Bad → v ≡ y → v ≡ thenSome (switchOf u) y f
+  switch-bad r t u f e i h q = cc
+
+  pub bypass-is : (r : FlagRead) (x : Bool) (t u : List ℕ) (f : Bool → A) → flagFrom r ≡ bypassOf t → t ≡ u → r ≡ flag-read.Is x → v ≡ f x → v ≡ thenSome (bypassOf u) y f
+  bypass-is r x t u f e i h q = cc
+
+  pub bypass-bad : (r : FlagRead) (t u : List ℕ) (f : Bool → A) → flagFrom r ≡ bypassOf t → t ≡ u → r ≡ flag-read.Bad → v ≡ y → v ≡ thenSome (bypassOf u) y f
+  bypass-bad r t u f e i h q = cc
+
+  pub key-is : (s : List ℕ) (r : KeyRead) (w : Option (List ℕ)) (x : Place) (f : List ℕ → A) → KeyAt s w r → r ≡ key-read.Is x → v ≡ f (partOf s x) → v ≡ thenSome w y f
+  key-is s r w x f k h q = cc (k .is)
+
+  pub key-bad : (s : List ℕ) (r : KeyRead) (w : Option (List ℕ)) (f : List ℕ → A) → KeyAt s w r → r ≡ key-read.Bad → v ≡ y → v ≡ thenSome w y f
+  key-bad s r w f k h q = cc (k .is)
+
+pub key-inside : (s : List ℕ) (r : KeyRead) (w : Option (List ℕ)) (p : Place) → KeyAt s w r → r ≡ key-read.Is p → Inside s p
+key-inside s r w p k h = rw h at (k .within)
+
+-- ## One ruleset for each kind of field
+
+pub ruleset switches = (given-is, flag-is, flag-bad)
+
+pub ruleset numbers = (number-is, number-bad)
+
+pub ruleset clocks = (clock-is, clock-bad)
+
+pub ruleset versions = (version-is, version-bad)
+
+pub ruleset modes = (mode-is, mode-bad)
+
+pub ruleset untils = (until-is, until-bad)
+
+pub ruleset holds = (hold-is, hold-bad)
+
+pub ruleset periods = (period-is, period-bad)
+
+pub ruleset letters = (rights-is, rights-bad)
+
+pub ruleset on-offs = (switch-is, switch-bad)
+
+pub ruleset bypasses = (bypass-is, bypass-bad)
+
+pub ruleset keys = (key-is, key-bad, key-inside)

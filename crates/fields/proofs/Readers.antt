@@ -1,0 +1,65 @@
+-- Laws of readers of single fields: the letters of rights, a key in its place, a period without its unit.
+use Prim.Native.Nat.{ℕ, _+_, _-_, _≤_, _<_}
+use mathlib.Core.Path.{_≡_, sym, ap, _∙_}
+use mathlib.Core.Bool.{Bool, true, false}
+use mathlib.Core.List.{List}
+use mathlib.Core.Option.{some, none}
+use native.Mathlib.Omega.{arith}
+use lib.ListN.{length, getD, take, drop, drop-of-length-le}
+use Rattle.buffers.specs.Choices.{pick}
+use Rattle.buffers.specs.Texts.{bytes}
+use Rattle.text.specs.declared.Place.{Place}
+use Rattle.text.specs.declared.Value.{Value}
+use Rattle.text.specs.Numbers.{valueOf, positiveOf}
+use Rattle.text.specs.Fields.{fieldOf, partOf, Found}
+use Rattle.text.specs.Keys.{has}
+use Rattle.text.proofs.Scans.{next, rest-all}
+use Rattle.text.proofs.Fields.{field-found}
+use Rattle.fields.specs.declared.KeyRead.the-variants.{Is, Bad}
+use Rattle.fields.specs.Fields.{lettersOnce}
+use Rattle.fields.specs.Meaning.{KeyAt}
+
+-- ## Rights
+
+module _ (s : List ℕ) (i : ℕ) (p q : Bool) where
+  pub once-twice : i < length s → p ≡ has (bytes "rwdthbc") (getD s i 0) → p ≡ true → q ≡ has (take (length s - (i + 1)) (drop (i + 1) s)) (getD s i 0) → q ≡ true
+      → lettersOnce s ≡ lettersOnce (drop i s) → false ≡ lettersOnce s
+  once-twice h ep tp eq tq e =
+      let er : q ≡ has (drop (i + 1) s) (getD s i 0) = rw rest-all at eq in
+      sym (e ∙ rw (next s i h) (simp (sym ep ∙ tp, sym er ∙ tq)))
+
+  pub once-step : i < length s → p ≡ has (bytes "rwdthbc") (getD s i 0) → p ≡ true → q ≡ has (take (length s - (i + 1)) (drop (i + 1) s)) (getD s i 0) → q ≡ false
+      → lettersOnce s ≡ lettersOnce (drop i s) → lettersOnce s ≡ lettersOnce (drop (i + 1) s)
+  once-step h ep tp eq tq e =
+      let er : q ≡ has (drop (i + 1) s) (getD s i 0) = rw rest-all at eq in
+      e ∙ rw (next s i h) (simp (sym ep ∙ tp, sym er ∙ tq))
+
+module _ (s : List ℕ) (i : ℕ) where
+  pub once-other : (p : Bool) → i < length s → p ≡ has (bytes "rwdthbc") (getD s i 0) → p ≡ false → lettersOnce s ≡ lettersOnce (drop i s) → false ≡ lettersOnce s
+  once-other p h ep tp e = sym (e ∙ rw (next s i h) (simp (sym ep ∙ tp)))
+
+  pub once-end : length s ≤ i → lettersOnce s ≡ lettersOnce (drop i s) → true ≡ lettersOnce s
+  once-end h e = sym (e ∙ rw (drop-of-length-le s h))
+
+pub ruleset once-cases = (once-twice, once-step, once-other, once-end)
+
+-- ## Keys and prefixes
+
+module _ (test : List ℕ → Bool) (s t : List ℕ) (i : ℕ) (p : Place) (b : Bool) where
+  pub part-yes : Found s i p → t ≡ partOf s p → b ≡ test t → b ≡ true → KeyAt s (pick (test (fieldOf s i)) (some (fieldOf s i)) none) (Is p)
+  part-yes f e h k =
+      let q : t ≡ fieldOf s i = field-found s i p t f e in
+      let z : test (fieldOf s i) ≡ true = sym (ap test q) ∙ sym h ∙ k in
+      record { is = rw z (ap some (sym e ∙ q)); within = record { end = f .within } }
+
+  pub part-no : Found s i p → t ≡ partOf s p → b ≡ test t → b ≡ false → KeyAt s (pick (test (fieldOf s i)) (some (fieldOf s i)) none) Bad
+  part-no f e h k =
+      let q : t ≡ fieldOf s i = field-found s i p t f e in
+      let z : test (fieldOf s i) ≡ false = sym (ap test q) ∙ sym h ∙ k in
+      record { is = rw z; within = tt }
+
+-- ## Periods
+
+-- A text without its last byte, as the code cuts it out.
+pub front-is : (s : List ℕ) (k : ℕ) (v : Value) → valueOf v ≡ positiveOf k (take (length s - 1 - 0) (drop 0 s)) → valueOf v ≡ positiveOf k (take (length s - 1) s)
+front-is s k v e = let q : length s - 1 - 0 ≡ length s - 1 = omega arith in e ∙ rw q

@@ -1,0 +1,22 @@
+-- `read_rights` meets its contract.
+use Rattle.buffers.proofs.Choices.{picks}
+use Rattle.fields.proofs.Answers.{some-is}
+use Rattle.fields.specs.Fields.{rightsOf}
+use borrow.Author.Needs.{needs}
+use Rattle.fields.proofs.read_rights.Statement.{statement}
+use Rattle.fields.proofs.read_rights.Tie as tie
+
+pub read-rights-spec : {M : Type 1} → statement M
+unfolding rightsOf
+read-rights-spec =
+    tie.close
+    (tie.spec
+    (λ c. search needs)
+    (λ c κs. search needs)
+    (λ c κs. search needs)
+    (λ c. search (picks, some-is) depth 9)
+    (λ c. search picks)
+    (λ c κs. search needs)
+    (λ c κs. search needs)
+    (λ c. search (picks, some-is) depth 9)
+    (λ c. search picks))

@@ -1,0 +1,275 @@
+// The values of a request line's single fields. The definitions are in specs/.
+use calendar::DateRead;
+use text::Place;
+use text::Value;
+ghost use mathlib.Core.Path.{_≡_};
+ghost use Rattle.text.specs.Fields.{fieldOf};
+ghost use Rattle.fields.specs.Fields.{lettersOnce, rightsIn, rightsOf, keyOf, prefixOf, versionOf, modeOf, untilOf, switchOf, holdOf, bypassOf, periodOf};
+ghost use Rattle.fields.specs.Meaning.{rightsMeans, rightsFrom, versionFrom, modeFrom, untilFrom, flagFrom, holdFrom, periodFrom, KeyAt};
+
+// A mode, `-` for missing.
+pub enum Mode {
+    Missing,
+    Governance,
+    Compliance,
+}
+
+// A retain-until date, `-` for missing.
+pub enum Until {
+    Missing,
+    Given(u64),
+}
+
+// A legal hold, `-` for missing.
+pub enum Hold {
+    Missing,
+    Off,
+    On,
+}
+
+// A version number, `-` for the current version.
+pub enum Version {
+    Current,
+    Numbered(u64),
+}
+
+// A default retention's period, `-` for missing.
+pub enum Period {
+    Missing,
+    Days(u64),
+    Years(u64),
+}
+
+// The letters r w d t h b c.
+pub struct Rights {
+    pub r: bool,
+    pub w: bool,
+    pub d: bool,
+    pub t: bool,
+    pub h: bool,
+    pub b: bool,
+    pub c: bool,
+}
+
+// What a field says: the value, or that it can't be read.
+pub enum KeyRead {
+    Is(Place),
+    Bad,
+}
+
+pub enum VersionRead {
+    Is(Version),
+    Bad,
+}
+
+pub enum ModeRead {
+    Is(Mode),
+    Bad,
+}
+
+pub enum UntilRead {
+    Is(Until),
+    Bad,
+}
+
+pub enum FlagRead {
+    Is(bool),
+    Bad,
+}
+
+pub enum HoldRead {
+    Is(Hold),
+    Bad,
+}
+
+pub enum PeriodRead {
+    Is(Period),
+    Bad,
+}
+
+pub enum RightsRead {
+    Is(Rights),
+    Bad,
+}
+
+// Letters of rights, each at most once.
+fn letters_once(text: &[u8]) -> bool
+    ensures { λ r. ⌜ r ≡ lettersOnce (now (text .entry)) ⌝ }
+{
+    let mut i = 0;
+    while i < text.len() {
+        let b = text[i];
+        i += 1;
+        if text::contains(b"rwdthbc", b) {
+            if text::contains(&text[i..], b) {
+                return false;
+            }
+        } else {
+            return false;
+        }
+    }
+    true
+}
+
+// The letters that stand in a text.
+fn rights_in(text: &[u8]) -> Rights
+    ensures { λ r. ⌜ rightsMeans r ≡ rightsIn (now (text .entry)) ⌝ }
+{
+    Rights {
+        r: text::contains(text, b'r'),
+        w: text::contains(text, b'w'),
+        d: text::contains(text, b'd'),
+        t: text::contains(text, b't'),
+        h: text::contains(text, b'h'),
+        b: text::contains(text, b'b'),
+        c: text::contains(text, b'c'),
+    }
+}
+
+// `-`, or some of the letters.
+pub fn read_rights(text: &[u8]) -> RightsRead
+    ensures { λ r. ⌜ rightsFrom r ≡ rightsOf (now (text .entry)) ⌝ }
+{
+    if text::is_word(text, b"-") {
+        return RightsRead::Is(rights_in(text));
+    }
+    if text.len() == 0 {
+        return RightsRead::Bad;
+    }
+    if letters_once(text) {
+        return RightsRead::Is(rights_in(text));
+    }
+    RightsRead::Bad
+}
+
+// Field i as a key.
+pub fn read_key(line: &[u8], i: usize) -> KeyRead
+    ensures { λ r. ⌜ KeyAt (now (line .entry)) (keyOf (fieldOf (now (line .entry)) i)) r ⌝ }
+{
+    let place = text::find_place(line, i);
+    if text::is_key(text::part(line, place)) {
+        return KeyRead::Is(place);
+    }
+    KeyRead::Bad
+}
+
+// Field i as a prefix.
+pub fn read_prefix(line: &[u8], i: usize) -> KeyRead
+    ensures { λ r. ⌜ KeyAt (now (line .entry)) (prefixOf (fieldOf (now (line .entry)) i)) r ⌝ }
+{
+    let place = text::find_place(line, i);
+    if text::is_prefix(text::part(line, place)) {
+        return KeyRead::Is(place);
+    }
+    KeyRead::Bad
+}
+
+// A version number or `-`.
+pub fn read_version(text: &[u8]) -> VersionRead
+    ensures { λ r. ⌜ versionFrom r ≡ versionOf (now (text .entry)) ⌝ }
+{
+    if text::is_word(text, b"-") {
+        return VersionRead::Is(Version::Current);
+    }
+    let Value::Is(n) = text::read_positive(text, 4294967295) else {
+        return VersionRead::Bad;
+    };
+    VersionRead::Is(Version::Numbered(n))
+}
+
+// GOVERNANCE, COMPLIANCE or `-`.
+pub fn read_mode(text: &[u8]) -> ModeRead
+    ensures { λ r. ⌜ modeFrom r ≡ modeOf (now (text .entry)) ⌝ }
+{
+    if text::is_word(text, b"-") {
+        return ModeRead::Is(Mode::Missing);
+    }
+    if text::is_word(text, b"GOVERNANCE") {
+        return ModeRead::Is(Mode::Governance);
+    }
+    if text::is_word(text, b"COMPLIANCE") {
+        return ModeRead::Is(Mode::Compliance);
+    }
+    ModeRead::Bad
+}
+
+// A date or `-`.
+pub fn read_until(text: &[u8]) -> UntilRead
+    ensures { λ r. ⌜ untilFrom r ≡ untilOf (now (text .entry)) ⌝ }
+{
+    if text::is_word(text, b"-") {
+        return UntilRead::Is(Until::Missing);
+    }
+    let DateRead::At(t) = calendar::read_date(text) else {
+        return UntilRead::Bad;
+    };
+    UntilRead::Is(Until::Given(t))
+}
+
+// ON or OFF.
+pub fn read_switch(text: &[u8]) -> FlagRead
+    ensures { λ r. ⌜ flagFrom r ≡ switchOf (now (text .entry)) ⌝ }
+{
+    if text::is_word(text, b"ON") {
+        return FlagRead::Is(true);
+    }
+    if text::is_word(text, b"OFF") {
+        return FlagRead::Is(false);
+    }
+    FlagRead::Bad
+}
+
+// ON, OFF or `-`.
+pub fn read_hold(text: &[u8]) -> HoldRead
+    ensures { λ r. ⌜ holdFrom r ≡ holdOf (now (text .entry)) ⌝ }
+{
+    if text::is_word(text, b"-") {
+        return HoldRead::Is(Hold::Missing);
+    }
+    let FlagRead::Is(on) = read_switch(text) else {
+        return HoldRead::Bad;
+    };
+    if on {
+        return HoldRead::Is(Hold::On);
+    }
+    HoldRead::Is(Hold::Off)
+}
+
+// yes or no.
+pub fn read_bypass(text: &[u8]) -> FlagRead
+    ensures { λ r. ⌜ flagFrom r ≡ bypassOf (now (text .entry)) ⌝ }
+{
+    if text::is_word(text, b"yes") {
+        return FlagRead::Is(true);
+    }
+    if text::is_word(text, b"no") {
+        return FlagRead::Is(false);
+    }
+    FlagRead::Bad
+}
+
+// `1d` to `36500d`, `1y` to `100y`, or `-`.
+pub fn read_period(text: &[u8]) -> PeriodRead
+    ensures { λ r. ⌜ periodFrom r ≡ periodOf (now (text .entry)) ⌝ }
+{
+    if text::is_word(text, b"-") {
+        return PeriodRead::Is(Period::Missing);
+    }
+    if text.len() == 0 {
+        return PeriodRead::Bad;
+    }
+    let last = text.len() - 1;
+    if text[last] == b'd' {
+        let Value::Is(n) = text::read_positive(&text[0..last], 36500) else {
+            return PeriodRead::Bad;
+        };
+        return PeriodRead::Is(Period::Days(n));
+    }
+    if text[last] == b'y' {
+        let Value::Is(n) = text::read_positive(&text[0..last], 100) else {
+            return PeriodRead::Bad;
+        };
+        return PeriodRead::Is(Period::Years(n));
+    }
+    PeriodRead::Bad
+}
