@@ -4,5 +4,6 @@ pub mod Runs
 pub mod LockClause
 pub mod Lines
 pub mod Lists
+pub mod Dates
 pub mod Bytes
 pub mod Examples

@@ -21,7 +21,8 @@ use Rattle.guarantee.specs.Calls.{Lent, Call, served, leaves, left}
 use Rattle.guarantee.specs.Lists.{Ended, lent, ended, call, servedLines, callsOf, Serving}
 use Rattle.guarantee.proofs.Demands.{unchanged}
 
-not-whole-refused : (s : Settings) (n b l a : List ℕ) → whole s n b ≡ false → refusalOf s n b l a ≡ 0 → ⊥
+-- Refusal 1 meets every line on buffers that are not whole.
+pub not-whole-refused : (s : Settings) (n b l a : List ℕ) → whole s n b ≡ false → refusalOf s n b l a ≡ 0 → ⊥
 unfolding refusalOf
 not-whole-refused s n b l a e z = omega (arith, rw e at z)
 

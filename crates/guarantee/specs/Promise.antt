@@ -9,11 +9,14 @@ use Rattle.buffers.specs.Lists.{all}
 use Rattle.calendar.specs.Calendar.{latest}
 use Rattle.calendar.specs.Reading.{readDate}
 use Rattle.calendar.specs.Printing.{printDate}
+use Rattle.model.specs.Rows.{Row}
+use Rattle.model.specs.Answers.{shown, answerTo}
 use Rattle.model.specs.Refusals.{Check, FirstHolds, checks}
 use Rattle.model.specs.LockClause.{Kept}
 use Rattle.table.specs.Layout.{capacity}
 use Rattle.bucket.specs.Whole.{whole}
 use Rattle.request.specs.Grammar.{Said, readLine, lineOf}
+use Rattle.answers.specs.Text.{untilText}
 use Rattle.outcome.specs.Outcome.{refused, accepted, asked}
 use Rattle.guarantee.specs.Calls.{Lent, Call, held, freshLent, served, left}
 use Rattle.guarantee.specs.Calls.{accepted as acceptedLines}
@@ -43,7 +46,12 @@ pub record Demand2 (s : Lent) (l : Call) : Type 0 where
   pub first-refused : (n : ℕ) → FirstHolds (conditions s l) n → (served s l) .number ≡ n
   pub accepts : all (λ x. not (x .holds)) (conditions s l) ≡ true → Accepted s l
 
--- And a printed date reads back as the same instant.
+-- And a printed date reads back as the same instant: that of the row that an accepted GET shows, and every other.
+abbrev pub DateReadsBack : Lent → Call → Type 0
+DateReadsBack s l =
+    (served s l) .number ≡ 0 → (a : Accepted s l) (x : Row) → answerTo (held s) (asked (length (l .answer)) (a .said)) ≡ shown x
+    → (x .mode ≡ 0 → ⊥) → readDate (untilText (x .mode) (x .until)) ≡ some (x .until)
+
 abbrev pub DatesReadBack : Type 0
 DatesReadBack = (t : ℕ) → t ≤ latest → readDate (printDate t) ≡ some t
 

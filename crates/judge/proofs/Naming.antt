@@ -51,7 +51,7 @@ module _ (s : State) (numbers keys line : List ℕ) (now : ℕ) (v : Verb) (m : 
 
 -- ## RETAIN, HOLD and GET
 
-date-most : (m d : ℕ) → soundRetention m d ≡ true → d ≤ latest
+pub date-most : (m d : ℕ) → soundRetention m d ≡ true → d ≤ latest
 date-most m d e =
     elim (either (eqb m 0)) [
       | inl h ↦ omega (arith, eqb-true d 0 (rw h at e))

@@ -341,14 +341,15 @@ fn judge_delete(
     if lifecycle::is_locked(n, instant, bypass) {
         return Verdict::Refused(9);
     }
+    let change = Change::Remove(i);
     if n.kind == 2 {
         return Verdict::Accepted(Plan {
-            change: Change::Remove(i),
+            change,
             answer: Answer::RemovedMarker(version),
         });
     }
     Verdict::Accepted(Plan {
-        change: Change::Remove(i),
+        change,
         answer: Answer::Removed(version),
     })
 }
