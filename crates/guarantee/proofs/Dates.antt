@@ -47,7 +47,7 @@ accepted-whole s l z =
 
 -- ## The row that is shown
 
-shownRow : Answer → Option Row
+abbrev shownRow : Answer → Option Row
 shownRow done = none
 shownRow (made v) = none
 shownRow (marked v) = none
