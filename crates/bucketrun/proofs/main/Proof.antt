@@ -1,0 +1,21 @@
+-- `main` is safe: what it starts with is a fresh bucket.
+use Rattle.bucketrun.proofs.Serving.{may-run}
+use borrow.Author.Needs.{needs}
+use Rattle.bucketrun.proofs.main.Statement.{statement}
+use Rattle.bucketrun.proofs.main.Tie as tie
+
+pub main-spec : {M : Type 1} → statement M
+main-spec =
+    tie.close
+    (tie.spec
+    (λ c κs. search needs)
+    (λ c κs. search needs)
+    (λ c κs. search needs)
+    (λ c κs. search needs)
+    (λ c κs. search needs)
+    (λ c. search needs)
+    (λ c. search needs)
+    (λ c. search needs)
+    (λ c. search needs)
+    (λ c κs. search (needs, may-run))
+    (λ c. search needs))

@@ -1,0 +1,43 @@
+-- `serve_lines` meets its contract.
+use Prim.Native.Nat.{_+_, _-_}
+use lib.ListN.{length}
+use Rattle.bucketrun.specs.Course.{Serving}
+use Rattle.bucketrun.proofs.Serving.{block-cases}
+use borrow.Author.Needs.{needs}
+use Rattle.bucketrun.proofs.serve_lines.Statement.{statement}
+use Rattle.bucketrun.proofs.serve_lines.Tie as tie
+
+abbrev Inv-loop : tie.InvT-loop
+Inv-loop rows₀ keys₀ block out₀ at after₀ waits₀ i₀ rows keys out after waits i = Serving rows₀ keys₀ out₀ block after rows keys out waits i
+
+abbrev μ-loop : tie.MeasureT-loop
+μ-loop rows₀ keys₀ block out₀ at after₀ waits₀ i₀ rows keys out after waits i = length block + 1 - i
+
+pub serve-lines-spec : {M : Type 1} → statement M
+serve-lines-spec =
+    tie.close
+    (tie.spec
+    Inv-loop
+    μ-loop
+    (λ c. search (needs, block-cases))
+    (λ c. search (needs, block-cases))
+    (λ c. search (needs, block-cases))
+    (λ c. search (needs, block-cases))
+    (λ c κs. search (needs, block-cases))
+    (λ c. search (needs, block-cases))
+    (λ c. search (needs, block-cases))
+    (λ c. search (needs, block-cases))
+    (λ c. search (needs, block-cases))
+    (λ c. search (needs, block-cases))
+    (λ c κs. search (needs, block-cases))
+    (λ c κs. search (needs, block-cases))
+    (λ c. search (needs, block-cases))
+    (λ c. search (needs, block-cases))
+    (λ c. search (needs, block-cases))
+    (λ c. search (needs, block-cases))
+    (λ c. search (needs, block-cases))
+    (λ c. search (needs, block-cases))
+    (λ c. search (needs, block-cases))
+    (λ c. search (needs, block-cases))
+    (λ c. search (needs, block-cases))
+    (λ c. search (needs, block-cases)))

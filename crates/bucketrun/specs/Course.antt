@@ -1,0 +1,63 @@
+-- What holds between two lines: the bucket is whole, and an answer fits behind the output that waits.
+use Prim.Native.Nat.{ℕ, _-_, _≤_, min}
+use mathlib.Core.Path.{_≡_}
+use mathlib.Core.Bool.{true}
+use mathlib.Core.List.{List, _++_}
+use lib.ListN.{length, take, drop}
+use Rattle.buffers.specs.Ranges.{Within}
+use Rattle.buffers.specs.Moves.{movedDown}
+use Rattle.settings.specs.declared.Settings.{Settings}
+use Rattle.bucket.specs.Whole.{whole}
+use Rattle.bucketrun.specs.declared.Course.{Course as After}
+use Rattle.bucketrun.specs.declared.Block.{Block}
+
+-- A line may come.
+pub record Ready (s : Settings) (numbers keys out : List ℕ) (at : ℕ) : Type 0 where
+  pub is-whole : whole s numbers keys ≡ true
+  pub fits : at ≤ 65536
+  pub long : length out ≡ 131072
+
+-- The lines of a block of n bytes are served.
+pub record Goes (r : After) (numbers keys : List ℕ) (n : ℕ) : Type 0 where
+  pub is-whole : whole (r .settings) numbers keys ≡ true
+  pub fits : r .at ≤ 131072
+  pub inside : r .served ≤ n
+
+-- The bytes between two places are at the front, and r of them are a line's: a line of more than 512 bytes is refusal 3 whatever it holds.
+pub record Kept (input : List ℕ) (from to : ℕ) (exit : List ℕ) (r : ℕ) : Type 0 where
+  pub moved : exit ≡ movedDown from (take to input) ++ drop to input
+  pub count : Within r (min (to - from) 513) 513
+
+-- A block is served, and the start of a line may be kept.
+pub record Left (r : Block) (numbers keys : List ℕ) : Type 0 where
+  pub is-whole : whole (r .settings) numbers keys ≡ true
+  pub fits : r .at ≤ 131072
+  pub few : r .kept ≤ 513
+
+-- A run may start.
+pub record Runs (s : Settings) (input numbers keys out : List ℕ) : Type 0 where
+  pub is-whole : whole s numbers keys ≡ true
+  pub input-long : length input ≡ 66560
+  pub long : length out ≡ 131072
+
+-- Between two lines of a block, of which i bytes are served; the lists with ₀ are those that came.
+pub record Serving (numbers₀ keys₀ out₀ block : List ℕ) (s : Settings) (numbers keys out : List ℕ) (at i : ℕ) : Type 0 where
+  pub is-whole : whole s numbers keys ≡ true
+  pub fits : at ≤ 131072
+  pub inside : i ≤ length block
+  pub long : length out ≡ 131072
+  pub numbers-same : length numbers ≡ length numbers₀
+  pub keys-same : length keys ≡ length keys₀
+  pub out-same : length out ≡ length out₀
+
+-- Between two blocks.
+pub record Running (input₀ numbers₀ keys₀ out₀ : List ℕ) (s : Settings) (input numbers keys out : List ℕ) (at kept : ℕ) : Type 0 where
+  pub is-whole : whole s numbers keys ≡ true
+  pub fits : at ≤ 131072
+  pub few : kept ≤ 513
+  pub input-long : length input ≡ 66560
+  pub long : length out ≡ 131072
+  pub input-same : length input ≡ length input₀
+  pub numbers-same : length numbers ≡ length numbers₀
+  pub keys-same : length keys ≡ length keys₀
+  pub out-same : length out ≡ length out₀

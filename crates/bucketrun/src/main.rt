@@ -1,0 +1,245 @@
+// Serves the lines of standard input on a fresh bucket of 1024 rows, and prints each answer, or `no`, tab, number, line feed.
+use libc::STDIN_FILENO;
+use libc::STDOUT_FILENO;
+use settings::Settings;
+ghost use mathlib.Core.Path.{_≡_};
+ghost use Prim.Native.Nat.{_+_, _≤_};
+ghost use lib.ListN.{length, replicate};
+ghost use Rattle.buffers.specs.Ranges.{Span};
+ghost use Rattle.buffers.specs.Writes.{Wrote};
+ghost use Rattle.bucketrun.specs.Printed.{refusalText, Answers};
+ghost use Rattle.bucketrun.specs.Course.{Ready, Goes, Kept, Left, Runs};
+
+// The length of the answer buffer; no more output than that waits when a line comes.
+const ROOM: usize = 65536;
+
+// A line of more bytes than this is read as this many: it is refusal 3 whatever it holds.
+const LONGEST: usize = 513;
+
+// After a line: the settings, and how many bytes of output wait.
+pub struct Answered {
+    pub settings: Settings,
+    pub at: usize,
+}
+
+// After the lines of a block: the settings, how many bytes of output wait, and how many of the block are served.
+pub struct Course {
+    pub settings: Settings,
+    pub at: usize,
+    pub served: usize,
+}
+
+// After a block: the settings, how many bytes of output wait, and how many of input stand at the front.
+pub struct Block {
+    pub settings: Settings,
+    pub at: usize,
+    pub kept: usize,
+}
+
+// Writes `no`, tab, number, line feed, and returns the place after it.
+fn refuse(out: &mut [u8], at: usize, number: u64) -> usize
+    requires { ⌜ at + 24 ≤ length (now out) ⌝ }
+    ensures { λ r. ⌜ Wrote (now (out .entry)) at (refusalText number) 24 (now (out .exit)) r ⌝ }
+{
+    let after_no = buffers::copy_in(out, at, b"no\t");
+    let after_number = text::print_number(out, after_no, number);
+    buffers::copy_in(out, after_number, b"\n")
+}
+
+// Serves a line; what it prints is written where it goes out from.
+fn answer_line(
+    s: Settings,
+    rows: &mut [u64],
+    keys: &mut [u8],
+    line: &[u8],
+    out: &mut [u8],
+    at: usize,
+) -> Answered
+    requires { ⌜ Ready s (now rows) (now keys) (now out) at ⌝ }
+    ensures { λ r. ⌜ Answers s (now (rows .entry)) (now (keys .entry)) (now (line .entry)) (now (out .entry)) at r (now (rows .exit)) (now (keys .exit)) (now (out .exit)) ⌝ }
+{
+    let end = at + ROOM;
+    let r = engine::serve_whole(s, rows, keys, line, &mut out[at..end]);
+    let settings = r.settings;
+    if r.number == 0 {
+        return Answered {
+            settings,
+            at: at + r.length,
+        };
+    }
+    let after = refuse(out, at, r.number);
+    Answered {
+        settings,
+        at: after,
+    }
+}
+
+// Writes the output that waits where a line's answer would not fit behind it; it stays where nobody takes it.
+fn make_room(out: &[u8], at: usize) -> usize
+    requires { ⌜ at ≤ length (now out) ⌝ }
+    ensures { λ r. ⌜ r ≤ at ⌝ }
+{
+    if at <= ROOM {
+        return at;
+    }
+    if io::write_all(STDOUT_FILENO, &out[0..at]) {
+        return 0;
+    }
+    at
+}
+
+// Serves the lines that end in the block, until nobody takes the output.
+fn serve_lines(
+    s: Settings,
+    rows: &mut [u64],
+    keys: &mut [u8],
+    block: &[u8],
+    out: &mut [u8],
+    at: usize,
+) -> Course
+    requires { ⌜ Ready s (now rows) (now keys) (now out) at ⌝ }
+    ensures { λ r. ⌜ Goes r (now (rows .exit)) (now (keys .exit)) (length (now (block .entry))) ⌝ }
+{
+    let mut after = s;
+    let mut waits = at;
+    let mut i = 0;
+    while waits <= ROOM {
+        let end = i + text::line_length(&block[i..]);
+        if end == block.len() {
+            break;
+        }
+        let next = end + 1;
+        let r = answer_line(after, rows, keys, &block[i..end], out, waits);
+        after = r.settings;
+        waits = make_room(out, r.at);
+        i = next;
+    }
+    Course {
+        settings: after,
+        at: waits,
+        served: i,
+    }
+}
+
+// Reads behind the bytes that are kept, and returns the place after what came.
+fn read_behind(input: &mut [u8], kept: usize) -> usize
+    requires { ⌜ kept ≤ length (now input) ⌝ }
+    ensures { λ r. ⌜ Span kept r (length (now (input .entry))) ⌝ }
+{
+    let got = libc::read(STDIN_FILENO, &mut input[kept..]);
+    kept + io::count(got, &input[kept..])
+}
+
+// Moves the bytes from `from` to `to` to the front, and returns how many of them a line needs.
+fn keep(input: &mut [u8], from: usize, to: usize) -> usize
+    requires { ⌜ Span from to (length (now input)) ⌝ }
+    ensures { λ r. ⌜ Kept (now (input .entry)) from to (now (input .exit)) r ⌝ }
+{
+    buffers::move_down_bytes(&mut input[0..to], from);
+    let len = to - from;
+    if len < LONGEST {
+        return len;
+    }
+    LONGEST
+}
+
+// Serves the lines of the input up to `end`, and keeps what stands behind its last line feed.
+fn serve_block(
+    s: Settings,
+    input: &mut [u8],
+    rows: &mut [u64],
+    keys: &mut [u8],
+    out: &mut [u8],
+    at: usize,
+    end: usize,
+) -> Block
+    requires { ⌜ Ready s (now rows) (now keys) (now out) at ⌝ }
+    requires { ⌜ end ≤ length (now input) ⌝ }
+    ensures { λ r. ⌜ Left r (now (rows .exit)) (now (keys .exit)) ⌝ }
+{
+    let r = serve_lines(s, rows, keys, &input[0..end], out, at);
+    let settings = r.settings;
+    let kept = keep(input, r.served, end);
+    Block {
+        settings,
+        at: r.at,
+        kept,
+    }
+}
+
+// Serves what stands behind the last line feed, and writes the output that waits.
+fn finish(s: Settings, rows: &mut [u64], keys: &mut [u8], line: &[u8], out: &mut [u8], at: usize)
+    requires { ⌜ Ready s (now rows) (now keys) (now out) at ⌝ }
+{
+    if line.len() > 0 {
+        let r = answer_line(s, rows, keys, line, out, at);
+        let end = r.at;
+        io::write_all(STDOUT_FILENO, &out[0..end]);
+        return;
+    }
+    io::write_all(STDOUT_FILENO, &out[0..at]);
+}
+
+// Nothing says that the input ends, and a proved loop has to: it counts down from a number that no run uses up.
+fn run(s: Settings, input: &mut [u8], rows: &mut [u64], keys: &mut [u8], out: &mut [u8])
+    requires { ⌜ Runs s (now input) (now rows) (now keys) (now out) ⌝ }
+{
+    let mut after = s;
+    let mut at = 0;
+    let mut kept = 0;
+    let mut turns = u64::MAX;
+    while turns > 0 && at <= ROOM {
+        let end = read_behind(input, kept);
+        if end == kept {
+            finish(after, rows, keys, &input[0..kept], out, at);
+            return;
+        }
+        let r = serve_block(after, input, rows, keys, out, at, end);
+        after = r.settings;
+        at = r.at;
+        kept = r.kept;
+        turns -= 1;
+    }
+}
+
+// The rows of a fresh bucket.
+fn no_rows() -> [u64; 8192]
+    ensures { λ r. ⌜ r ≡ replicate 8192 0 ⌝ }
+{
+    [0; 8192]
+}
+
+// Their key bytes.
+fn no_keys() -> [u8; 65536]
+    ensures { λ r. ⌜ r ≡ replicate 65536 0 ⌝ }
+{
+    [0; 65536]
+}
+
+// A block of input, and a line that began before it.
+fn no_input() -> [u8; 66560]
+    ensures { λ r. ⌜ length r ≡ 66560 ⌝ }
+{
+    [0; 66560]
+}
+
+// The output that waits, and a line's answer behind it.
+fn no_output() -> [u8; 131072]
+    ensures { λ r. ⌜ length r ≡ 131072 ⌝ }
+{
+    [0; 131072]
+}
+
+fn main() {
+    let mut input = no_input();
+    let mut rows = no_rows();
+    let mut keys = no_keys();
+    let mut out = no_output();
+    run(
+        settings::fresh(),
+        &mut input,
+        &mut rows,
+        &mut keys,
+        &mut out,
+    );
+}
