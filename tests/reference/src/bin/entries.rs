@@ -78,7 +78,7 @@ const CALLS_MEASURED: [Call; 4] = [
     Call { name: "soundness alone (refusal 2)", number: 2, answer: 255, lines: unreadable },
     Call { name: "unreadable line", number: 3, answer: 256, lines: unreadable },
     Call { name: "GET", number: 0, answer: 256, lines: get },
-    Call { name: "PUT and DELETE", number: 0, answer: 256, lines: put_and_delete },
+    Call { name: "PUT and DELETE, each", number: 0, answer: 256, lines: put_and_delete },
 ];
 
 /// The nanoseconds of user time of a call, a pair counting as two.
