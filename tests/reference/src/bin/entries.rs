@@ -1,13 +1,13 @@
 //! The cost of a call of the engine's C entry on a bucket of 1024 rows, beside the reference's entry over bytes.
 //!
-//! `entries ROUNDS` prints a table: for each number of used rows and each call the best user time of both.
+//! `entries ROUNDS` prints a table: for each number of used rows and each call the best processor time of both.
 use std::process::ExitCode;
 
 #[path = "compare/engine.rs"]
 mod engine;
 #[path = "shared/usage.rs"]
 mod usage;
-use usage::{user_time, Whose};
+use usage::{processor_time, THIS};
 
 const CAPACITY: usize = 1024;
 /// The calls of one measurement.
@@ -81,18 +81,18 @@ const CALLS_MEASURED: [Call; 4] = [
     Call { name: "PUT and DELETE, each", number: 0, answer: 256, lines: put_and_delete },
 ];
 
-/// The nanoseconds of user time of a call, a pair counting as two.
+/// The nanoseconds of processor time of a call, a pair counting as two.
 fn measure(serve: Serve, call: &Call, used: usize, start: &Buffers) -> u64 {
     let mut bucket = start.clone();
     bucket.answer.resize(call.answer, 0);
     let first = used as u64 + 1;
     let lists: Vec<Vec<String>> = (0..CALLS).map(|turn| (call.lines)(used, first + turn)).collect();
     let count = lists.iter().map(Vec::len).sum::<usize>() as u64;
-    let before = user_time(Whose::This);
+    let before = processor_time(THIS);
     for line in lists.iter().flatten() {
         assert_eq!(bucket.serve(serve, line.as_bytes()), call.number, "{line}");
     }
-    (user_time(Whose::This) - before) / count
+    (processor_time(THIS) - before) / count
 }
 
 fn main() -> ExitCode {

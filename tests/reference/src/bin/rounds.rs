@@ -1,4 +1,4 @@
-//! Runs the engine's program and the reference's in turn on each load, and prints the best user time of both.
+//! Runs the engine's program and the reference's in turn on each load, and prints the best processor time of both.
 //!
 //! `rounds ROUNDS ENGINE REFERENCE LOAD...`; a load whose outputs differ ends it.
 use std::fs::File;
@@ -8,16 +8,16 @@ use std::process::{Command, ExitCode, Stdio};
 
 #[path = "shared/usage.rs"]
 mod usage;
-use usage::{user_time, Whose};
+use usage::{processor_time, CHILDREN};
 
-/// The nanoseconds of user time that a program takes to serve a load.
+/// The nanoseconds of processor time that a program takes to serve a load.
 fn run(program: &str, load: &str) -> io::Result<u64> {
-    let before = user_time(Whose::Children);
+    let before = processor_time(CHILDREN);
     let status = Command::new(program).stdin(File::open(load)?).stdout(Stdio::null()).status()?;
     if !status.success() {
         return Err(io::Error::other(format!("{program} failed on {load}")));
     }
-    Ok(user_time(Whose::Children) - before)
+    Ok(processor_time(CHILDREN) - before)
 }
 
 /// What a program prints for a load.
