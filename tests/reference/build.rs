@@ -1,4 +1,4 @@
-//! Links `compare` with the engine's static library, whose folder is in KNITPASTURE_LIB.
+//! Links `compare` and `entries` with the engine's static library, whose folder is in KNITPASTURE_LIB.
 use std::env;
 
 fn main() {
@@ -9,5 +9,7 @@ fn main() {
     }
     let folder = env::var("KNITPASTURE_LIB").expect("KNITPASTURE_LIB names the folder of libhub.a");
     println!("cargo:rerun-if-changed={folder}/libhub.a");
-    println!("cargo:rustc-link-arg-bin=compare={folder}/libhub.a");
+    for program in ["compare", "entries"] {
+        println!("cargo:rustc-link-arg-bin={program}={folder}/libhub.a");
+    }
 }

@@ -56,10 +56,12 @@ impl Rule {
             && (!absent || *self == Rule::ABSENT)
     }
 
-    /// Whether the rule's prefix begins the key.
+    /// Whether the rule's prefix begins the key; a prefix that is longer differs from the zeros behind the key.
     pub fn covers(&self, key: &Block) -> bool {
         let length = self.prefix[0] as usize;
-        length <= key[0] as usize && self.prefix[1..=length] == key[1..=length]
+        let differ = word(&self.prefix[1..9]) ^ word(&key[1..9]);
+        let alike = differ.trailing_zeros() as usize / 8;
+        alike >= length.min(8) && (length <= 8 || self.prefix[9..=length] == key[9..=length])
     }
 }
 

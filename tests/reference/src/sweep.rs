@@ -1,5 +1,5 @@
 //! SWEEP: judged on the table before the line, then carried out without a second table.
-use crate::bucket::{Block, Bucket, Row, CREATED, DATA, KIND, MARKER};
+use crate::bucket::{Block, Bucket, Row, CREATED, DATA, KIND, MARKER, MAX_CAPACITY};
 use crate::dates::DAY;
 use crate::locks::locked;
 use crate::settings::Settings;
@@ -11,25 +11,40 @@ pub struct Counts {
     pub added: usize,
 }
 
-/// The fewest days of the rules that cover a key; a count of 0 is no action.
+/// The fewest days of the rules that cover a key, `NEVER` where no rule has an action.
 #[derive(Clone, Copy)]
 struct Days {
-    current: Option<u64>,
-    noncurrent: Option<u64>,
+    current: u64,
+    noncurrent: u64,
 }
 
-impl Days {
-    fn of(settings: &Settings, key: &Block) -> Days {
-        let covering = || settings.rules.iter().filter(|rule| rule.covers(key));
-        Days {
-            current: covering().map(|rule| rule.current).filter(|&days| days > 0).min(),
-            noncurrent: covering().map(|rule| rule.noncurrent).filter(|&days| days > 0).min(),
-        }
+/// More days than any rule has.
+const NEVER: u64 = u64::MAX;
+
+/// The lesser of two counts, of which the second is no action where it is 0.
+fn fewest(least: u64, days: u64) -> u64 {
+    if days == 0 {
+        least
+    } else {
+        least.min(days)
     }
 }
 
-fn due(created: u64, days: Option<u64>, now: u64) -> bool {
-    days.is_some_and(|days| now >= created + days * DAY)
+impl Days {
+    const NONE: Days = Days { current: NEVER, noncurrent: NEVER };
+
+    fn of(settings: &Settings, key: &Block) -> Days {
+        let mut days = Days::NONE;
+        for rule in settings.rules.iter().filter(|rule| rule.covers(key)) {
+            days.current = fewest(days.current, rule.current);
+            days.noncurrent = fewest(days.noncurrent, rule.noncurrent);
+        }
+        days
+    }
+}
+
+fn due(created: u64, days: u64, now: u64) -> bool {
+    days != NEVER && now >= created + days * DAY
 }
 
 /// Whether a row that isn't current goes, given the next newer row of its key.
@@ -42,49 +57,58 @@ fn gains(row: &Row, days: Days, now: u64) -> bool {
     row[KIND] == DATA && due(row[CREATED], days.current, now)
 }
 
-impl Bucket {
-    fn is_current(&self, at: usize) -> bool {
-        at == 0 || self.keys[at - 1] != self.keys[at]
-    }
+/// What a sweep does with a row.
+#[derive(Clone, Copy, PartialEq, Eq)]
+enum Fate {
+    Stays,
+    Goes,
+    Gains,
+}
 
-    /// What a sweep at this now would do.
-    pub fn sweep_counts(&self, now: u64) -> Counts {
+impl Bucket {
+    /// Each row's fate in a sweep at this now, and what the sweep comes to.
+    fn judge(&self, now: u64, fates: &mut [Fate; MAX_CAPACITY]) -> Counts {
         let mut counts = Counts { removed: 0, added: 0 };
-        let mut days = Days { current: None, noncurrent: None };
+        let mut days = Days::NONE;
         for at in 0..self.used() {
-            if self.is_current(at) {
-                days = Days::of(&self.settings, &self.keys[at]);
-                counts.added += usize::from(gains(&self.rows[at], days, now));
-            } else {
-                counts.removed += usize::from(goes(&self.rows[at], &self.rows[at - 1], days, now));
+            let (row, key) = (&self.rows[at], &self.keys[at]);
+            if at == 0 || self.keys[at - 1] != *key {
+                days = Days::of(&self.settings, key);
+                if gains(row, days, now) {
+                    fates[at] = Fate::Gains;
+                    counts.added += 1;
+                }
+            } else if goes(row, &self.rows[at - 1], days, now) {
+                fates[at] = Fate::Goes;
+                counts.removed += 1;
             }
         }
         counts
     }
 
-    /// Carries out a sweep whose counts were found to fit.
-    pub fn sweep(&mut self, now: u64, counts: Counts) {
+    /// Sweeps at this now, or leaves all as it is where the outcome doesn't fit.
+    pub fn sweep(&mut self, now: u64) -> Result<Counts, u64> {
+        let mut fates = [Fate::Stays; MAX_CAPACITY];
+        let counts = self.judge(now, &mut fates);
+        self.fits(counts.removed, counts.added)?;
         if counts.removed > 0 {
-            self.sweep_out(now);
+            self.sweep_out(&mut fates);
         }
         if counts.added > 0 {
-            self.sweep_in(now, counts.added);
+            self.sweep_in(now, counts.added, &fates);
         }
+        Ok(counts)
     }
 
-    /// Closes the gaps of the rows that go; no place before the judged row's has yet been given to a later row.
-    fn sweep_out(&mut self, now: u64) {
+    /// Closes the gaps of the rows that go; fates move with their rows.
+    fn sweep_out(&mut self, fates: &mut [Fate; MAX_CAPACITY]) {
         let used = self.used();
         let mut kept = 0;
-        let mut days = Days { current: None, noncurrent: None };
         for at in 0..used {
-            let current = self.is_current(at);
-            if current {
-                days = Days::of(&self.settings, &self.keys[at]);
-            }
-            if current || !goes(&self.rows[at], &self.rows[at - 1], days, now) {
+            if fates[at] != Fate::Goes {
                 self.rows[kept] = self.rows[at];
                 self.keys[kept] = self.keys[at];
+                fates[kept] = fates[at];
                 kept += 1;
             }
         }
@@ -94,7 +118,7 @@ impl Bucket {
     }
 
     /// Opens a gap for each marker, from the last row to the first.
-    fn sweep_in(&mut self, now: u64, added: usize) {
+    fn sweep_in(&mut self, now: u64, added: usize, fates: &[Fate; MAX_CAPACITY]) {
         let used = self.used();
         let mut left = added;
         for at in (0..used).rev() {
@@ -103,7 +127,7 @@ impl Bucket {
             }
             self.rows[at + left] = self.rows[at];
             self.keys[at + left] = self.keys[at];
-            if self.is_current(at) && gains(&self.rows[at], Days::of(&self.settings, &self.keys[at]), now) {
+            if fates[at] == Fate::Gains {
                 left -= 1;
                 let number = self.settings.next + left as u64;
                 self.rows[at + left] = [number, MARKER, now, 0, 0, 0, 0, 0];

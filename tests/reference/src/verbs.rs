@@ -51,7 +51,7 @@ impl Bucket {
     }
 
     /// Refusals 11 and 12.
-    fn fits(&self, removed: usize, added: usize) -> Result<(), u64> {
+    pub fn fits(&self, removed: usize, added: usize) -> Result<(), u64> {
         refuse(added as u64 > SPENT - self.settings.next, NUMBERS_SPENT)?;
         refuse(self.used() - removed + added > self.capacity(), FULL)
     }
@@ -123,9 +123,7 @@ impl Bucket {
     }
 
     fn sweep_line(&mut self, now: u64) -> Result<Answer, u64> {
-        let counts = self.sweep_counts(now);
-        self.fits(counts.removed, counts.added)?;
-        self.sweep(now, counts);
+        let counts = self.sweep(now)?;
         Ok(Answer::Swept { removed: counts.removed, added: counts.added })
     }
 }

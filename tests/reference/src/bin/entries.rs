@@ -1,0 +1,119 @@
+//! The cost of a call of the engine's C entry on a bucket of 1024 rows, beside the reference's entry over bytes.
+//!
+//! `entries ROUNDS` prints a table: for each number of used rows and each call the best processor time of both.
+use std::process::ExitCode;
+
+#[path = "compare/engine.rs"]
+mod engine;
+#[path = "shared/usage.rs"]
+mod usage;
+use usage::{processor_time, THIS};
+
+const CAPACITY: usize = 1024;
+/// The calls of one measurement.
+const CALLS: u64 = 200;
+
+type Serve = fn(&mut [u8], &mut [u8], &mut [u8], &[u8], &mut [u8]) -> u64;
+
+/// A bucket that stands in bytes, and an answer buffer of the given length.
+#[derive(Clone)]
+struct Buffers {
+    settings: Vec<u8>,
+    rows: Vec<u8>,
+    keys: Vec<u8>,
+    answer: Vec<u8>,
+}
+
+impl Buffers {
+    /// A bucket whose rows are current versions of as many keys.
+    fn with_rows(used: usize) -> Buffers {
+        let mut made = Buffers {
+            settings: vec![0; 688],
+            rows: vec![0; 64 * CAPACITY],
+            keys: vec![0; 64 * CAPACITY],
+            answer: vec![0; 256],
+        };
+        engine::fresh(&mut made.settings, &mut made.rows, &mut made.keys);
+        for row in 0..used {
+            let line = format!("2024-01-01T00:00:00Z\tw\tPUT\t{}\t{row}\t4096\t-\t-\t-", key(row));
+            assert_eq!(made.serve(reference::serve_bytes, line.as_bytes()), 0);
+        }
+        made
+    }
+
+    fn serve(&mut self, serve: Serve, line: &[u8]) -> u64 {
+        serve(&mut self.settings, &mut self.rows, &mut self.keys, line, &mut self.answer)
+    }
+}
+
+fn key(number: usize) -> String {
+    format!("gauge/{:03}/level-{number:04}", number % 37)
+}
+
+/// A call to be measured: its name, what it answers, its answer buffer, and its lines, served in turn.
+struct Call {
+    name: &'static str,
+    number: u64,
+    answer: usize,
+    lines: fn(usize, u64) -> Vec<String>,
+}
+
+fn get(used: usize, _: u64) -> Vec<String> {
+    vec![format!("2024-01-02T00:00:00Z\tr\tGET\t{}\t-", key(used / 2))]
+}
+
+fn unreadable(_: usize, _: u64) -> Vec<String> {
+    vec!["2024-01-02T00:00:00Z\tr\tFETCH\tgauge\t-".to_string()]
+}
+
+fn put_and_delete(_: usize, next: u64) -> Vec<String> {
+    let new = key(5000);
+    vec![
+        format!("2024-01-02T00:00:00Z\tw\tPUT\t{new}\t7\t4096\t-\t-\t-"),
+        format!("2024-01-02T00:00:00Z\td\tDELETE\t{new}\t{next}\tno"),
+    ]
+}
+
+const CALLS_MEASURED: [Call; 4] = [
+    Call { name: "soundness alone (refusal 2)", number: 2, answer: 255, lines: unreadable },
+    Call { name: "unreadable line", number: 3, answer: 256, lines: unreadable },
+    Call { name: "GET", number: 0, answer: 256, lines: get },
+    Call { name: "PUT and DELETE, each", number: 0, answer: 256, lines: put_and_delete },
+];
+
+/// The nanoseconds of processor time of a call, a pair counting as two.
+fn measure(serve: Serve, call: &Call, used: usize, start: &Buffers) -> u64 {
+    let mut bucket = start.clone();
+    bucket.answer.resize(call.answer, 0);
+    let first = used as u64 + 1;
+    let lists: Vec<Vec<String>> = (0..CALLS).map(|turn| (call.lines)(used, first + turn)).collect();
+    let count = lists.iter().map(Vec::len).sum::<usize>() as u64;
+    let before = processor_time(THIS);
+    for line in lists.iter().flatten() {
+        assert_eq!(bucket.serve(serve, line.as_bytes()), call.number, "{line}");
+    }
+    (processor_time(THIS) - before) / count
+}
+
+fn main() -> ExitCode {
+    let rounds = std::env::args().nth(1).and_then(|word| word.parse().ok()).unwrap_or(7);
+    println!("| used rows | call | engine, ns per call | reference, ns per call | ratio |");
+    println!("|---|---|---|---|---|");
+    for used in [0, 100, 1000] {
+        let start = Buffers::with_rows(used);
+        // An empty table has no row that a GET could name.
+        let calls: Vec<&Call> = CALLS_MEASURED.iter().filter(|call| used > 0 || call.name != "GET").collect();
+        let mut best = [[u64::MAX; 2]; CALLS_MEASURED.len()];
+        for _ in 0..rounds {
+            for (call, best) in calls.iter().zip(&mut best) {
+                best[0] = best[0].min(measure(engine::serve, call, used, &start));
+                best[1] = best[1].min(measure(reference::serve_bytes, call, used, &start));
+            }
+        }
+        for (call, [engine, reference]) in calls.iter().zip(best) {
+            let ratio = reference as f64 / engine as f64;
+            println!("| {used} | {} | {engine} | {reference} | {ratio:.2} |", call.name);
+        }
+    }
+    ExitCode::SUCCESS
+}

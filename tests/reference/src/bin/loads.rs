@@ -1,0 +1,210 @@
+//! Writes a load: request lines that fill a table and then go on around so many rows, the same for each run.
+//!
+//! `loads NAME ROWS LINES` prints the lines; the share that the reference accepts goes to standard error.
+use reference::bucket::{DATA, KIND, UNTIL, VERSION};
+use reference::locks::locked;
+use reference::{dates, Bucket};
+use std::io::{self, BufWriter, Write};
+
+#[path = "compare/random.rs"]
+mod random;
+use random::Random;
+
+const CAPACITY: usize = 1024;
+/// 2024-01-01T00:00:00Z.
+const START: u64 = 1704067200000;
+const PREFIXES: [&str; 8] =
+    ["gauge/", "hub-7/", "level/east/", "level/west/", "log/2024/", "q/", "rain/", "calib."];
+const LETTERS: &[u8; 36] = b"abcdefghijklmnopqrstuvwxyz0123456789";
+
+/// What a load needs to name rows that are there: the bucket that its lines have made so far.
+struct Load {
+    bucket: Bucket,
+    random: Random,
+    keys: Vec<String>,
+    clock: u64,
+    /// The milliseconds between two lines.
+    step: u64,
+    rows: usize,
+}
+
+fn key(random: &mut Random) -> String {
+    let length = 8 + random.below(17);
+    let mut key = random.pick(&PREFIXES).to_string();
+    while key.len() < length {
+        key.push(char::from(random.pick(LETTERS)));
+    }
+    key
+}
+
+/// A date as clocks write it: without a fraction where it is a whole second.
+fn date(instant: u64) -> String {
+    let printed = dates::print(instant);
+    let text = String::from_utf8_lossy(&printed);
+    text.strip_suffix(".000Z").map_or(text.to_string(), |whole| format!("{whole}Z"))
+}
+
+impl Load {
+    fn new(name: &str, rows: usize) -> Load {
+        let mut random = Random::new(1, 1);
+        let count = if name == "sweeps" { rows * 5 / 8 } else { rows.div_ceil(2) };
+        let keys = (0..count).map(|_| key(&mut random)).collect();
+        let step = if name == "sweeps" { 600000 } else { 2000 };
+        Load { bucket: Bucket::fresh(CAPACITY), random, keys, clock: START, step, rows }
+    }
+
+    /// A date after now, up to so many days.
+    fn later(&mut self, days: u64) -> u64 {
+        self.clock + 1000 * (1 + self.random.next() % (days * 86400))
+    }
+
+    fn put(&mut self) -> String {
+        let key = self.random.below(self.keys.len());
+        let (body, length) = (self.random.next(), self.random.below(1 << 24));
+        let until = date(self.later(2));
+        let (rights, lock) = match self.random.below(8) {
+            0 => ("wt", format!("GOVERNANCE\t{until}\t-")),
+            1 => ("wth", format!("GOVERNANCE\t{until}\tOFF")),
+            _ => ("w", "-\t-\t-".to_string()),
+        };
+        format!("{rights}\tPUT\t{}\t{body}\t{length}\t{lock}", self.keys[key])
+    }
+
+    /// A row of the table; a data row, unless the first tries all meet markers.
+    fn row(&mut self) -> usize {
+        let mut at = self.random.below(self.bucket.used());
+        for _ in 0..8 {
+            if self.bucket.rows[at][KIND] == DATA {
+                break;
+            }
+            at = self.random.below(self.bucket.used());
+        }
+        at
+    }
+
+    /// The key and version fields that name a row, the current one half the time by `-`.
+    fn name(&mut self, at: usize) -> String {
+        let block = &self.bucket.keys[at];
+        let key = String::from_utf8_lossy(&block[1..=block[0] as usize]).to_string();
+        let current = self.bucket.first_place(block) == at;
+        if current && self.random.once_in(2) {
+            return format!("{key}\t-");
+        }
+        format!("{key}\t{}", self.bucket.rows[at][VERSION])
+    }
+
+    fn get(&mut self) -> String {
+        let at = self.row();
+        format!("r\tGET\t{}", self.name(at))
+    }
+
+    /// Removes a version of any kind, with bypass where it is locked.
+    fn remove(&mut self) -> String {
+        let at = self.random.below(self.bucket.used());
+        let block = &self.bucket.keys[at];
+        let key = String::from_utf8_lossy(&block[1..=block[0] as usize]);
+        let row = &self.bucket.rows[at];
+        let (rights, bypass) = if locked(row, self.clock, false) { ("db", "yes") } else { ("d", "no") };
+        format!("{rights}\tDELETE\t{key}\t{}\t{bypass}", row[VERSION])
+    }
+
+    fn mark(&mut self) -> String {
+        let key = self.random.below(self.keys.len());
+        format!("d\tDELETE\t{}\t-\tno", self.keys[key])
+    }
+
+    /// Moves a row's date on, or takes its retention away.
+    fn retain(&mut self) -> String {
+        let at = self.row();
+        let until = self.bucket.rows[at][UNTIL].max(self.later(30));
+        let compliance = self.bucket.rows[at][VERSION] % 8 == 0;
+        let name = self.name(at);
+        if compliance {
+            return format!("t\tRETAIN\t{name}\tCOMPLIANCE\t{}\tno", date(until));
+        }
+        match self.random.below(4) {
+            0 => format!("tb\tRETAIN\t{name}\t-\t-\tyes"),
+            _ => format!("t\tRETAIN\t{name}\tGOVERNANCE\t{}\tno", date(until)),
+        }
+    }
+
+    fn hold(&mut self) -> String {
+        let at = self.row();
+        let on = self.random.pick(&["ON", "OFF"]);
+        format!("h\tHOLD\t{}\t{on}", self.name(at))
+    }
+
+    /// A rule for each prefix but the last, and one for every key.
+    fn rule(&mut self, number: usize) -> String {
+        let prefix = if number == 7 { "" } else { PREFIXES[number] };
+        let (current, noncurrent) = if number == 7 { (40, 12) } else { (28 + number, 8 + number / 2) };
+        format!("c\tRULE\t{number}\t{prefix}\t{current}\t{noncurrent}")
+    }
+
+    /// Adds or removes a row, so that the table stays between two sizes.
+    fn turn(&mut self, least: usize, most: usize, marks: usize) -> String {
+        let used = self.bucket.used();
+        if used >= most || used > least && self.random.once_in(2) {
+            return self.remove();
+        }
+        if marks > 0 && self.random.once_in(marks) {
+            return self.mark();
+        }
+        self.put()
+    }
+
+    fn line(&mut self, name: &str, number: usize) -> Option<String> {
+        if name == "sweeps" && number < 8 {
+            return Some(self.rule(number));
+        }
+        if number < self.rows {
+            return Some(self.put());
+        }
+        let rows = self.rows;
+        let spread = rows.div_ceil(50);
+        Some(match (name, self.random.below(10)) {
+            ("mixed", 0..=5) => self.get(),
+            ("mixed", _) => self.turn(rows - spread, rows + spread, 8),
+            ("churn", _) => self.turn(CAPACITY - 4, CAPACITY, 0),
+            ("retention", 0..=3) => self.retain(),
+            ("retention", 4..=5) => self.hold(),
+            ("retention", _) => self.get(),
+            ("sweeps", 0..=1) if self.bucket.used() < CAPACITY => self.put(),
+            ("sweeps", _) => "c\tSWEEP".to_string(),
+            _ => return None,
+        })
+    }
+}
+
+/// Writes the lines and returns how many of them the reference accepts, if the load is known.
+fn write(name: &str, rows: usize, lines: usize, out: &mut impl Write) -> io::Result<Option<usize>> {
+    let mut load = Load::new(name, rows);
+    let mut answer = [0; 256];
+    let mut accepted = 0;
+    for number in 0..lines {
+        load.clock = START + load.step * number as u64;
+        if load.random.once_in(4) {
+            load.clock += load.random.next() % 1000;
+        }
+        let Some(rest) = load.line(name, number) else { return Ok(None) };
+        let line = format!("{}\t{rest}", date(load.clock));
+        accepted += usize::from(load.bucket.serve(line.as_bytes(), &mut answer).is_ok());
+        writeln!(out, "{line}")?;
+    }
+    Ok(Some(accepted))
+}
+
+fn main() -> io::Result<()> {
+    let words: Vec<String> = std::env::args().skip(1).collect();
+    let number = |at: usize| words.get(at).and_then(|word| word.parse::<usize>().ok());
+    let (Some(name), Some(rows), Some(lines)) = (words.first(), number(1), number(2)) else {
+        return Err(io::Error::other("usage: loads NAME ROWS LINES"));
+    };
+    let mut out = BufWriter::new(io::stdout().lock());
+    let Some(accepted) = write(name, rows, lines, &mut out)? else {
+        return Err(io::Error::other("the loads are mixed, churn, retention and sweeps"));
+    };
+    out.flush()?;
+    eprintln!("{name}: {:.1} % of the lines accepted", 100.0 * accepted as f64 / lines as f64);
+    Ok(())
+}
