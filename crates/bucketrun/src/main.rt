@@ -60,17 +60,18 @@ fn answer_line(
 {
     let end = at + ROOM;
     let r = engine::serve_whole(s, rows, keys, line, &mut out[at..end]);
+    let accepted = at + r.length;
     let settings = r.settings;
     if r.number == 0 {
         return Answered {
             settings,
-            at: at + r.length,
+            at: accepted,
         };
     }
-    let after = refuse(out, at, r.number);
+    let refused = refuse(out, at, r.number);
     Answered {
         settings,
-        at: after,
+        at: refused,
     }
 }
 
@@ -158,10 +159,10 @@ fn serve_block(
     ensures { λ r. ⌜ Left r (now (rows .exit)) (now (keys .exit)) ⌝ }
 {
     let r = serve_lines(s, rows, keys, &input[0..end], out, at);
-    let settings = r.settings;
+    let after = r.settings;
     let kept = keep(input, r.served, end);
     Block {
-        settings,
+        settings: after,
         at: r.at,
         kept,
     }
@@ -194,10 +195,10 @@ fn run(s: Settings, input: &mut [u8], rows: &mut [u64], keys: &mut [u8], out: &m
             finish(after, rows, keys, &input[0..kept], out, at);
             return;
         }
-        let r = serve_block(after, input, rows, keys, out, at, end);
-        after = r.settings;
-        at = r.at;
-        kept = r.kept;
+        let block = serve_block(after, input, rows, keys, out, at, end);
+        after = block.settings;
+        at = block.at;
+        kept = block.kept;
         turns -= 1;
     }
 }
