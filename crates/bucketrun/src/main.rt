@@ -4,11 +4,11 @@ use libc::STDOUT_FILENO;
 use settings::Settings;
 ghost use mathlib.Core.Path.{_≡_};
 ghost use Prim.Native.Nat.{_+_, _≤_};
-ghost use lib.ListN.{length, replicate};
+ghost use lib.ListN.{length, take, drop, replicate};
 ghost use Rattle.buffers.specs.Ranges.{Span};
 ghost use Rattle.buffers.specs.Writes.{Wrote};
 ghost use Rattle.bucketrun.specs.Printed.{refusalText, Answers};
-ghost use Rattle.bucketrun.specs.Course.{Ready, Goes, Kept, Left, Runs};
+ghost use Rattle.bucketrun.specs.Course.{Ready, held, Goes, Kept, Left, Runs};
 
 // The length of the answer buffer; no more output than that waits when a line comes.
 const ROOM: usize = 65536;
@@ -99,7 +99,7 @@ fn serve_lines(
     at: usize,
 ) -> Course
     requires { ⌜ Ready s (now rows) (now keys) (now out) at ⌝ }
-    ensures { λ r. ⌜ Goes r (now (rows .exit)) (now (keys .exit)) (length (now (block .entry))) ⌝ }
+    ensures { λ r. ⌜ Goes (take 65536 (drop at (now (out .entry)))) (held s (now (rows .entry)) (now (keys .entry))) (now (block .entry)) r (now (rows .exit)) (now (keys .exit)) ⌝ }
 {
     let mut after = s;
     let mut waits = at;
