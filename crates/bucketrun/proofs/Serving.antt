@@ -1,13 +1,17 @@
 -- Laws of the loops: what holds between two lines, and between two blocks.
-use Prim.Native.Nat.{ℕ, _+_, _*_, _-_, _≤_, _<_}
+use Prim.Native.Nat.{ℕ, suc, _+_, _*_, _-_, _≤_, _<_}
 use mathlib.Core.Path.{_≡_, refl, sym, _∙_, ap, subst, subst⁻¹}
 use mathlib.Core.Bool.{true}
-use mathlib.Core.List.{List, _++_}
+use mathlib.Core.List.{List, _∷_, _++_}
 use native.Mathlib.Omega.{arith}
-use lib.ListN.{length, take, drop, replicate, length-take}
+use lib.ListN.{length, getD, take, drop, replicate, length-take, length-drop}
+use lib.Seq.{drop-drop, length-take-le}
 use borrow.Rule.Slice.PartMut.{midOf, putMid}
 use Rattle.buffers.specs.Ranges.{Within, Span}
 use Rattle.buffers.specs.Moves.{movedDown}
+use Rattle.text.specs.Lines.{linesOf, feedAt}
+use Rattle.text.proofs.Lines.{lines-next}
+use Rattle.text.proofs.Scans.{next, rest-all}
 use Rattle.settings.specs.declared.Settings.{Settings}
 use Rattle.settings.specs.Changes.{Fresh}
 use Rattle.bucket.specs.Whole.{whole}
@@ -17,7 +21,8 @@ use Rattle.outcome.proofs.Kept.{outcome-whole}
 use Rattle.bucketrun.specs.declared.Answered.{Answered}
 use Rattle.bucketrun.specs.declared.Block.{Block}
 use Rattle.bucketrun.specs.Printed.{Answers}
-use Rattle.bucketrun.specs.Course.{Ready, Goes, Kept, Left, Runs, Serving, Running}
+use Rattle.bucketrun.specs.Course.{Ready, Held, held, holds, leave, Goes, Kept, Left, Runs, Serving, Running}
+use Rattle.bucketrun.proofs.Room.{same-left}
 
 -- A line leaves a whole bucket.
 still-whole : (s : Settings) (n b line out : List ℕ) (at : ℕ) (r : Answered) (n′ b′ out′ : List ℕ) → whole s n b ≡ true → Answers s n b line out at r n′ b′ out′ → whole (r .settings) n′ b′ ≡ true
@@ -29,30 +34,78 @@ still-whole s n b line out at r n′ b′ out′ w a = rw (a .settings-are, a .n
 pub end-inside : (k v i : ℕ) (l : List ℕ) (m : ℕ) → Within k v (length (take m (drop i l))) → k ≤ m
 end-inside k v i l m w = let e = length-take m (drop i l) in omega (arith, w .most)
 
-module _ (n₀ b₀ out₀ block : List ℕ) where
-  pub first-line : (s : Settings) (at : ℕ) → Ready s n₀ b₀ out₀ at → Serving n₀ b₀ out₀ block s n₀ b₀ out₀ at 0
-  first-line s at h = record { is-whole = h .is-whole; fits = omega (arith, h .fits); inside = omega arith; long = h .long; numbers-same = refl; keys-same = refl; out-same = refl }
+-- The lines from i on are the line at i and those behind its end.
+lines-at : (t : List ℕ) (i k : ℕ) → i < length t → k ≡ feedAt (drop i t) → linesOf (drop i t) ≡ take k (drop i t) ∷ linesOf (drop (i + k + 1) t)
+lines-at t i k h e =
+    let n : i + k + 1 ≡ i + suc k = omega arith in
+    let d : drop i t ≡ getD t i 0 ∷ drop (i + 1) t = next t i h in
+    let q : drop (suc k) (drop i t) ≡ drop (i + suc k) t = drop-drop (suc k) i t in
+    rw (n, ← q, e) (subst (λ (u : List ℕ). linesOf u ≡ take (feedAt u) u ∷ linesOf (drop (suc (feedAt u)) u)) (sym d) (lines-next (getD t i 0) (drop (i + 1) t)))
 
-  module _ (s : Settings) (n b out : List ℕ) (at i : ℕ) (g : Serving n₀ b₀ out₀ block s n b out at i) where
+part-wide : (out : List ℕ) (at : ℕ) → at ≤ 65536 → length out ≡ 131072 → length (take 65536 (drop at out)) ≡ 65536
+part-wide out at h l = length-take-le 65536 (drop at out) (rw length-drop (omega arith))
+
+-- What a line left, with any answer buffer of that length.
+left-as : (s : Settings) (n b line out a : List ℕ) (at : ℕ) (r : Answered) (n′ b′ out′ : List ℕ) → length a ≡ length (take 65536 (drop at out)) → Answers s n b line out at r n′ b′ out′
+    → holds (outcome s n b line a) ≡ held (r .settings) n′ b′
+left-as s n b line out a at r n′ b′ out′ e w = same-left s n b line a (take 65536 (drop at out)) e ∙ rw (w .settings-are, w .numbers-are, w .keys-are)
+
+module _ (n₀ b₀ out₀ block : List ℕ) where
+  pub first-line : (s : Settings) (at : ℕ) → Ready s n₀ b₀ out₀ at
+      → Serving (take 65536 (drop at out₀)) (leave (take 65536 (drop at out₀)) (held s n₀ b₀) (linesOf block)) n₀ b₀ out₀ block s n₀ b₀ out₀ at 0
+  first-line s at h =
+      record {
+        leads = refl;
+        wide = part-wide out₀ at (h .fits) (h .long);
+        is-whole = h .is-whole;
+        fits = omega (arith, h .fits);
+        inside = omega arith;
+        long = h .long;
+        numbers-same = refl;
+        keys-same = refl;
+        out-same = refl;
+      }
+
+  module _ (a : List ℕ) (end : Held) (s : Settings) (n b out : List ℕ) (at i : ℕ) (g : Serving a end n₀ b₀ out₀ block s n b out at i) where
     pub line-ready : at ≤ 65536 → Ready s n b out at
     line-ready h = record { is-whole = g .is-whole; fits = h; long = g .long }
 
-    pub next-line : (k v : ℕ) (line : List ℕ) (r : Answered) (n′ b′ out′ : List ℕ) (w : ℕ) → at ≤ 65536 → Within k v (length (take (length block - i) (drop i block))) → (i + k ≡ length block → ⊥)
-        → Answers s n b line out at r n′ b′ out′ → w ≤ r .at → length n′ ≡ length n → length b′ ≡ length b → length out′ ≡ length out
-        → Serving n₀ b₀ out₀ block (r .settings) n′ b′ out′ w (i + k + 1)
-    next-line k v line r n′ b′ out′ w h e z a m ln lb lo =
+    pub next-line : (k : ℕ) (r : Answered) (n′ b′ out′ : List ℕ) (w : ℕ) → at ≤ 65536
+        → Within k (feedAt (take (length block - i) (drop i block))) (length (take (length block - i) (drop i block))) → (i + k ≡ length block → ⊥)
+        → Answers s n b (take (i + k - i) (drop i block)) out at r n′ b′ out′ → w ≤ r .at → length n′ ≡ length n → length b′ ≡ length b → length out′ ≡ length out
+        → Serving a end n₀ b₀ out₀ block (r .settings) n′ b′ out′ w (i + k + 1)
+    next-line k r n′ b′ out′ w h e z q m ln lb lo =
+        let x = end-inside k (feedAt (take (length block - i) (drop i block))) i block (length block - i) e in
+        let y = g .inside in
+        let f : k ≡ feedAt (drop i block) = rw (rest-all i block) at (e .is) in
+        let p : i + k - i ≡ k = omega arith in
+        let v : Answers s n b (take k (drop i block)) out at r n′ b′ out′ = rw p at q in
+        let u : length a ≡ length (take 65536 (drop at out)) = g .wide ∙ sym (part-wide out at h (g .long)) in
         record {
-          is-whole = still-whole s n b line out at r n′ b′ out′ (g .is-whole) a;
-          fits = omega (arith, a .prints .most);
-          inside = let x = end-inside k v i block (length block - i) e in let y = g .inside in omega arith;
+          leads =
+              g .leads ∙ ap (leave a (held s n b)) (lines-at block i k (omega arith) f)
+              ∙ ap (λ (o : Held). leave a o (linesOf (drop (i + k + 1) block))) (left-as s n b (take k (drop i block)) out a at r n′ b′ out′ u v);
+          wide = g .wide;
+          is-whole = still-whole s n b (take k (drop i block)) out at r n′ b′ out′ (g .is-whole) v;
+          fits = omega (arith, v .prints .most);
+          inside = omega arith;
           long = lo ∙ g .long;
           numbers-same = ln ∙ g .numbers-same;
           keys-same = lb ∙ g .keys-same;
           out-same = lo ∙ g .out-same;
         }
 
-    pub lines-done : Goes (record { settings = s; at = at; served = i }) n b (length block)
-    lines-done = record { is-whole = g .is-whole; fits = g .fits; inside = g .inside }
+module _ (a : List ℕ) (h : Held) (n₀ b₀ out₀ block : List ℕ) (s : Settings) (n b out : List ℕ) (at i : ℕ) (g : Serving a (leave a h (linesOf block)) n₀ b₀ out₀ block s n b out at i) where
+  -- No line feed is left.
+  pub lines-done : (k : ℕ) → Within k (feedAt (take (length block - i) (drop i block))) (length (take (length block - i) (drop i block))) → i + k ≡ length block
+      → Goes a h block (record { settings = s; at = at; served = i }) n b
+  lines-done k e q =
+      let f : k ≡ feedAt (drop i block) = rw (rest-all i block) at (e .is) in
+      record { is-whole = g .is-whole; fits = g .fits; inside = g .inside; leads = g .leads; no-feed = λ x. ap (λ (j : ℕ). i + j) (sym f) ∙ q }
+
+  -- Nobody takes the output.
+  pub lines-stopped : 65536 < at → Goes a h block (record { settings = s; at = at; served = i }) n b
+  lines-stopped q = record { is-whole = g .is-whole; fits = g .fits; inside = g .inside; leads = g .leads; no-feed = λ x. absurd (omega (arith, q, x)) }
 
 -- ## The bytes behind the last line feed
 
@@ -68,7 +121,7 @@ module _ (input : List ℕ) (from to : ℕ) (ys : List ℕ) (e : ys ≡ movedDow
 
 pub ruleset keep-cases = (kept-all, kept-cut)
 
-pub ruleset block-cases = (end-inside, first-line, line-ready, next-line, lines-done)
+pub ruleset block-cases = (end-inside, first-line, line-ready, next-line, lines-done, lines-stopped)
 
 -- ## The run
 

@@ -4,11 +4,11 @@ use libc::STDOUT_FILENO;
 use settings::Settings;
 ghost use mathlib.Core.Path.{_≡_};
 ghost use Prim.Native.Nat.{_+_, _≤_};
-ghost use lib.ListN.{length, replicate};
+ghost use lib.ListN.{length, take, drop, replicate};
 ghost use Rattle.buffers.specs.Ranges.{Span};
 ghost use Rattle.buffers.specs.Writes.{Wrote};
 ghost use Rattle.bucketrun.specs.Printed.{refusalText, Answers};
-ghost use Rattle.bucketrun.specs.Course.{Ready, Goes, Kept, Left, Runs};
+ghost use Rattle.bucketrun.specs.Course.{Ready, held, Goes, Kept, Left, Runs};
 
 // The length of the answer buffer; no more output than that waits when a line comes.
 const ROOM: usize = 65536;
@@ -60,17 +60,18 @@ fn answer_line(
 {
     let end = at + ROOM;
     let r = engine::serve_whole(s, rows, keys, line, &mut out[at..end]);
+    let accepted = at + r.length;
     let settings = r.settings;
     if r.number == 0 {
         return Answered {
             settings,
-            at: at + r.length,
+            at: accepted,
         };
     }
-    let after = refuse(out, at, r.number);
+    let refused = refuse(out, at, r.number);
     Answered {
         settings,
-        at: after,
+        at: refused,
     }
 }
 
@@ -98,7 +99,7 @@ fn serve_lines(
     at: usize,
 ) -> Course
     requires { ⌜ Ready s (now rows) (now keys) (now out) at ⌝ }
-    ensures { λ r. ⌜ Goes r (now (rows .exit)) (now (keys .exit)) (length (now (block .entry))) ⌝ }
+    ensures { λ r. ⌜ Goes (take 65536 (drop at (now (out .entry)))) (held s (now (rows .entry)) (now (keys .entry))) (now (block .entry)) r (now (rows .exit)) (now (keys .exit)) ⌝ }
 {
     let mut after = s;
     let mut waits = at;
@@ -158,10 +159,10 @@ fn serve_block(
     ensures { λ r. ⌜ Left r (now (rows .exit)) (now (keys .exit)) ⌝ }
 {
     let r = serve_lines(s, rows, keys, &input[0..end], out, at);
-    let settings = r.settings;
+    let after = r.settings;
     let kept = keep(input, r.served, end);
     Block {
-        settings,
+        settings: after,
         at: r.at,
         kept,
     }
@@ -194,10 +195,10 @@ fn run(s: Settings, input: &mut [u8], rows: &mut [u64], keys: &mut [u8], out: &m
             finish(after, rows, keys, &input[0..kept], out, at);
             return;
         }
-        let r = serve_block(after, input, rows, keys, out, at, end);
-        after = r.settings;
-        at = r.at;
-        kept = r.kept;
+        let block = serve_block(after, input, rows, keys, out, at, end);
+        after = block.settings;
+        at = block.at;
+        kept = block.kept;
         turns -= 1;
     }
 }

@@ -4,9 +4,9 @@ use borrow.Author.Needs.{needs}
 use Rattle.bucketrun.proofs.answer_line.Statement.{statement}
 use Rattle.bucketrun.proofs.answer_line.Tie as tie
 
-add-t20 : tie.Need-add-t20
-add-t20 c =
-    let h = answer-fits _ _ _ _ _ _ _ _ _ (c .before .before .before .before .before .before .before .before .before .before .serve-whole .ensures) in
+add-accepted : tie.Need-add-accepted
+add-accepted c =
+    let h = answer-fits _ _ _ _ _ _ _ _ _ (c .before .before .before .before .before .before .before .serve-whole .ensures) in
     search (needs, part-most, h)
 
 pub answer-line-spec : {M : Type 1} → statement M
@@ -18,7 +18,7 @@ answer-line-spec =
     (λ c. search needs)
     (λ c. search needs)
     (λ c κs. search needs)
-    add-t20
+    add-accepted
     (λ c. search needs)
     (λ c. search needs)
     (λ c. search needs)

@@ -1,14 +1,15 @@
 -- `serve_lines` meets its contract.
 use Prim.Native.Nat.{_+_, _-_}
-use lib.ListN.{length}
-use Rattle.bucketrun.specs.Course.{Serving}
+use lib.ListN.{length, take, drop}
+use Rattle.text.specs.Lines.{linesOf}
+use Rattle.bucketrun.specs.Course.{Serving, held, leave}
 use Rattle.bucketrun.proofs.Serving.{block-cases}
 use borrow.Author.Needs.{needs}
 use Rattle.bucketrun.proofs.serve_lines.Statement.{statement}
 use Rattle.bucketrun.proofs.serve_lines.Tie as tie
 
 abbrev Inv-loop : tie.InvT-loop
-Inv-loop rows₀ keys₀ block out₀ at after₀ waits₀ i₀ rows keys out after waits i = Serving rows₀ keys₀ out₀ block after rows keys out waits i
+Inv-loop rows₀ keys₀ block out₀ at after₀ waits₀ i₀ rows keys out after waits i = Serving (take 65536 (drop at out₀)) (leave (take 65536 (drop at out₀)) (held after₀ rows₀ keys₀) (linesOf block)) rows₀ keys₀ out₀ block after rows keys out waits i
 
 abbrev μ-loop : tie.MeasureT-loop
 μ-loop rows₀ keys₀ block out₀ at after₀ waits₀ i₀ rows keys out after waits i = length block + 1 - i

@@ -1,0 +1,93 @@
+// Serves each line of standard input through the entry that tests the whole bucket, with an answer buffer of 256 bytes.
+// The files stdin and stdout are tests/stations.lines and tests/stations.expected: the paper's examples and the boundaries of each field,
+// and the answers that the implementation in tests/reference gives them on a bucket of 1024 rows.
+use libc::STDIN_FILENO;
+use libc::STDOUT_FILENO;
+use settings::Settings;
+ghost use mathlib.Core.Path.{_≡_};
+ghost use lib.ListN.{length};
+ghost use Rattle.outcome.specs.Outcome.{outcome};
+ghost use Rattle.stations.specs.Leaves.{Leaves};
+
+// Prints `no`, tab, number, line feed.
+fn print_refusal(number: u64) {
+    io::write_all(STDOUT_FILENO, b"no\t");
+    io::print_decimal(STDOUT_FILENO, number);
+    io::write_all(STDOUT_FILENO, b"\n");
+}
+
+// Serves a line, and prints its answer or its refusal.
+fn print_line(
+    s: Settings,
+    rows: &mut [u64],
+    keys: &mut [u8],
+    line: &[u8],
+    answer: &mut [u8],
+) -> Settings
+    ensures { λ r. ⌜ Leaves r (now (rows .exit)) (now (keys .exit)) (now (answer .exit)) (outcome s (now (rows .entry)) (now (keys .entry)) (now (line .entry)) (now (answer .entry))) ⌝ }
+{
+    let r = engine::serve(s, rows, keys, line, answer);
+    let len = r.length;
+    let after = r.settings;
+    if r.number == 0 {
+        io::write_all(STDOUT_FILENO, &answer[0..len]);
+        return after;
+    }
+    print_refusal(r.number);
+    after
+}
+
+// Serves each line of a text.
+fn print_lines(s: Settings, rows: &mut [u64], keys: &mut [u8], text: &[u8], answer: &mut [u8]) {
+    let mut after = s;
+    let mut i = 0;
+    while i < text.len() {
+        let end = i + text::line_length(&text[i..]);
+        let next = end + 1;
+        after = print_line(after, rows, keys, &text[i..end], answer);
+        i = next;
+    }
+}
+
+// Room for the whole input.
+fn no_text() -> [u8; 262144]
+    ensures { λ r. ⌜ length r ≡ 262144 ⌝ }
+{
+    [0; 262144]
+}
+
+// The rows of a fresh bucket.
+fn no_rows() -> [u64; 8192]
+    ensures { λ r. ⌜ length r ≡ 8192 ⌝ }
+{
+    [0; 8192]
+}
+
+// Their key bytes.
+fn no_keys() -> [u8; 65536]
+    ensures { λ r. ⌜ length r ≡ 65536 ⌝ }
+{
+    [0; 65536]
+}
+
+// The smallest answer buffer that is admitted.
+fn no_answer() -> [u8; 256]
+    ensures { λ r. ⌜ length r ≡ 256 ⌝ }
+{
+    [0; 256]
+}
+
+fn main() {
+    let mut text = no_text();
+    let mut rows = no_rows();
+    let mut keys = no_keys();
+    let mut answer = no_answer();
+    let n = io::read_full(STDIN_FILENO, &mut text);
+    print_lines(
+        settings::fresh(),
+        &mut rows,
+        &mut keys,
+        &text[0..n],
+        &mut answer,
+    );
+}
