@@ -6,6 +6,7 @@ use native.Mathlib.Omega.{arith}
 use lib.ListN.{length, take, length-append, length-take}
 use Rattle.model.specs.Rows.{Row}
 use Rattle.model.specs.Sweep.{Fate, stays, goes, gains, inPlace, marks, removes}
+use Rattle.model.proofs.Room.{length-in-place}
 use Rattle.table.specs.Layout.{rowsOf, capacity, Holds}
 use Rattle.table.proofs.Held.{rows-length}
 use Rattle.lifecycle.specs.Fates.{fatesIn, total, carriedOut}
@@ -18,18 +19,13 @@ use Rattle.apply.specs.Applied.{judged, Applicable, Applied}
 use mir.Val.{Fits}
 use mir.Syntax.{w64}
 
-length-here : (f : Fate) (made n : ℕ) (x : Row) → length (inPlace f made n x) + removes f ≡ 1 + marks f
-length-here stays made n x = refl
-length-here goes made n x = refl
-length-here gains made n x = refl
-
 -- The rows that fates leave: less those that go, plus the markers.
 length-carried : (made n : ℕ) (fs : List Fate) (xs : List Row) → length fs ≡ length xs → length (carriedOut made n fs xs) + total removes fs ≡ length xs + total marks fs
 length-carried made n [] [] e = refl
 length-carried made n [] (x ∷ xs) e = absurd (omega arith)
 length-carried made n (f ∷ fs) [] e = absurd (omega arith)
 length-carried made n (f ∷ fs) (x ∷ xs) e =
-    let here = length-here f made n x in
+    let here = length-in-place f made n x in
     let rest = length-carried made (n + marks f) fs xs (omega arith) in
     let joined = length-append (inPlace f made n x) (carriedOut made (n + marks f) fs xs) in
     omega arith

@@ -8,17 +8,9 @@ use lib.Seq.{take-all, drop-drop}
 use borrow.Rule.Slice.PartMut.{midOf, putMid}
 use Rattle.buffers.specs.Writes.{placed}
 
--- A lent tail is what stands from a on.
-pub tail-lent : (a : ℕ) (xs : List ℕ) → midOf a (length xs - a) xs ≡ drop a xs
-tail-lent a xs = take-all (length xs - a) (drop a xs) (rw length-drop (omega arith))
-
 pub tail-back : (a : ℕ) (xs ys zs : List ℕ) → ys ≡ zs → putMid a (length xs - a) xs ys ≡ take a xs ++ zs
 tail-back a xs ys zs e =
     rw (e, drop-of-length-le (drop a xs) {i = length xs - a} (rw length-drop (omega arith)), append-nil)
-
--- A tail that f changed; the caller names f.
-pub lent-tail : (f : List ℕ → List ℕ) (a : ℕ) (xs ys : List ℕ) → ys ≡ f (midOf a (length xs - a) xs) → putMid a (length xs - a) xs ys ≡ take a xs ++ f (drop a xs)
-lent-tail f a xs ys e = tail-back a xs ys (f (drop a xs)) (e ∙ ap f (tail-lent a xs))
 
 drop-taken : (k : ℕ) (l : List ℕ) → drop (length (take k l)) l ≡ drop k l
 drop-taken zero l = refl

@@ -96,6 +96,20 @@ pub fn move_down_bytes(b: &mut [u8], by: usize)
     zero_bytes_from(b, end);
 }
 
+// Moves the bytes down by 64 places; zeros come in at the end. With the distance written out the loop is compiled to one move.
+pub fn move_down_64_bytes(b: &mut [u8])
+    requires { ⌜ 64 ≤ length (now b) ⌝ }
+    ensures { λ _. ⌜ now (b .exit) ≡ movedDown 64 (now (b .entry)) ⌝ }
+{
+    let end = b.len() - 64;
+    let mut i = 0;
+    while i < end {
+        b[i] = b[i + 64];
+        i += 1;
+    }
+    zero_bytes_from(b, end);
+}
+
 fn wide(x: u8) -> u64
     ensures { λ r. ⌜ Within r x 255 ⌝ }
 {

@@ -1,4 +1,4 @@
--- Facts on a line and on a list of lines: the refusal's number, the first condition that holds, what a refusal leaves, time, and version numbers.
+-- Facts on conditions and on a list of lines: the first condition that holds, version numbers, and time.
 use Prim.Native.Nat.{ℕ, _≤_, max}
 use mathlib.Core.Path.{_≡_, refl, sym, _∙_, ap, ap₂}
 use mathlib.Core.Logic.{_⊎_, inl, inr}
@@ -20,7 +20,7 @@ use Rattle.model.specs.LockClause.{timeAfter, versions, distinct}
 use Rattle.model.proofs.Versions.{cons-none}
 use Rattle.model.proofs.LockClause.{good-fresh}
 
--- ## The refusal
+-- ## The first condition that holds
 
 abbrev atMost : ℕ → Check → Bool
 atMost k x = leb (x .number) k
@@ -33,12 +33,6 @@ first-most k (x ∷ xs) e =
       | inr h ↦ rw h (first-most k xs (and-r (atMost k x) _ e))
     ]
 
--- A line returns 0 to 12.
-pub refusal-range : (c : ℕ) (b : Bucket) (l : Line) → refusal c b l ≤ 12
-unfolding refusal
-refusal-range c b (unreadable room) = first-most 12 (checks (sound c b) c b (unreadable room)) refl
-refusal-range c b (reads q) = first-most 12 (checks (sound c b) c b (reads q)) refl
-
 pub first-holds : (xs : List Check) (n : ℕ) → firstOf xs ≡ n → (n ≡ 0 → ⊥) → FirstHolds xs n
 first-holds [] n e z = absurd (z (sym e))
 first-holds (x ∷ xs) n e z =
@@ -50,34 +44,6 @@ first-holds (x ∷ xs) n e z =
           let s = first-holds xs n (rw h at e) z in
           record { before = x ∷ s .before; after = s .after; at = ap (λ (ys : List Check). x ∷ ys) (s .at); none-before = rw h (s .none-before) }
     ]
-
--- A refusal comes where its condition is the first in order to hold.
-pub refusal-first : (c : ℕ) (b : Bucket) (l : Line) (n : ℕ) → refusal c b l ≡ n → (n ≡ 0 → ⊥) → FirstHolds (checks (sound c b) c b l) n
-unfolding refusal
-refusal-first c b l n e z = first-holds (checks (sound c b) c b l) n e z
-
--- A refused line changes nothing.
-pub refused-unchanged : (c : ℕ) (b : Bucket) (l : Line) → (refusal c b l ≡ 0 → ⊥) → serve c b l ≡ b
-refused-unchanged c b l n = rw (ne-eqb (refusal c b l) 0 n)
-
--- ## Time
-
--- Time never falls.
-pub time-line : (c : ℕ) (b : Bucket) (l : Line) → b .settings .time ≤ (serve c b l) .settings .time
-time-line c b (unreadable room) =
-    elim (either (eqb (refusal c b (unreadable room)) 0)) [
-      | inl e ↦ rw e (omega arith)
-      | inr e ↦ rw e (omega arith)
-    ]
-time-line c b (reads q) =
-    elim (either (eqb (refusal c b (reads q)) 0)) [
-      | inl e ↦ rw e (omega arith)
-      | inr e ↦ rw e (omega arith)
-    ]
-
-pub time-run : (c : ℕ) (b : Bucket) (ls : List Line) → b .settings .time ≤ (run c b ls) .settings .time
-time-run c b [] = omega arith
-time-run c b (l ∷ ls) = le-trans (time-line c b l) (time-run c (serve c b l) ls)
 
 -- ## Version numbers
 

@@ -54,7 +54,7 @@ length-remove p (y ∷ ys) x o f =
           simp ((apart y x d) .1) (omega (arith, length-remove p ys x (and-r (all (ahead y) ys) _ o) g))
     ]
 
-length-in-place : (f : Fate) (made n : ℕ) (x : Row) → length (inPlace f made n x) + removes f ≡ 1 + marks f
+pub length-in-place : (f : Fate) (made n : ℕ) (x : Row) → length (inPlace f made n x) + removes f ≡ 1 + marks f
 length-in-place stays made n x = refl
 length-in-place goes made n x = refl
 length-in-place gains made n x = refl

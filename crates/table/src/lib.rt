@@ -121,7 +121,7 @@ fn close_keys(keys: &mut [u8], used: usize, at: usize)
 {
     let first = 64 * at;
     let end = 64 * used;
-    buffers::move_down_bytes(&mut keys[first..end], 64);
+    buffers::move_down_64_bytes(&mut keys[first..end]);
 }
 
 // Puts a row in at a position: the used rows from there on move by one.
