@@ -1,16 +1,11 @@
--- A part of a buffer that is lent, as `&mut b[a..]` and `&mut b[a..e]`, and comes back changed.
-use Prim.Native.Nat.{ℕ, zero, suc, _+_, _-_}
+-- A part of a buffer that is lent, as `&mut b[a..e]`, and comes back changed.
+use Prim.Native.Nat.{ℕ, zero, suc, _+_}
 use mathlib.Core.Path.{_≡_, refl, sym, ap, _∙_}
-use mathlib.Core.List.{List, [], _∷_, _++_, append-nil, append-assoc}
-use native.Mathlib.Omega.{arith}
-use lib.ListN.{length, take, drop, length-drop, drop-of-length-le}
-use lib.Seq.{take-all, drop-drop}
+use mathlib.Core.List.{List, [], _∷_, _++_, append-assoc}
+use lib.ListN.{length, take, drop}
+use lib.Seq.{drop-drop}
 use borrow.Rule.Slice.PartMut.{midOf, putMid}
 use Rattle.buffers.specs.Writes.{placed}
-
-pub tail-back : (a : ℕ) (xs ys zs : List ℕ) → ys ≡ zs → putMid a (length xs - a) xs ys ≡ take a xs ++ zs
-tail-back a xs ys zs e =
-    rw (e, drop-of-length-le (drop a xs) {i = length xs - a} (rw length-drop (omega arith)), append-nil)
 
 drop-taken : (k : ℕ) (l : List ℕ) → drop (length (take k l)) l ≡ drop k l
 drop-taken zero l = refl
