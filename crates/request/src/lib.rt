@@ -89,13 +89,14 @@ pub fn read_line(line: &[u8]) -> LineRead
     if 512 < line.len() {
         return LineRead::Unreadable;
     }
-    let DateRead::At(clock) = calendar::read_date(text::field(line, 0)) else {
+    let marks = text::split(line);
+    let DateRead::At(clock) = calendar::read_date(text::field(line, &marks, 0)) else {
         return LineRead::Unreadable;
     };
-    let RightsRead::Is(rights) = fields::read_rights(text::field(line, 1)) else {
+    let RightsRead::Is(rights) = fields::read_rights(text::field(line, &marks, 1)) else {
         return LineRead::Unreadable;
     };
-    let VerbRead::Is(verb) = verbs::read_verb(text::field(line, 2), line) else {
+    let VerbRead::Is(verb) = verbs::read_verb(text::field(line, &marks, 2), line, &marks) else {
         return LineRead::Unreadable;
     };
     LineRead::Reads(Request {
