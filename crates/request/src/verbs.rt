@@ -18,7 +18,8 @@ use fields::VersionRead;
 use text::Value;
 ghost use mathlib.Core.Path.{_≡_};
 ghost use Prim.Native.Nat.{_<_};
-ghost use Rattle.text.specs.Fields.{Split};
+ghost use Rattle.text.specs.Fields.{fieldOf, Split};
+ghost use Rattle.text.specs.Numbers.{valueOf, numberOf};
 ghost use Rattle.request.specs.Grammar.{nameAt, retentionAt, termsOf, putOf, copyOf, retainOf, setHoldOf, deleteOf, defaultOf, ruleOf, sweepOf, getOf, settingByWord, verbByWord};
 ghost use Rattle.request.specs.Meaning.{retentionFrom, termsFrom, Named, Does};
 
@@ -35,6 +36,15 @@ fn read_name(line: &[u8], marks: &[usize], i: usize, j: usize) -> NameRead
         return NameRead::Bad;
     };
     NameRead::Is(Name { key, version })
+}
+
+// A whole number at most `most`.
+fn read_number(line: &[u8], marks: &[usize], i: usize, most: u64) -> Value
+    requires { ⌜ Split (now line) (now marks) ⌝ }
+    requires { ⌜ i < 9 ⌝ }
+    ensures { λ r. ⌜ valueOf r ≡ numberOf most (fieldOf (now (line .entry)) i) ⌝ }
+{
+    text::read_number(text::field(line, marks, i), most)
 }
 
 // Mode and date.
@@ -77,11 +87,10 @@ fn read_put(line: &[u8], marks: &[usize]) -> VerbRead
     let KeyRead::Is(key) = fields::read_key(line, marks, 3) else {
         return VerbRead::Bad;
     };
-    let Value::Is(body) = text::read_number(text::field(line, marks, 4), 18446744073709551615)
-    else {
+    let Value::Is(body) = read_number(line, marks, 4, 18446744073709551615) else {
         return VerbRead::Bad;
     };
-    let Value::Is(size) = text::read_number(text::field(line, marks, 5), 5497558138880) else {
+    let Value::Is(size) = read_number(line, marks, 5, 5497558138880) else {
         return VerbRead::Bad;
     };
     let TermsRead::Is(terms) = read_terms(line, marks) else {
@@ -195,16 +204,16 @@ fn read_rule(line: &[u8], marks: &[usize]) -> VerbRead
     if text::tabs(line, marks) != 6 {
         return VerbRead::Bad;
     }
-    let Value::Is(number) = text::read_number(text::field(line, marks, 3), 7) else {
+    let Value::Is(number) = read_number(line, marks, 3, 7) else {
         return VerbRead::Bad;
     };
     let KeyRead::Is(prefix) = fields::read_prefix(line, marks, 4) else {
         return VerbRead::Bad;
     };
-    let Value::Is(current) = text::read_number(text::field(line, marks, 5), 36500) else {
+    let Value::Is(current) = read_number(line, marks, 5, 36500) else {
         return VerbRead::Bad;
     };
-    let Value::Is(noncurrent) = text::read_number(text::field(line, marks, 6), 36500) else {
+    let Value::Is(noncurrent) = read_number(line, marks, 6, 36500) else {
         return VerbRead::Bad;
     };
     VerbRead::Is(Verb::SetRule(number, prefix, current, noncurrent))
