@@ -3,7 +3,8 @@ use calendar::DateRead;
 use text::Place;
 use text::Value;
 ghost use mathlib.Core.Path.{_≡_};
-ghost use Rattle.text.specs.Fields.{fieldOf};
+ghost use Prim.Native.Nat.{_<_};
+ghost use Rattle.text.specs.Fields.{fieldOf, Split};
 ghost use Rattle.fields.specs.Fields.{lettersOnce, rightsIn, rightsOf, keyOf, prefixOf, versionOf, modeOf, untilOf, switchOf, holdOf, bypassOf, periodOf};
 ghost use Rattle.fields.specs.Meaning.{rightsMeans, rightsFrom, versionFrom, modeFrom, untilFrom, flagFrom, holdFrom, periodFrom, KeyAt};
 
@@ -143,10 +144,12 @@ pub fn read_rights(text: &[u8]) -> RightsRead
 }
 
 // Field i as a key.
-pub fn read_key(line: &[u8], i: usize) -> KeyRead
+pub fn read_key(line: &[u8], marks: &[usize], i: usize) -> KeyRead
+    requires { ⌜ Split (now line) (now marks) ⌝ }
+    requires { ⌜ i < 9 ⌝ }
     ensures { λ r. ⌜ KeyAt (now (line .entry)) (keyOf (fieldOf (now (line .entry)) i)) r ⌝ }
 {
-    let place = text::find_place(line, i);
+    let place = text::find_place(line, marks, i);
     if text::is_key(text::part(line, place)) {
         return KeyRead::Is(place);
     }
@@ -154,10 +157,12 @@ pub fn read_key(line: &[u8], i: usize) -> KeyRead
 }
 
 // Field i as a prefix.
-pub fn read_prefix(line: &[u8], i: usize) -> KeyRead
+pub fn read_prefix(line: &[u8], marks: &[usize], i: usize) -> KeyRead
+    requires { ⌜ Split (now line) (now marks) ⌝ }
+    requires { ⌜ i < 9 ⌝ }
     ensures { λ r. ⌜ KeyAt (now (line .entry)) (prefixOf (fieldOf (now (line .entry)) i)) r ⌝ }
 {
-    let place = text::find_place(line, i);
+    let place = text::find_place(line, marks, i);
     if text::is_prefix(text::part(line, place)) {
         return KeyRead::Is(place);
     }

@@ -5,6 +5,8 @@ use mathlib.Core.Bool.{Bool, true, false}
 use mathlib.Core.List.{List}
 use mathlib.Core.Option.{Option, some, none}
 use Rattle.buffers.specs.Choices.{pick, thenSome}
+use Rattle.text.specs.declared.Value.{Value}
+use Rattle.text.specs.Numbers.{valueOf, numberOf}
 use Rattle.model.specs.Requests as model
 use Rattle.request.specs.declared.Name.{Name}
 use Rattle.request.specs.declared.Retention.{Retention}
@@ -48,6 +50,10 @@ module _ (A : Type 0) (v y : A) where
 
   pub verb-bad : (s : List ℕ) (r : VerbRead) (t u : List ℕ) (f : model.Verb → A) → Does s (verbByWord t s) r → t ≡ u → r ≡ verb-read.Bad → v ≡ y → v ≡ thenSome (verbByWord u s) y f
   verb-bad s r t u f k i h q = cc (k .is)
+
+-- A number is read from its field's bytes.
+pub number-in : (r : Value) (k : ℕ) (t u : List ℕ) → valueOf r ≡ numberOf k t → t ≡ u → valueOf r ≡ numberOf k u
+number-in r k t u e i = cc
 
 -- A verb chosen by its word.
 module _ (s : List ℕ) (r : VerbRead) (b t : Bool) (x y : Option model.Verb) where

@@ -10,6 +10,9 @@ use fields::RightsRead;
 use fields::Until;
 use fields::Version;
 use text::Place;
+ghost use Prim.Native.Nat.{_≤_};
+ghost use lib.ListN.{length};
+ghost use Rattle.text.specs.Fields.{Split};
 ghost use Rattle.request.specs.Meaning.{Read};
 
 // A key, by its place in the line, and a version of it.
@@ -82,20 +85,19 @@ pub enum VerbRead {
     Bad,
 }
 
-// A request line, without its line feed.
-pub fn read_line(line: &[u8]) -> LineRead
+// A line that is not too long, by its fields: clock, rights, verb and the verb's fields.
+fn read_fields(line: &[u8], marks: &[usize]) -> LineRead
+    requires { ⌜ Split (now line) (now marks) ⌝ }
+    requires { ⌜ length (now line) ≤ 512 ⌝ }
     ensures { λ r. ⌜ Read (now (line .entry)) r ⌝ }
 {
-    if 512 < line.len() {
-        return LineRead::Unreadable;
-    }
-    let DateRead::At(clock) = calendar::read_date(text::field(line, 0)) else {
+    let DateRead::At(clock) = calendar::read_date(text::field(line, marks, 0)) else {
         return LineRead::Unreadable;
     };
-    let RightsRead::Is(rights) = fields::read_rights(text::field(line, 1)) else {
+    let RightsRead::Is(rights) = fields::read_rights(text::field(line, marks, 1)) else {
         return LineRead::Unreadable;
     };
-    let VerbRead::Is(verb) = verbs::read_verb(text::field(line, 2), line) else {
+    let VerbRead::Is(verb) = verbs::read_verb(text::field(line, marks, 2), line, marks) else {
         return LineRead::Unreadable;
     };
     LineRead::Reads(Request {
@@ -103,4 +105,15 @@ pub fn read_line(line: &[u8]) -> LineRead
         rights,
         verb,
     })
+}
+
+// A request line, without its line feed.
+pub fn read_line(line: &[u8]) -> LineRead
+    ensures { λ r. ⌜ Read (now (line .entry)) r ⌝ }
+{
+    if 512 < line.len() {
+        return LineRead::Unreadable;
+    }
+    let marks = text::split(line);
+    read_fields(line, &marks)
 }

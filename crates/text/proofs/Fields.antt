@@ -7,33 +7,14 @@ use mathlib.Core.List.{List, [], _∷_, _++_, nil≢cons}
 use native.Mathlib.Omega.{arith}
 use lib.Dec.{eqb}
 use lib.ListN.{length, getD, take, drop, length-drop, drop-of-length-le}
-use borrow.Author.Tests.{eq-eqb, ne-eqb, eqb-true}
+use borrow.Author.Tests.{eq-eqb, ne-eqb, eqb-true, eqb-false}
 use Rattle.buffers.specs.Choices.{pick}
 use Rattle.buffers.specs.Ranges.{Within}
 use Rattle.buffers.proofs.Tests.{either}
 use Rattle.text.specs.declared.Place.{Place}
-use Rattle.text.specs.Fields.{onFirst, fields, tabbed, fieldOf, tabAt, tabsIn, startOf, placeOf, partOf, Found}
+use Rattle.text.specs.Fields.{onFirst, fields, tabbed, fieldOf, tabAt, tabsIn, startOf, endOf, placeOf, partOf, Found}
 use Rattle.text.specs.Keys.{has}
 use Rattle.text.proofs.Scans.{next, rest-all}
-
--- ## Tabs
-
-pub tab-yes : (b : ℕ) → b ≡ 9 → Within 1 (tabAt b) 1
-tab-yes b h = record { is = simp (eq-eqb b 9 h); most = omega arith }
-
-pub tab-no : (b : ℕ) → (b ≡ 9 → ⊥) → Within 0 (tabAt b) 1
-tab-no b h = record { is = simp (ne-eqb b 9 h); most = omega arith }
-
-pub ruleset tab-cases = (tab-yes, tab-no)
-
-module _ (s : List ℕ) (i n : ℕ) where
-  pub tabs-step : (r : ℕ) → i < length s → Within r (tabAt (getD s i 0)) 1 → tabsIn s ≡ n + tabsIn (drop i s) → tabsIn s ≡ n + r + tabsIn (drop (i + 1) s)
-  tabs-step r h w q = q ∙ rw (next s i h, ← w .is) (omega arith)
-
-  pub tabs-end : length s ≤ i → tabsIn s ≡ n + tabsIn (drop i s) → n ≡ tabsIn s
-  tabs-end h q = sym (q ∙ rw (drop-of-length-le s h) (omega arith))
-
-pub ruleset tabs-cases = (tabs-step, tabs-end)
 
 -- ## The first byte and its field
 
@@ -61,44 +42,83 @@ field-suc b s i = go (eqb b 9)
     go true = let z : i ≡ suc i - 1 = omega arith in ap (λ (k : ℕ). getD (fields s) k []) z
     go false = let z : suc i ≡ suc i - 0 = omega arith in on (fields s) ∙ ap (λ (k : ℕ). getD (fields s) k []) z
 
--- ## The length of the first field
-
-module _ (s : List ℕ) (i : ℕ) where
-  pub first-stop : i < length s → getD s i 0 ≡ 9 → length (fieldOf s 0) ≡ i + length (fieldOf (drop i s) 0) → i ≡ length (fieldOf s 0)
-  first-stop h t q = sym (q ∙ rw (next s i h, field-zero, eq-eqb _ _ t) (omega arith))
-
-  pub first-step : i < length s → (getD s i 0 ≡ 9 → ⊥) → length (fieldOf s 0) ≡ i + length (fieldOf (drop i s) 0)
-      → length (fieldOf s 0) ≡ i + 1 + length (fieldOf (drop (i + 1) s) 0)
-  first-step h t q = q ∙ rw (next s i h, field-zero, ne-eqb _ _ t) (omega arith)
-
-  pub first-end : length s ≤ i → length (fieldOf s 0) ≡ i + length (fieldOf (drop i s) 0) → i ≡ length (fieldOf s 0)
-  unfolding fieldOf
-  first-end h q = sym (q ∙ rw (drop-of-length-le s h) (omega arith))
-
-pub ruleset first-cases = (first-stop, first-step, first-end)
-
 -- ## The start of a field
 
-start-suc : (b : ℕ) (s : List ℕ) (i : ℕ) → (i ≡ 0 → ⊥) → startOf (b ∷ s) i ≡ suc (startOf s (i - tabAt b))
-start-suc b s zero h = absurd (h refl)
-start-suc b s (suc i) h = refl
-
-start-zero : (s : List ℕ) → startOf s 0 ≡ 0
+pub start-zero : (s : List ℕ) → startOf s 0 ≡ 0
 start-zero [] = refl
 start-zero (b ∷ s) = refl
 
-module _ (s : List ℕ) (i a n : ℕ) where
-  pub start-stop : a ≤ length s → n ≡ 0 → startOf s i ≡ a + startOf (drop a s) n → Within a (startOf s i) (length s)
-  start-stop h z q = record { is = sym (q ∙ rw (z, start-zero) (omega arith)); most = h }
+-- One byte on: a tab ends field 0, any other byte belongs to it.
+pub end-tab : (b : ℕ) (s : List ℕ) (i : ℕ) → b ≡ 9 → endOf (b ∷ s) (suc i) ≡ suc (endOf s i)
+end-tab b s i h = let z : suc i - 1 ≡ i = omega arith in rw (eq-eqb b 9 h, z)
 
-  pub start-step : (r : ℕ) → a < length s → (n ≡ 0 → ⊥) → Within r (tabAt (getD s a 0)) 1 → startOf s i ≡ a + startOf (drop a s) n
-      → startOf s i ≡ a + 1 + startOf (drop (a + 1) s) (n - r)
-  start-step r h z w q = q ∙ rw (next s a h) (rw (start-suc (getD s a 0) (drop (a + 1) s) n z) (rw (← w .is) (omega arith)))
+pub end-other : (b : ℕ) (s : List ℕ) (i : ℕ) → (b ≡ 9 → ⊥) → endOf (b ∷ s) i ≡ suc (endOf s i)
+end-other b s zero h = rw (ne-eqb b 9 h)
+end-other b s (suc i) h = let z : suc i - 0 ≡ suc i = omega arith in rw (ne-eqb b 9 h, z)
 
-  pub start-end : length s ≤ a → a ≤ length s → startOf s i ≡ a + startOf (drop a s) n → Within a (startOf s i) (length s)
-  start-end h k q = record { is = sym (q ∙ rw (drop-of-length-le s h) (omega arith)); most = k }
+start-tab : (b : ℕ) (s : List ℕ) (i : ℕ) → b ≡ 9 → startOf (b ∷ s) (suc i) ≡ suc (startOf s i)
+start-tab b s i h = let z : suc i - 1 ≡ i = omega arith in rw (eq-eqb b 9 h, z)
 
-pub ruleset start-cases = (start-stop, start-step, start-end)
+start-other : (b : ℕ) (s : List ℕ) (i : ℕ) → (b ≡ 9 → ⊥) → startOf (b ∷ s) (suc i) ≡ suc (startOf s (suc i))
+start-other b s i h = let z : suc i - 0 ≡ suc i = omega arith in rw (ne-eqb b 9 h, z)
+
+-- Behind the tab that ends a field the next one starts.
+pub next-start : (s : List ℕ) (i : ℕ) → endOf s i < length s → startOf s (suc i) ≡ suc (endOf s i)
+next-start [] i h = absurd (omega arith)
+next-start (b ∷ s) zero h =
+    elim (either (eqb b 9)) [
+      | inl t ↦ start-tab b s 0 (eqb-true b 9 t) ∙ rw (start-zero s, t)
+      | inr t ↦
+          let q = eqb-false b 9 t in
+          let e = end-other b s 0 q in
+          start-other b s 0 q ∙ ap suc (next-start s 0 (omega arith)) ∙ ap suc (sym e)
+    ]
+next-start (b ∷ s) (suc i) h =
+    elim (either (eqb b 9)) [
+      | inl t ↦
+          let q = eqb-true b 9 t in
+          let e = end-tab b s i q in
+          start-tab b s (suc i) q ∙ ap suc (next-start s i (omega arith)) ∙ ap suc (sym e)
+      | inr t ↦
+          let q = eqb-false b 9 t in
+          let e = end-other b s (suc i) q in
+          start-other b s (suc i) q ∙ ap suc (next-start s (suc i) (omega arith)) ∙ ap suc (sym e)
+    ]
+
+-- Behind a field that the line's end ends, the others start at that end.
+pub last-start : (s : List ℕ) (i : ℕ) → length s ≤ endOf s i → startOf s (suc i) ≡ endOf s i
+last-start [] i h = refl
+last-start (b ∷ s) zero h =
+    elim (either (eqb b 9)) [
+      | inl t ↦ let k : suc (length s) ≤ 0 = rw t at h in absurd (omega arith)
+      | inr t ↦
+          let q = eqb-false b 9 t in
+          let e = end-other b s 0 q in
+          start-other b s 0 q ∙ ap suc (last-start s 0 (omega arith)) ∙ sym e
+    ]
+last-start (b ∷ s) (suc i) h =
+    elim (either (eqb b 9)) [
+      | inl t ↦
+          let q = eqb-true b 9 t in
+          let e = end-tab b s i q in
+          start-tab b s (suc i) q ∙ ap suc (last-start s i (omega arith)) ∙ sym e
+      | inr t ↦
+          let q = eqb-false b 9 t in
+          let e = end-other b s (suc i) q in
+          start-other b s (suc i) q ∙ ap suc (last-start s (suc i) (omega arith)) ∙ sym e
+    ]
+
+-- A field ends as many bytes behind its start as it has.
+pub end-is : (s : List ℕ) (i : ℕ) → endOf s i ≡ startOf s i + length (fieldOf s i)
+unfolding fieldOf
+end-is [] zero = refl
+end-is [] (suc i) = refl
+end-is (b ∷ s) zero = rw (field-zero b s) (go (eqb b 9) (end-is s 0))
+  where
+    go : (t : Bool) → endOf s 0 ≡ startOf s 0 + length (fieldOf s 0) → pick t 0 (suc (endOf s 0)) ≡ 0 + length (pick t [] (b ∷ fieldOf s 0))
+    go true e = refl
+    go false e = omega (arith, start-zero s)
+end-is (b ∷ s) (suc i) = rw (field-suc b s i) (let e = end-is s (suc i - tabAt b) in omega arith)
 
 -- ## The place of a field
 
@@ -147,15 +167,6 @@ place-within s i =
 pub place-field : (s : List ℕ) (i : ℕ) → partOf s (placeOf s i) ≡ fieldOf s i
 unfolding placeOf
 place-field s i = rw (← from-start s i) (first-taken (drop (startOf s i) s))
-
-pub found : (s : List ℕ) (i a r : ℕ) → Within a (startOf s i) (length s) → r ≡ length (fieldOf (take (length s - a) (drop a s)) 0)
-    → Found s i (record { start = a; len = r })
-unfolding placeOf
-found s i a r w e =
-    let q : r ≡ length (fieldOf s i) = e ∙ rw (rest-all a s, w .is, from-start s i) in
-    let p : _≡_ {A = Place} (record { start = a; len = r }) (placeOf s i) = rw (w .is, q) in
-    let m : startOf s i + length (fieldOf s i) ≤ length s = place-within s i in
-    record { is = p; within = omega arith }
 
 -- A part, as the code cuts it out.
 pub part-cut : (s : List ℕ) (p : Place) → take (p .start + p .len - p .start) (drop (p .start) s) ≡ partOf s p

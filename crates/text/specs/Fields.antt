@@ -41,6 +41,16 @@ startOf [] i = 0
 startOf (b ∷ s) zero = 0
 startOf (b ∷ s) (suc i) = suc (startOf s (suc i - tabAt b))
 
+-- where field i ends: before the next tab, or at the line's end
+abbrev pub endOf : List ℕ → ℕ → ℕ
+endOf [] i = 0
+endOf (b ∷ s) zero = pick (eqb b 9) 0 (suc (endOf s 0))
+endOf (b ∷ s) (suc i) = suc (endOf s (suc i - tabAt b))
+
+-- a line's marks: where its first nine fields end, then the count of its tabs
+unfoldable pub marksOf : List ℕ → List ℕ
+marksOf s = endOf s 0 ∷ endOf s 1 ∷ endOf s 2 ∷ endOf s 3 ∷ endOf s 4 ∷ endOf s 5 ∷ endOf s 6 ∷ endOf s 7 ∷ endOf s 8 ∷ tabsIn s ∷ []
+
 -- the place of field i
 unfoldable pub placeOf : List ℕ → ℕ → Place
 placeOf s i = record { start = startOf s i; len = length (fieldOf s i) }
@@ -48,6 +58,11 @@ placeOf s i = record { start = startOf s i; len = length (fieldOf s i) }
 -- the part of a line at a place
 abbrev pub partOf : List ℕ → Place → List ℕ
 partOf s p = take (p .len) (drop (p .start) s)
+
+-- the marks of a line
+pub record Split (s : List ℕ) (marks : List ℕ) : Type 0 where
+  pub is : marks ≡ marksOf s
+  pub long : length marks ≡ 10
 
 -- the place of field i, which lies within the line
 pub record Found (s : List ℕ) (i : ℕ) (p : Place) : Type 0 where

@@ -1,12 +1,12 @@
 // Parts of a text: lines, fields between tabs, whole numbers, words, keys and prefixes, and printed numbers. The definitions are in specs/.
 ghost use mathlib.Core.Path.{_≡_};
-ghost use Prim.Native.Nat.{_+_, _≤_};
+ghost use Prim.Native.Nat.{_+_, _≤_, _<_};
 ghost use lib.ListN.{length};
 ghost use Rattle.buffers.specs.Lists.{same, begins};
 ghost use Rattle.buffers.specs.Ranges.{Within};
 ghost use Rattle.buffers.specs.Writes.{Wrote};
 ghost use Rattle.text.specs.Numbers.{valueOf, isDigit, leadingZero, digitMore, digitsOf, numberOf, positiveOf};
-ghost use Rattle.text.specs.Fields.{tabAt, tabsIn, startOf, fieldOf, partOf, Found};
+ghost use Rattle.text.specs.Fields.{tabsIn, startOf, fieldOf, partOf, Split, Found};
 ghost use Rattle.text.specs.Lines.{feedAt};
 ghost use Rattle.text.specs.Keys.{isKeyByte, keyBytes, isPrefix, isKey, has};
 ghost use Rattle.text.specs.Printing.{digits};
@@ -23,57 +23,51 @@ pub struct Place {
     pub len: usize,
 }
 
-// 1 for a tab, 0 for any other byte.
-fn tab_at(b: u8) -> usize
-    ensures { λ r. ⌜ Within r (tabAt b) 1 ⌝ }
+// A line's marks: where its first nine fields end, and behind them the count of its tabs. The line is passed through once.
+pub fn split(line: &[u8]) -> [usize; 10]
+    ensures { λ r. ⌜ Split (now (line .entry)) r ⌝ }
 {
-    if b == b'\t' {
-        return 1;
+    let len = line.len();
+    let mut marks = [len; 10];
+    let mut tabs = 0;
+    let mut i = 0;
+    while i < line.len() {
+        let at = i;
+        i += 1;
+        if line[at] == b'\t' {
+            let n = tabs;
+            tabs += 1;
+            if n < 9 {
+                marks[n] = at;
+            }
+        }
     }
-    0
+    marks[9] = tabs;
+    marks
 }
 
 // The tabs of a line, one fewer than its fields.
-pub fn tabs(line: &[u8]) -> usize
+pub fn tabs(line: &[u8], marks: &[usize]) -> usize
+    requires { ⌜ Split (now line) (now marks) ⌝ }
     ensures { λ r. ⌜ r ≡ tabsIn (now (line .entry)) ⌝ }
 {
-    let mut n = 0;
-    let mut i = 0;
-    while i < line.len() {
-        n += tab_at(line[i]);
-        i += 1;
-    }
-    n
+    marks[9]
 }
 
-// Where field i starts: behind i tabs, or at the line's end.
-fn find_start(line: &[u8], i: usize) -> usize
-    ensures { λ r. ⌜ Within r (startOf (now (line .entry)) i) (length (now (line .entry))) ⌝ }
+// Where field i starts: behind the tab that ends the field before it, or at the line's end.
+fn find_start(line: &[u8], marks: &[usize], i: usize) -> usize
+    requires { ⌜ Split (now line) (now marks) ⌝ }
+    requires { ⌜ i < 9 ⌝ }
+    ensures { λ r. ⌜ r ≡ startOf (now (line .entry)) i ⌝ }
 {
-    let mut left = i;
-    let mut at = 0;
-    while at < line.len() {
-        if left == 0 {
-            return at;
-        }
-        left -= tab_at(line[at]);
-        at += 1;
+    if i == 0 {
+        return 0;
     }
-    at
-}
-
-// The bytes before the first tab: how many.
-fn first_length(rest: &[u8]) -> usize
-    ensures { λ r. ⌜ r ≡ length (fieldOf (now (rest .entry)) 0) ⌝ }
-{
-    let mut i = 0;
-    while i < rest.len() {
-        if rest[i] == b'\t' {
-            return i;
-        }
-        i += 1;
+    let end = marks[i - 1];
+    if end < line.len() {
+        return end + 1;
     }
-    i
+    end
 }
 
 // The bytes before the first line feed: how many.
@@ -91,12 +85,17 @@ pub fn line_length(rest: &[u8]) -> usize
 }
 
 // The place of field i, counted from 0.
-pub fn find_place(line: &[u8], i: usize) -> Place
+pub fn find_place(line: &[u8], marks: &[usize], i: usize) -> Place
+    requires { ⌜ Split (now line) (now marks) ⌝ }
+    requires { ⌜ i < 9 ⌝ }
     ensures { λ r. ⌜ Found (now (line .entry)) i r ⌝ }
 {
-    let start = find_start(line, i);
-    let len = first_length(&line[start..]);
-    Place { start, len }
+    let start = find_start(line, marks, i);
+    let end = marks[i];
+    Place {
+        start,
+        len: end - start,
+    }
 }
 
 // The bytes at a place.
@@ -110,10 +109,12 @@ pub fn part(line: &[u8], p: Place) -> &[u8]
 }
 
 // The bytes of field i, counted from 0.
-pub fn field(line: &[u8], i: usize) -> &[u8]
+pub fn field<'a>(line: &'a [u8], marks: &[usize], i: usize) -> &'a [u8]
+    requires { ⌜ Split (now line) (now marks) ⌝ }
+    requires { ⌜ i < 9 ⌝ }
     ensures { λ r. ⌜ now r ≡ fieldOf (now (line .entry)) i ⌝ }
 {
-    let p = find_place(line, i);
+    let p = find_place(line, marks, i);
     part(line, p)
 }
 

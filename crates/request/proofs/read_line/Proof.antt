@@ -1,7 +1,5 @@
 -- `read_line` meets its contract.
 use Rattle.buffers.proofs.Choices.{picks}
-use Rattle.fields.proofs.Answers.{clocks, letters}
-use Rattle.request.proofs.Answers.{verbs}
 use Rattle.request.specs.Grammar.{readLine}
 use borrow.Author.Needs.{needs}
 use Rattle.request.proofs.read_line.Statement.{statement}
@@ -12,20 +10,8 @@ unfolding readLine
 read-line-spec =
     tie.close
     (tie.spec
-    (λ c. search (picks, clocks, letters, verbs) depth 16)
-    (λ c κs. search needs)
-    (λ c κs. search needs)
-    (λ c. search needs)
-    (λ c. search needs)
-    (λ c. search (picks, clocks, letters, verbs) depth 16)
-    (λ c κs. search needs)
+    (λ c. search picks depth 16)
     (λ c κs. search needs)
     (λ c. search needs)
-    (λ c. search needs)
-    (λ c. search (picks, clocks, letters, verbs) depth 16)
     (λ c κs. search needs)
-    (λ c κs. search needs)
-    (λ c. search needs)
-    (λ c. search needs)
-    (λ c. search (picks, clocks, letters, verbs) depth 16)
-    (λ c. search (picks, clocks, letters, verbs) depth 16))
+    (λ c. search needs))

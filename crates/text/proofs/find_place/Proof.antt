@@ -1,5 +1,5 @@
 -- `find_place` meets its contract.
-use Rattle.text.proofs.Fields.{found}
+use Rattle.text.proofs.Marks.{places}
 use borrow.Author.Needs.{needs}
 use Rattle.text.proofs.find_place.Statement.{statement}
 use Rattle.text.proofs.find_place.Tie as tie
@@ -10,7 +10,6 @@ find-place-spec =
     (tie.spec
     (λ c κs. search needs)
     (λ c. search needs)
-    (λ c. search needs)
-    (λ c. search needs)
-    (λ c κs. search needs)
-    (λ c. search (needs, found)))
+    (λ c. search (needs, places))
+    (λ c. search (needs, places))
+    (λ c. search (needs, places)))
