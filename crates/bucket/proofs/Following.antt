@@ -2,15 +2,14 @@
 use Prim.Native.Nat.{ℕ, zero, suc, _+_, _*_, _-_, _≤_, _<_}
 use mathlib.Core.Path.{_≡_, refl, sym, ap, ap₂, _∙_}
 use mathlib.Core.Logic.{inl, inr}
-use mathlib.Core.Bool.{Bool, true, false, _&&_, _||_, and-true, and-false, and-assoc, or-false, false≢true}
+use mathlib.Core.Bool.{Bool, true, false, _&&_, _||_, and-true, and-assoc, or-false, false≢true}
 use mathlib.Core.List.{List, [], _∷_, _++_}
 use native.Mathlib.Omega.{arith}
 use native.Mathlib.Numerals.{add-one}
-use lib.Dec.{eqb, leb, ltb}
+use lib.Dec.{eqb, ltb}
 use lib.ListN.{length, getD, take, drop, replicate, length-append, length-replicate, drop-of-length-le}
 use lib.Seq.{drop-cons, take-all, getD-take, getD-drop}
 use borrow.Author.Tests.{lt-ltb, le-ltb, ltb-false, ne-eqb}
-use Rattle.buffers.specs.Choices.{pick}
 use Rattle.buffers.specs.Lists.{all, same}
 use Rattle.buffers.specs.Words.{number}
 use Rattle.buffers.proofs.Tests.{either, and-i, and-l, and-r, clash}
@@ -21,7 +20,7 @@ use Rattle.blocks.proofs.Blocks.{block-is}
 use Rattle.model.specs.Rows.{before}
 use Rattle.model.proofs.Order.{before-irrefl}
 use Rattle.bucket.specs.Steps.{allBelow, isKeyBlock, blockAt, keyedAt, aheadOf, aheadAt, soundKeys}
-use Rattle.bucket.proofs.Steps.{below-at, below-more, below-no, below-end, pick-and, cut}
+use Rattle.bucket.proofs.Steps.{below-at, below-more, pick-and, cut}
 
 -- ## The same bytes
 

@@ -47,13 +47,7 @@ module _ (p : ℕ → Bool) where
   pub below-end : (u i : ℕ) → allBelow p i ≡ true → i ≤ u → u ≤ i → true ≡ allBelow p u
   below-end u i e h k = let q : i ≡ u = omega arith in rw q at (sym e)
 
-pub under : (u i : ℕ) → i + 1 < u → i < u - 1
-under u i h = omega arith
-
-pub over : (u i : ℕ) → u ≤ i + 1 → u - 1 ≤ i
-over u i h = omega arith
-
-pub ruleset below-cases = (below-more, below-no, below-end, under, over)
+pub ruleset below-cases = (below-more, below-no, below-end)
 
 -- ## Zeros
 

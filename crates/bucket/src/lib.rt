@@ -109,7 +109,7 @@ fn is_before(a: &[u8], b: &[u8]) -> bool
     }
 }
 
-// Whether the 64 bytes b are a key's, and version x of the key in a stands before version y of it. Zeros come before every byte of a key, so the order is that of all bytes behind the first.
+// Whether 64 bytes b are those of a key, and version x of the key in a stands before version y of that key.
 fn follows(a: &[u8], x: u64, b: &[u8], y: u64) -> bool
     requires { ⌜ (length (now a) ≡ 64) × (length (now b) ≡ 64) × (isKeyBlock (now a) ≡ true) ⌝ }
     ensures { λ r. ⌜ r ≡ isKeyBlock (now (b .entry)) && aheadOf (keyIn (now (a .entry))) x (keyIn (now (b .entry))) y ⌝ }
@@ -120,6 +120,7 @@ fn follows(a: &[u8], x: u64, b: &[u8], y: u64) -> bool
     if !blocks::is_key_block(b) {
         return false;
     }
+    // zeros stand before every byte of a key, so that all bytes behind the first are in the order of the keys
     is_before(&a[1..64], &b[1..64])
 }
 
