@@ -2,13 +2,13 @@
 use Prim.Native.Nat.{ℕ, zero, suc, _+_, _-_, _≤_, _<_}
 use mathlib.Core.Path.{_≡_, refl, sym, ap, _∙_}
 use mathlib.Core.Logic.{inl, inr}
-use mathlib.Core.Bool.{Bool, true, false, _&&_, and-true, and-false, and-assoc, and-comm, or-false}
+use mathlib.Core.Bool.{Bool, true, false, _&&_, _||_, and-true, and-false, and-assoc, and-comm, Bool·beq}
 use mathlib.Core.List.{List, [], _∷_, _++_}
 use native.Mathlib.Omega.{arith}
 use lib.Dec.{leb, ltb, eqb}
 use lib.ListN.{length, getD, take, drop, replicate, length-take, drop-of-length-le}
 use lib.Seq.{take-all, length-take-le}
-use borrow.Author.Tests.{eq-eqb, ne-eqb, le-leb, lt-leb, le-ltb, lt-ltb, leb-true, leb-false, ltb-true, ltb-false}
+use borrow.Author.Tests.{eq-eqb, eqb-true, ne-eqb, le-leb, lt-leb, le-ltb, lt-ltb, ltb-true, ltb-false}
 use Rattle.buffers.specs.Choices.{pick}
 use Rattle.buffers.specs.Lists.{all, same}
 use Rattle.buffers.proofs.Tests.{either}
@@ -35,17 +35,29 @@ key-byte x =
       | inr t ↦ let h = ltb-false x 33 t in simp (t, le-leb 33 x h)
     ]
 
+zero-here : (z k : Bool) → Bool·beq true z && (z || k) ≡ z
+zero-here true k = refl
+zero-here false k = refl
+
 past : (n j : ℕ) (l : List ℕ) → n < j → placesFit n j l ≡ all isZero l
 past n j [] h = refl
 past n j (x ∷ l) h =
     let z : j ≡ 0 → ⊥ = λ e. omega arith in
     let k : n < j + 1 = omega arith in
-    simp (ne-eqb j 0 z, lt-leb j n h, lt-ltb n j h) (ap (λ (r : Bool). isZero x && r) (past n (j + 1) l k))
+    simp (ne-eqb j 0 z, lt-ltb n j h, zero-here (eqb x 0) (leb 33 x && leb x 126)) (ap (λ (r : Bool). isZero x && r) (past n (j + 1) l k))
+
+byte-here : (x : ℕ) → Bool·beq false (eqb x 0) && (eqb x 0 || (leb 33 x && leb x 126)) ≡ isKeyByte x
+unfolding isKeyByte
+byte-here x =
+    elim (either (eqb x 0)) [
+      | inl t ↦ rw (eqb-true x 0 t)
+      | inr t ↦ rw t (key-byte x)
+    ]
 
 within : (n j x : ℕ) → 1 ≤ j → j ≤ n → placeFits n j x ≡ isKeyByte x
 within n j x h k =
     let z : j ≡ 0 → ⊥ = λ e. omega arith in
-    simp (ne-eqb j 0 z, le-leb j n k, le-ltb n j k) (or-false (leb 33 x && leb x 126) ∙ key-byte x)
+    rw (ne-eqb j 0 z, le-ltb n j k) (byte-here x)
 
 key-then-zeros : (n j m : ℕ) (l : List ℕ) → 1 ≤ j → j + m ≡ n + 1 → placesFit n j l ≡ all isKeyByte (take m l) && all isZero (drop m l)
 key-then-zeros n j zero l h e = past n j l (omega arith)
@@ -87,16 +99,11 @@ prefix-here : (k : List ℕ) → length k ≤ 63 → isPrefix k ≡ all isKeyByt
 unfolding isPrefix
 prefix-here k h = rw (le-ltb 63 (length k) h)
 
-all-places : (x : ℕ) (l : List ℕ) → length l ≡ 63 → leb x 63 && placesFit x 0 (x ∷ l) ≡ isBlock (x ∷ l) && isPrefix (take x l)
-all-places x l h =
-    elim (either (leb x 63)) [
-      | inl t ↦
-          let k = leb-true x 63 t in
-          let g : length (take x l) ≤ 63 = rw (length-take) (omega arith) in
-          rw (t, fits-block x l h k, prefix-here (take x l) g)
-          (key-then-zeros x 1 x l (omega arith) (omega arith) ∙ and-comm (all isKeyByte (take x l)) (all isZero (drop x l)))
-      | inr t ↦ rw (t, long-block x l (leb-false x 63 t))
-    ]
+all-places : (x : ℕ) (l : List ℕ) → length l ≡ 63 → x ≤ 63 → placesFit x 0 (x ∷ l) ≡ isBlock (x ∷ l) && isPrefix (take x l)
+all-places x l h k =
+    let g : length (take x l) ≤ 63 = rw (length-take) (omega arith) in
+    rw (fits-block x l h k, prefix-here (take x l) g)
+    (key-then-zeros x 1 x l (omega arith) (omega arith) ∙ and-comm (all isKeyByte (take x l)) (all isZero (drop x l)))
 
 -- ## The loop
 
@@ -107,15 +114,19 @@ module _ (b : List ℕ) (n : ℕ) (ok : Bool) (i : ℕ) where
       let g : i < length b = omega arith in
       p ∙ rw (next b i g, e, q) (sym (and-assoc ok (placeFits n i (getD b i 0)) (placesFit n (i + 1) (drop (i + 1) b))))
 
-pub places-end : (b : List ℕ) (ok : Bool) (i : ℕ) → 64 ≤ i → length b ≡ 64 → placesFit (getD b 0 0) 0 b ≡ ok && placesFit (getD b 0 0) i (drop i b)
-    → leb (getD b 0 0) 63 && ok ≡ isBlock b && isPrefix (keyIn b)
-places-end [] ok i h d p = absurd (omega arith)
-places-end (x ∷ l) ok i h d p =
+pub places-long : (b : List ℕ) → length b ≡ 64 → 63 < getD b 0 0 → false ≡ isBlock b && isPrefix (keyIn b)
+places-long [] d h = absurd (omega arith)
+places-long (x ∷ l) d h = rw (long-block x l h)
+
+pub places-end : (b : List ℕ) (ok : Bool) (i : ℕ) → 64 ≤ i → length b ≡ 64 → getD b 0 0 ≤ 63 → placesFit (getD b 0 0) 0 b ≡ ok && placesFit (getD b 0 0) i (drop i b)
+    → ok ≡ isBlock b && isPrefix (keyIn b)
+places-end [] ok i h d m p = absurd (omega arith)
+places-end (x ∷ l) ok i h d m p =
     let g : length (x ∷ l) ≤ i = omega arith in
     let q : placesFit x 0 (x ∷ l) ≡ ok = p ∙ rw (drop-of-length-le (x ∷ l) g) (and-true ok) in
-    ap (λ (t : Bool). leb x 63 && t) (sym q) ∙ all-places x l (omega arith)
+    sym q ∙ all-places x l (omega arith) m
 
-pub ruleset places-cases = (places-step, places-end)
+pub ruleset places-cases = (places-step, places-long, places-end)
 
 -- ## A key is a prefix that is not empty
 

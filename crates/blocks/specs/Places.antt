@@ -1,8 +1,8 @@
 -- The 64 bytes of a key one by one, as the code tests them.
 use Prim.Native.Nat.{ℕ}
-use mathlib.Core.Bool.{Bool, _&&_, _||_}
+use mathlib.Core.Bool.{Bool, _&&_, _||_, Bool·beq}
 use lib.Dec.{leb, ltb, eqb}
 
--- byte j behind a first byte n: a byte of a key up to place n, zero after it
+-- byte j behind a first byte n: zero after place n and nowhere else, or a byte of a key
 abbrev pub placeFits : ℕ → ℕ → ℕ → Bool
-placeFits n j x = eqb j 0 || (leb j n && (leb 33 x && leb x 126)) || (ltb n j && eqb x 0)
+placeFits n j x = eqb j 0 || (Bool·beq (ltb n j) (eqb x 0) && (eqb x 0 || (leb 33 x && leb x 126)))

@@ -42,11 +42,11 @@ pub fn put_block(out: &mut [u8], at: usize, key: &[u8]) -> usize
     put_zeros(out, end, 63 - n)
 }
 
-// Whether byte j of the 64 is right behind a first byte n: a byte of a key up to place n, zero after it.
+// Whether byte j of the 64 is right behind a first byte n: zero after place n and nowhere else, or a byte of a key.
 fn place_fits(n: u8, j: u8, x: u8) -> bool
     ensures { λ r. ⌜ r ≡ placeFits n j x ⌝ }
 {
-    (j == 0) | ((j <= n) & ((0x21 <= x) & (x <= 0x7E))) | ((n < j) & (x == 0))
+    (j == 0) | (((n < j) == (x == 0)) & ((x == 0) | ((0x21 <= x) & (x <= 0x7E))))
 }
 
 // Whether 64 bytes hold a prefix. The loop is compiled to vector code: always 64 turns, no way out, a counter as wide as a byte.
@@ -55,6 +55,9 @@ pub fn is_prefix_block(b: &[u8]) -> bool
     ensures { λ r. ⌜ r ≡ isBlock (now (b .entry)) && isPrefix (keyIn (now (b .entry))) ⌝ }
 {
     let n = b[0];
+    if 63 < n {
+        return false;
+    }
     let mut ok = true;
     let mut j = 0u8;
     let mut i = 0;
@@ -63,7 +66,7 @@ pub fn is_prefix_block(b: &[u8]) -> bool
         i += 1;
         j += 1;
     }
-    (n <= 63) & ok
+    ok
 }
 
 // Whether 64 bytes hold a key.

@@ -9,7 +9,8 @@ use native.Mathlib.Numerals.{add-one}
 use lib.ListN.{length, getD, drop}
 use borrow.Author.Tests.{le-leb, lt-ltb, le-ltb}
 use Rattle.buffers.proofs.Tests.{either, clash, and-i, and-l, and-r}
-use Rattle.blocks.specs.Blocks.{isBlock}
+use Rattle.text.specs.Keys.{isKey}
+use Rattle.blocks.specs.Blocks.{keyIn, isBlock}
 use Rattle.blocks.proofs.Blocks.{block-block}
 use Rattle.model.specs.Rows.{soundRow}
 use Rattle.model.specs.Settings.{sound, fits}
@@ -18,37 +19,37 @@ use Rattle.settings.specs.Meaning.{prefixesAre, settingsSound}
 use Rattle.table.specs.Layout.{rowAt, rowsOf, capacity}
 use Rattle.table.specs.Places.{keyAt}
 use Rattle.table.proofs.Held.{numbers-laying, keys-laying, rows-length, held-block, held-fit, held-first}
-use Rattle.bucket.specs.Steps.{allBelow, zeros, blockAt, soundAt, aheadAt, soundTable}
+use Rattle.bucket.specs.Steps.{allBelow, zeros, numbersAt, isKeyBlock, blockAt, keyedAt, aheadAt, soundKeys, soundTable}
 use Rattle.bucket.specs.Whole.{bucketOf, whole, keyOf}
-use Rattle.bucket.proofs.Steps.{below-at, below-all, pick-and, sound-at}
+use Rattle.bucket.proofs.Steps.{below-at, below-all, pick-and, row-parts}
 use Rattle.bucket.proofs.Laying.{rest-free, rows-all, all-rows, next-ordered, ordered-next, numbers-back, keys-back}
 use Rattle.bucket.proofs.Whole.{WholeParts, sound-parts, whole-parts, whole-of}
 
 table-is : (next time : ℕ) (n b : List ℕ) (u : ℕ)
     → soundTable next time n b u
-    ≡ allBelow (soundAt next time n b) u && (allBelow (aheadAt n b) (u - 1) && (zeros (drop (8 * u) n) && zeros (drop (64 * u) b)))
-unfolding soundTable
+    ≡ allBelow (numbersAt next time n) u && ((allBelow (keyedAt b) u && allBelow (aheadAt n b) (u - 1)) && (zeros (drop (8 * u) n) && zeros (drop (64 * u) b)))
+unfolding soundTable soundKeys
 table-is next time n b u = simp pick-and
 
 module _ (s : Settings) (n b : List ℕ) where
   -- Whole buffers pass.
   whole-passes : WholeParts s n b → soundTable (s .next) (s .time) n b (s .used) ≡ true
-  unfolding aheadAt
+  unfolding aheadAt isKeyBlock
   whole-passes w =
       let c = capacity b in
       let u = s .used in
       let xs = rowsOf n b u in
       let p = sound-parts c (bucketOf s n b) (w .is-sound) in
       let l = rows-length n b u in
+      let row : (i : ℕ) → i < u → isKey (keyIn (blockAt b i)) && numbersAt (s .next) (s .time) n i ≡ true =
+      λ i h. sym (row-parts (s .next) (s .time) n b i) ∙ all-rows (soundRow (s .next) (s .time)) n b u i (p .rows-sound) h in
+      let block : (i : ℕ) → i < u → isBlock (blockAt b i) ≡ true =
+      λ i h. let q : i < length xs = omega arith in ap isBlock (held-block (w .holds) i (rowAt n b 0) q) ∙ block-block _ (held-fit (w .holds) i (rowAt n b 0) q) in
       table-is (s .next) (s .time) n b u
-      ∙ and-i _ _
-      (below-all (soundAt (s .next) (s .time) n b) u (λ i h.
-      sound-at (s .next) (s .time) n b i
-      ∙ and-i _ _
-      (let q : i < length xs = omega arith in ap isBlock (held-block (w .holds) i (rowAt n b 0) q) ∙ block-block _ (held-fit (w .holds) i (rowAt n b 0) q))
-      (all-rows (soundRow (s .next) (s .time)) n b u i (p .rows-sound) h)))
+      ∙ and-i _ _ (below-all (numbersAt (s .next) (s .time) n) u (λ i h. and-r (isKey (keyIn (blockAt b i))) _ (row i h)))
       (and-i _ _
-      (below-all (aheadAt n b) (u - 1) (λ i h. rw (add-one i) (ordered-next n b u i (p .in-order) (omega arith))))
+      (and-i _ _ (below-all (keyedAt b) u (λ i h. and-i (isBlock (blockAt b i)) _ (block i h) (and-l _ _ (row i h))))
+      (below-all (aheadAt n b) (u - 1) (λ i h. rw (add-one i) (ordered-next n b u i (p .in-order) (omega arith)))))
       (and-i _ _
       (ap (λ (k : List ℕ). zeros (drop (8 * u) k)) (w .holds .numbers-are) ∙ (rw l at (rest-free numbers-laying c xs (w .holds .room))))
       (ap (λ (k : List ℕ). zeros (drop (64 * u) k)) (w .holds .keys-are) ∙ (rw l at (rest-free keys-laying c xs (w .holds .room))))))
@@ -56,26 +57,28 @@ module _ (s : Settings) (n b : List ℕ) where
   -- Buffers of the right lengths that pass are whole.
   passes-whole : 1 ≤ capacity b → capacity b ≤ 1024 → s .used ≤ capacity b → length n ≡ 8 * capacity b → length b ≡ 64 * capacity b
       → settingsSound s ≡ true → soundTable (s .next) (s .time) n b (s .used) ≡ true → whole s n b ≡ true
-  unfolding sound fits settingsSound aheadAt
+  unfolding sound fits settingsSound aheadAt isKeyBlock
   passes-whole some most room numbers-long keys-long f e =
       let c = capacity b in
       let u = s .used in
       let l = rows-length n b u in
       let e0 = sym (table-is (s .next) (s .time) n b u) ∙ e in
-      let e1 = and-r (allBelow (soundAt (s .next) (s .time) n b) u) _ e0 in
-      let e2 = and-r (allBelow (aheadAt n b) (u - 1)) _ e1 in
-      let at : (i : ℕ) → i < u → isBlock (blockAt b i) && soundRow (s .next) (s .time) (rowAt n b i) ≡ true =
-      λ i h. sym (sound-at (s .next) (s .time) n b i) ∙ below-at (soundAt (s .next) (s .time) n b) u i (and-l _ _ e0) h in
+      let e1 = and-r (allBelow (numbersAt (s .next) (s .time) n) u) _ e0 in
+      let e2 = and-l (allBelow (keyedAt b) u && allBelow (aheadAt n b) (u - 1)) _ e1 in
+      let e3 = and-r (allBelow (keyedAt b) u && allBelow (aheadAt n b) (u - 1)) _ e1 in
+      let key : (i : ℕ) → i < u → keyedAt b i ≡ true = λ i h. below-at (keyedAt b) u i (and-l _ _ e2) h in
       whole-of s c (rowsOf n b u) n b some most
-      (sym (numbers-back c u n b numbers-long room (and-l _ _ e2)))
-      (sym (keys-back c u n b keys-long room (λ i h. and-l _ _ (at i h)) (and-r (zeros (drop (8 * u) n)) _ e2)))
+      (sym (numbers-back c u n b numbers-long room (and-l _ _ e3)))
+      (sym (keys-back c u n b keys-long room (λ i h. and-l _ _ (key i h)) (and-r (zeros (drop (8 * u) n)) _ e3)))
       (sym l)
       (and-l (prefixesAre (s .rules)) _ f)
       (and-i _ _ (le-leb (length (rowsOf n b u)) c (rw l room))
       (and-i _ _ (and-r (prefixesAre (s .rules)) _ f)
       (and-i _ _
-      (next-ordered n b u (λ i h. rw (← add-one i) (below-at (aheadAt n b) (u - 1) i (and-l _ _ e1) (omega arith))))
-      (rows-all (soundRow (s .next) (s .time)) n b u (λ i h. and-r (isBlock (blockAt b i)) _ (at i h))))))
+      (next-ordered n b u (λ i h. rw (← add-one i) (below-at (aheadAt n b) (u - 1) i (and-r (allBelow (keyedAt b) u) _ e2) (omega arith))))
+      (rows-all (soundRow (s .next) (s .time)) n b u (λ i h.
+      row-parts (s .next) (s .time) n b i
+      ∙ and-i _ _ (and-r (isBlock (blockAt b i)) _ (key i h)) (below-at (numbersAt (s .next) (s .time) n) u i (and-l _ _ e0) h))))))
 
   not-whole : (WholeParts s n b → ⊥) → false ≡ whole s n b
   not-whole f =

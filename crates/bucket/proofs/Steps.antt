@@ -2,23 +2,22 @@
 use Prim.Native.Nat.{ℕ, zero, suc, _+_, _*_, _-_, _≤_, _<_}
 use mathlib.Core.Path.{_≡_, refl, sym, ap, _∙_}
 use mathlib.Core.Logic.{inl, inr}
-use mathlib.Core.Bool.{Bool, true, false, _&&_, _||_, and-true, and-false, and-assoc}
+use mathlib.Core.Bool.{Bool, true, false, _&&_, and-true, and-false, and-assoc}
 use mathlib.Core.List.{List, []}
 use native.Mathlib.Omega.{arith}
 use native.Mathlib.Numerals.{add-one}
 use lib.Dec.{eqb, leb, ltb}
-use lib.ListN.{length, getD, take, drop, length-take, drop-of-length-le}
-use lib.Seq.{drop-cons, getD-take, getD-drop}
-use borrow.Author.Tests.{eqb-true, eqb-false, lt-ltb, le-ltb, leb-true, le-leb, eq-eqb, ne-eqb}
+use lib.Bits.{bitOr, or-add-and, and-le-r, or-zero-l}
+use lib.ListN.{length, getD, take, drop, drop-of-length-le}
+use lib.Seq.{drop-cons}
+use borrow.Author.Tests.{eqb-true, eqb-false, lt-ltb, ne-eqb}
 use Rattle.buffers.specs.Choices.{pick}
-use Rattle.buffers.specs.Lists.{same}
 use Rattle.buffers.proofs.Tests.{either, and-i, and-l, and-r, clash}
-use Rattle.buffers.proofs.Lists.{same-path}
 use Rattle.text.specs.Keys.{isKey}
-use Rattle.blocks.specs.Blocks.{blockOf, keyIn, isBlock}
-use Rattle.model.specs.Rows.{Row, isData, isMarker, before, soundRetention, soundData, soundMarker, soundRow, largestSize, bodies}
+use Rattle.blocks.specs.Blocks.{keyIn}
+use Rattle.model.specs.Rows.{Row, isData, isMarker, soundRetention, soundData, soundMarker, soundRow, largestSize, bodies}
 use Rattle.table.specs.Layout.{rowIn, rowAt}
-use Rattle.bucket.specs.Steps.{allBelow, zeros, madeHere, soundNumbers, blockAt, soundAt, shortKeys, aheadAt}
+use Rattle.bucket.specs.Steps.{allBelow, zeros, madeHere, soundNumbers, numbersAt, blockAt}
 
 -- ## A test of every number below a bound
 
@@ -48,53 +47,27 @@ module _ (p : ℕ → Bool) where
   pub below-end : (u i : ℕ) → allBelow p i ≡ true → i ≤ u → u ≤ i → true ≡ allBelow p u
   below-end u i e h k = let q : i ≡ u = omega arith in rw q at (sym e)
 
-pub under : (u i : ℕ) → i + 1 < u → i < u - 1
-under u i h = omega arith
-
-pub over : (u i : ℕ) → u ≤ i + 1 → u - 1 ≤ i
-over u i h = omega arith
-
-pub ruleset below-cases = (below-more, below-no, below-end, under, over)
+pub ruleset below-cases = (below-more, below-no, below-end)
 
 -- ## Zeros
 
-module _ (w ok : Bool) (l : List ℕ) (i : ℕ) (e : w ≡ ok && zeros (drop i l)) where
-  pub zeros-more : i < length l → w ≡ (ok && eqb (getD l i 0) 0) && zeros (drop (i + 1) l)
-  zeros-more h = e ∙ rw (add-one, drop-cons l i 0) (sym (and-assoc ok (eqb (getD l i 0) 0) (zeros (drop (suc i) l))))
+-- Bits joined are zero where both are.
+bits-zero : (a b : ℕ) → eqb (bitOr a b) 0 ≡ eqb a 0 && eqb b 0
+bits-zero a b =
+    elim (either (eqb a 0)) [
+      | inl t ↦ rw (eqb-true a 0 t, or-zero-l b)
+      | inr t ↦ rw t (ne-eqb (bitOr a b) 0 (λ e. eqb-false a 0 t (omega (arith, or-add-and a b, and-le-r a b))))
+    ]
 
-  pub zeros-end : length l ≤ i → ok ≡ w
-  zeros-end h = sym (e ∙ rw (drop-of-length-le l h) (and-true ok))
+module _ (w : Bool) (l : List ℕ) (bits i : ℕ) (e : w ≡ eqb bits 0 && zeros (drop i l)) where
+  pub zeros-more : i < length l → w ≡ eqb (bitOr bits (getD l i 0)) 0 && zeros (drop (i + 1) l)
+  zeros-more h =
+      e ∙ rw (add-one, drop-cons l i 0, bits-zero bits (getD l i 0)) (sym (and-assoc (eqb bits 0) (eqb (getD l i 0) 0) (zeros (drop (suc i) l))))
+
+  pub zeros-end : length l ≤ i → eqb bits 0 ≡ w
+  zeros-end h = sym (e ∙ rw (drop-of-length-le l h) (and-true (eqb bits 0)))
 
 pub ruleset zeros-cases = (zeros-more, zeros-end)
-
--- ## The order of two versions
-
--- a version x of key a stands before a version y of key b
-abbrev pub aheadOf : List ℕ → ℕ → List ℕ → ℕ → Bool
-aheadOf a x b y = before a b || (same a b && ltb y x)
-
-module _ (a b : List ℕ) (x y i : ℕ) (v : Bool) (e : v ≡ aheadOf (drop i a) x (drop i b) y) where
-  pub ahead-shorter : i < length a → length b ≤ i → false ≡ v
-  ahead-shorter h k = sym (e ∙ rw (drop-cons a i 0 h, drop-of-length-le b k))
-
-  pub ahead-less : i < length a → i < length b → getD a i 0 < getD b i 0 → true ≡ v
-  ahead-less h k l = sym (e ∙ rw (drop-cons a i 0 h, drop-cons b i 0 k, lt-ltb _ _ l))
-
-  pub ahead-more : i < length a → i < length b → getD b i 0 < getD a i 0 → false ≡ v
-  ahead-more h k l =
-      sym (e ∙ rw (drop-cons a i 0 h, drop-cons b i 0 k, le-ltb (getD a i 0) (getD b i 0) (omega arith), ne-eqb (getD a i 0) (getD b i 0) (λ q. omega arith)))
-
-  pub ahead-same : i < length a → i < length b → getD b i 0 ≤ getD a i 0 → getD a i 0 ≤ getD b i 0 → v ≡ aheadOf (drop (i + 1) a) x (drop (i + 1) b) y
-  ahead-same h k l m =
-      e ∙ simp (add-one, drop-cons a i 0 h, drop-cons b i 0 k, le-ltb (getD a i 0) (getD b i 0) l, eq-eqb (getD a i 0) (getD b i 0) (omega arith))
-
-  pub ahead-longer : length a ≤ i → i < length b → true ≡ v
-  ahead-longer h k = sym (e ∙ rw (drop-of-length-le a h, drop-cons b i 0 k))
-
-  pub ahead-number : length a ≤ i → length b ≤ i → ltb y x ≡ v
-  ahead-number h k = sym (e ∙ rw (drop-of-length-le a h, drop-of-length-le b k))
-
-pub ruleset ahead-cases = (ahead-shorter, ahead-less, ahead-more, ahead-same, ahead-longer, ahead-number)
 
 -- ## A row
 
@@ -106,35 +79,11 @@ pub data-is : (r : Bool) (ns : List ℕ) → r ≡ soundRetention (getD ns 5 0) 
 data-is r ns e h = rw (e, lt-ltb (getD ns 3 0) bodies h)
 
 -- `&l[s..s + k]`
-cut : (l : List ℕ) (s k : ℕ) → take (s + k - s) (drop s l) ≡ take k (drop s l)
+pub cut : (l : List ℕ) (s k : ℕ) → take (s + k - s) (drop s l) ≡ take k (drop s l)
 cut l s k = let q : s + k - s ≡ k = omega arith in rw q
 
--- The first element of a part.
-part-first : (k : ℕ) (l : List ℕ) (i : ℕ) → getD (take (suc k) (drop i l)) 0 0 ≡ getD l i 0
-part-first k l i = let q : i + 0 ≡ i = omega arith in getD-take (suc k) (drop i l) 0 0 (omega arith) ∙ getD-drop i l 0 0 ∙ rw q
-
-module _ (next time : ℕ) (n b : List ℕ) (i : ℕ) (r : Bool)
-    (e : r ≡ isBlock (take (64 * i + 64 - 64 * i) (drop (64 * i) b)) && isKey (keyIn (take (64 * i + 64 - 64 * i) (drop (64 * i) b)))) where
-  pub row-no : r ≡ false → false ≡ soundAt next time n b i
-  unfolding soundAt
-  row-no t = rw (← cut b (64 * i) 64, ← e, t)
-
-  pub row-yes : (q : Bool) → r ≡ true → q ≡ soundNumbers next time (rowIn (take (8 * i + 8 - 8 * i) (drop (8 * i) n)) []) → q ≡ soundAt next time n b i
-  unfolding soundAt soundNumbers
-  row-yes q t h = rw (← cut b (64 * i) 64, ← e, t) (h ∙ rw (cut n (8 * i) 8))
-
-pub ruleset row-cases = (row-no, row-yes)
-
--- ## Two rows
-
-pub short-at : (b : List ℕ) (u i : ℕ) → shortKeys b u ≡ true → i < u → getD b (64 * i) 0 ≤ 63
-unfolding shortKeys
-short-at b u i e h = leb-true _ 63 (below-at (λ j. leb (getD b (64 * j) 0) 63) u i e h)
-
-pub follows-is : (n b : List ℕ) (i : ℕ) (k l : List ℕ) (r : Bool) → k ≡ keyIn (blockAt b i) → l ≡ keyIn (blockAt b (i + 1))
-    → r ≡ aheadOf k (getD n (8 * i) 0) l (getD n (8 * (i + 1)) 0) → r ≡ aheadAt n b i
-unfolding aheadAt
-follows-is n b i k l r p q e = e ∙ rw (p, q, part-first 7 n (8 * i), part-first 7 n (8 * (i + 1)))
+pub row-is : (next time : ℕ) (n : List ℕ) (i : ℕ) (r : Bool) → r ≡ soundNumbers next time (rowIn (take (8 * i + 8 - 8 * i) (drop (8 * i) n)) []) → r ≡ numbersAt next time n i
+row-is next time n i r e = e ∙ rw (cut n (8 * i) 8)
 
 -- ## A sound row
 
@@ -159,25 +108,7 @@ sound-row next time x =
     sym (ap (λ (t : Bool). isKey (x .key) && t) (by-kind (madeHere next time x) (isData x) (soundData x) (isMarker x) (soundMarker x))
     ∙ key-first (isKey (x .key)) (leb 1 (x .number)) (ltb (x .number) next) (leb (x .created) time) (pick (isData x) (soundData x) (isMarker x && soundMarker x)))
 
--- The test at a position is that the bytes are a block and the row is sound.
-pub sound-at : (next time : ℕ) (n b : List ℕ) (i : ℕ) → soundAt next time n b i ≡ isBlock (blockAt b i) && soundRow next time (rowAt n b i)
-unfolding soundAt
-sound-at next time n b i =
-    pick-and (isBlock (blockAt b i) && isKey (keyIn (blockAt b i))) (soundNumbers next time (rowAt n b i))
-    ∙ and-assoc (isBlock (blockAt b i)) (isKey (keyIn (blockAt b i))) (soundNumbers next time (rowAt n b i))
-    ∙ ap (λ (t : Bool). isBlock (blockAt b i) && t) (sym (sound-row next time (rowAt n b i)))
-
-block-short : (block : List ℕ) → isBlock block ≡ true → getD block 0 0 ≤ 63
-unfolding isBlock blockOf
-block-short block e =
-    let q = ap (λ (l : List ℕ). getD l 0 0) (same-path block (blockOf (keyIn block)) e) in
-    let h = length-take 63 (keyIn block) in
-    omega arith
-
--- The keys of sound rows can be read.
-pub sound-short : (next time : ℕ) (n b : List ℕ) (u : ℕ) (r : Bool) → r ≡ allBelow (soundAt next time n b) u → r ≡ true → shortKeys b u ≡ true
-unfolding shortKeys
-sound-short next time n b u r e t =
-    below-all (λ i. leb (getD b (64 * i) 0) 63) u (λ i h.
-    let q = block-short (blockAt b i) (and-l _ _ (sym (sound-at next time n b i) ∙ below-at (soundAt next time n b) u i (sym e ∙ t) h)) in
-    le-leb _ 63 (rw (part-first 63 b (64 * i)) at q))
+-- The row at a position is sound where its key and its numbers are.
+pub row-parts : (next time : ℕ) (n b : List ℕ) (i : ℕ) → soundRow next time (rowAt n b i) ≡ isKey (keyIn (blockAt b i)) && numbersAt next time n i
+unfolding soundNumbers
+row-parts next time n b i = sound-row next time (rowAt n b i)

@@ -1,15 +1,16 @@
 // Refusal 1: whether settings and buffers hold a sound bucket, and the key of a row of one. The definitions are in specs/.
+use search::Order;
 use settings::Settings;
 ghost use mathlib.Core.Path.{_≡_};
-ghost use mathlib.Core.Bool.{true, _&&_, _||_};
+ghost use mathlib.Core.Bool.{true, _&&_};
 ghost use mathlib.Core.List.{[]};
-ghost use Prim.Native.Nat.{_+_, _-_, _*_, _≤_, _<_};
-ghost use lib.Dec.{ltb};
+ghost use Prim.Native.Nat.{_+_, _*_, _≤_, _<_};
 ghost use lib.ListN.{length, drop};
 ghost use Rattle.buffers.specs.Lists.{same};
+ghost use Rattle.blocks.specs.Blocks.{keyIn};
 ghost use Rattle.model.specs.Rows.{before, soundRetention, soundData, soundMarker};
 ghost use Rattle.table.specs.Layout.{rowIn};
-ghost use Rattle.bucket.specs.Steps.{allBelow, zeros, soundNumbers, soundAt, shortKeys, aheadAt, soundTable};
+ghost use Rattle.bucket.specs.Steps.{allBelow, zeros, soundNumbers, numbersAt, isKeyBlock, keyedAt, aheadOf, aheadAt, soundKeys, soundTable};
 ghost use Rattle.bucket.specs.Whole.{whole, keyOf};
 
 // Whether the retention's mode and date belong together.
@@ -54,29 +55,24 @@ fn numbers_are_sound(ns: &[u64], next: u64, time: u64) -> bool
     false
 }
 
-// Whether the row at `at` is sound, and its key's bytes are as they are written.
-fn row_is_sound(rows: &[u64], keys: &[u8], at: usize, next: u64, time: u64) -> bool
-    requires { ⌜ (8 * at + 8 ≤ length (now rows)) × (64 * at + 64 ≤ length (now keys)) ⌝ }
-    ensures { λ r. ⌜ r ≡ soundAt next time (now (rows .entry)) (now (keys .entry)) at ⌝ }
+// Whether the numbers of the row at `at` are sound.
+fn row_is_sound(rows: &[u64], at: usize, next: u64, time: u64) -> bool
+    requires { ⌜ 8 * at + 8 ≤ length (now rows) ⌝ }
+    ensures { λ r. ⌜ r ≡ numbersAt next time (now (rows .entry)) at ⌝ }
 {
-    let start = 64 * at;
-    let end = start + 64;
-    if !blocks::is_key_block(&keys[start..end]) {
-        return false;
-    }
     let first = 8 * at;
     let last = first + 8;
     numbers_are_sound(&rows[first..last], next, time)
 }
 
-// Whether each used row is sound.
-fn rows_are_sound(rows: &[u64], keys: &[u8], used: usize, next: u64, time: u64) -> bool
-    requires { ⌜ (8 * used ≤ length (now rows)) × (64 * used ≤ length (now keys)) ⌝ }
-    ensures { λ r. ⌜ r ≡ allBelow (soundAt next time (now (rows .entry)) (now (keys .entry))) used ⌝ }
+// Whether each used row's numbers are sound.
+fn rows_are_sound(rows: &[u64], used: usize, next: u64, time: u64) -> bool
+    requires { ⌜ 8 * used ≤ length (now rows) ⌝ }
+    ensures { λ r. ⌜ r ≡ allBelow (numbersAt next time (now (rows .entry))) used ⌝ }
 {
     let mut at = 0;
     while at < used {
-        if !row_is_sound(rows, keys, at, next, time) {
+        if !row_is_sound(rows, at, next, time) {
             return false;
         }
         at += 1;
@@ -84,52 +80,80 @@ fn rows_are_sound(rows: &[u64], keys: &[u8], used: usize, next: u64, time: u64) 
     true
 }
 
-// Whether a version x of key a stands before a version y of key b: by key, then by falling number.
-fn is_ahead(a: &[u8], x: u64, b: &[u8], y: u64) -> bool
-    ensures { λ r. ⌜ r ≡ before (now (a .entry)) (now (b .entry)) || (same (now (a .entry)) (now (b .entry)) && ltb y x) ⌝ }
+// Whether 64 bytes are the same in both. Most keys differ in the first eight; the loop is compiled to vector code.
+fn is_same(a: &[u8], b: &[u8]) -> bool
+    requires { ⌜ (length (now a) ≡ 64) × (length (now b) ≡ 64) ⌝ }
+    ensures { λ r. ⌜ r ≡ same (now (a .entry)) (now (b .entry)) ⌝ }
 {
+    if buffers::word_at(a, 0) != buffers::word_at(b, 0) {
+        return false;
+    }
+    let mut ok = true;
     let mut i = 0;
-    while i < a.len() {
-        if b.len() <= i {
-            return false;
-        }
-        if a[i] < b[i] {
-            return true;
-        }
-        if b[i] < a[i] {
-            return false;
-        }
+    while i < 64 {
+        ok = ok & (a[i] == b[i]);
         i += 1;
     }
-    if i < b.len() {
-        return true;
-    }
-    y < x
+    ok
 }
 
-// Whether the row at `at` stands before the next one.
+// Whether a stands before b, by unsigned bytes.
+fn is_before(a: &[u8], b: &[u8]) -> bool
+    ensures { λ r. ⌜ r ≡ before (now (a .entry)) (now (b .entry)) ⌝ }
+{
+    let o = search::compare_keys(a, b);
+    match o {
+        Order::Before => true,
+        Order::Same => false,
+        Order::After => false,
+    }
+}
+
+// Whether 64 bytes b are those of a key, and version x of the key in a stands before version y of that key.
+fn follows(a: &[u8], x: u64, b: &[u8], y: u64) -> bool
+    requires { ⌜ (length (now a) ≡ 64) × (length (now b) ≡ 64) × (isKeyBlock (now a) ≡ true) ⌝ }
+    ensures { λ r. ⌜ r ≡ isKeyBlock (now (b .entry)) && aheadOf (keyIn (now (a .entry))) x (keyIn (now (b .entry))) y ⌝ }
+{
+    if is_same(a, b) {
+        return y < x;
+    }
+    if !blocks::is_key_block(b) {
+        return false;
+    }
+    // zeros stand before every byte of a key, so that all bytes behind the first are in the order of the keys
+    is_before(&a[1..64], &b[1..64])
+}
+
+// Whether the row behind the one at `at` has a key, and stands behind it.
 fn next_follows(rows: &[u64], keys: &[u8], used: usize, at: usize) -> bool
     requires { ⌜ (8 * used ≤ length (now rows)) × (64 * used ≤ length (now keys)) ⌝ }
-    requires { ⌜ (at < used) × (at + 1 < used) × (shortKeys (now keys) used ≡ true) ⌝ }
-    ensures { λ r. ⌜ r ≡ aheadAt (now (rows .entry)) (now (keys .entry)) at ⌝ }
+    requires { ⌜ (at + 1 < used) × (keyedAt (now keys) at ≡ true) ⌝ }
+    ensures { λ r. ⌜ r ≡ keyedAt (now (keys .entry)) (at + 1) && aheadAt (now (rows .entry)) (now (keys .entry)) at ⌝ }
 {
-    let next = at + 1;
     let first = 8 * at;
-    let second = 8 * next;
-    is_ahead(
-        table::key_at(keys, at),
+    let second = first + 8;
+    let start = 64 * at;
+    let middle = start + 64;
+    let end = middle + 64;
+    follows(
+        &keys[start..middle],
         rows[first],
-        table::key_at(keys, next),
+        &keys[middle..end],
         rows[second],
     )
 }
 
-// Whether each used row stands before the next one.
-fn rows_are_in_order(rows: &[u64], keys: &[u8], used: usize) -> bool
+// Whether each used row has a key, and stands before the next one.
+fn keys_are_sound(rows: &[u64], keys: &[u8], used: usize) -> bool
     requires { ⌜ (8 * used ≤ length (now rows)) × (64 * used ≤ length (now keys)) ⌝ }
-    requires { ⌜ shortKeys (now keys) used ≡ true ⌝ }
-    ensures { λ r. ⌜ r ≡ allBelow (aheadAt (now (rows .entry)) (now (keys .entry))) (used - 1) ⌝ }
+    ensures { λ r. ⌜ r ≡ soundKeys (now (rows .entry)) (now (keys .entry)) used ⌝ }
 {
+    if used < 1 {
+        return true;
+    }
+    if !blocks::is_key_block(&keys[0..64]) {
+        return false;
+    }
     let mut i = 0;
     while i + 1 < used {
         if !next_follows(rows, keys, used, i) {
@@ -145,13 +169,13 @@ fn numbers_are_zero(rows: &[u64], at: usize) -> bool
     requires { ⌜ at ≤ length (now rows) ⌝ }
     ensures { λ r. ⌜ r ≡ zeros (drop at (now (rows .entry))) ⌝ }
 {
-    let mut ok = true;
+    let mut bits = 0;
     let mut i = at;
     while i < rows.len() {
-        ok = ok & (rows[i] == 0);
+        bits = bits | rows[i];
         i += 1;
     }
-    ok
+    bits == 0
 }
 
 // Whether the bytes from `at` on are zero.
@@ -159,13 +183,13 @@ fn bytes_are_zero(keys: &[u8], at: usize) -> bool
     requires { ⌜ at ≤ length (now keys) ⌝ }
     ensures { λ r. ⌜ r ≡ zeros (drop at (now (keys .entry))) ⌝ }
 {
-    let mut ok = true;
+    let mut bits = 0;
     let mut i = at;
     while i < keys.len() {
-        ok = ok & (keys[i] == 0);
+        bits = bits | keys[i];
         i += 1;
     }
-    ok
+    bits == 0
 }
 
 // Whether the buffers hold sound rows in order, and zeros after them.
@@ -173,10 +197,10 @@ fn table_is_sound(rows: &[u64], keys: &[u8], used: usize, next: u64, time: u64) 
     requires { ⌜ (8 * used ≤ length (now rows)) × (64 * used ≤ length (now keys)) ⌝ }
     ensures { λ r. ⌜ r ≡ soundTable next time (now (rows .entry)) (now (keys .entry)) used ⌝ }
 {
-    if !rows_are_sound(rows, keys, used, next, time) {
+    if !rows_are_sound(rows, used, next, time) {
         return false;
     }
-    if !rows_are_in_order(rows, keys, used) {
+    if !keys_are_sound(rows, keys, used) {
         return false;
     }
     if !numbers_are_zero(rows, 8 * used) {

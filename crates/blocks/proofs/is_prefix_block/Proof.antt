@@ -23,6 +23,7 @@ is-prefix-block-spec =
     (λ c. search (needs, places-cases))
     (λ c. search (needs, places-cases))
     (λ c. search (needs, places-cases))
+    (λ c. search (needs, places-cases))
     (λ c κs. search (needs, places-cases))
     (λ c. search (needs, places-cases))
     (λ c. search (needs, places-cases))

@@ -1,5 +1,5 @@
 -- `next_follows` meets its contract.
-use Rattle.bucket.proofs.Steps.{short-at, follows-is}
+use Rattle.bucket.proofs.Following.{part-keyed, next-is}
 use borrow.Author.Needs.{needs}
 use Rattle.bucket.proofs.next_follows.Statement.{statement}
 use Rattle.bucket.proofs.next_follows.Tie as tie
@@ -11,11 +11,17 @@ next-follows-spec =
     (λ c. search needs)
     (λ c. search needs)
     (λ c. search needs)
-    (λ c κs. search (needs, short-at))
     (λ c. search needs)
     (λ c. search needs)
-    (λ c κs. search (needs, short-at))
     (λ c. search needs)
     (λ c. search needs)
-    (λ c κs. search needs)
-    (λ c. search follows-is))
+    (λ c. search needs)
+    (λ c. search needs)
+    (λ c. search needs)
+    (λ c. search needs)
+    (λ c. search needs)
+    (λ c. search needs)
+    (λ c. search needs)
+    (λ c. search needs)
+    (λ c κs. (search needs, search needs, search part-keyed))
+    (λ c. search (needs, next-is)))

@@ -2,6 +2,7 @@
 use Prim.Native.Nat.{_-_, _≤_}
 use mathlib.Core.Path.{_≡_}
 use mathlib.Core.Bool.{_&&_}
+use lib.Dec.{eqb}
 use lib.ListN.{length, drop}
 use Rattle.bucket.specs.Steps.{zeros}
 use Rattle.bucket.proofs.Steps.{zeros-cases}
@@ -10,10 +11,10 @@ use Rattle.bucket.proofs.numbers_are_zero.Statement.{statement}
 use Rattle.bucket.proofs.numbers_are_zero.Tie as tie
 
 abbrev Inv-loop : tie.InvT-loop
-Inv-loop rows at ok₀ i₀ ok i = (i ≤ length rows) × (zeros (drop at rows) ≡ ok && zeros (drop i rows))
+Inv-loop rows at bits₀ i₀ bits i = (i ≤ length rows) × (zeros (drop at rows) ≡ eqb bits 0 && zeros (drop i rows))
 
 abbrev μ-loop : tie.MeasureT-loop
-μ-loop rows at ok₀ i₀ ok i = length rows - i
+μ-loop rows at bits₀ i₀ bits i = length rows - i
 
 pub numbers-are-zero-spec : {M : Type 1} → statement M
 numbers-are-zero-spec =

@@ -1,6 +1,5 @@
 -- `row_is_sound` meets its contract.
-use borrow.Author.Tests.{not-true, not-false}
-use Rattle.bucket.proofs.Steps.{row-cases}
+use Rattle.bucket.proofs.Steps.{row-is}
 use borrow.Author.Needs.{needs}
 use Rattle.bucket.proofs.row_is_sound.Statement.{statement}
 use Rattle.bucket.proofs.row_is_sound.Tie as tie
@@ -14,13 +13,6 @@ row-is-sound-spec =
     (λ c. search needs)
     (λ c. search needs)
     (λ c. search needs)
-    (λ c κs. search needs)
-    (λ c. search (row-cases, not-true))
-    (λ c. search needs)
-    (λ c. search needs)
-    (λ c. search needs)
-    (λ c. search needs)
-    (λ c. search needs)
     (λ c. search needs)
     (λ c κs. search needs)
-    (λ c. search (row-cases, not-false)))
+    (λ c. search row-is))

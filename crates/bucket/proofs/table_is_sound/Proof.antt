@@ -2,7 +2,6 @@
 use Rattle.buffers.proofs.Choices.{tests}
 use Rattle.bucket.specs.Steps.{soundTable}
 use borrow.Author.Tests.{not-true, not-false}
-use Rattle.bucket.proofs.Steps.{sound-short}
 use borrow.Author.Needs.{needs}
 use Rattle.bucket.proofs.table_is_sound.Statement.{statement}
 use Rattle.bucket.proofs.table_is_sound.Tie as tie
@@ -14,7 +13,7 @@ table-is-sound-spec =
     (tie.spec
     (λ c κs. search needs)
     (λ c. search (tests, not-true))
-    (λ c κs. search (needs, sound-short, not-false))
+    (λ c κs. search needs)
     (λ c. search (tests, not-true, not-false))
     (λ c. search needs)
     (λ c κs. search needs)

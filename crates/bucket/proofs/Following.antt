@@ -1,0 +1,207 @@
+-- Two rows: the same bytes, the order of keys by their 64 bytes, and the rows one after the other.
+use Prim.Native.Nat.{ℕ, zero, suc, _+_, _*_, _-_, _≤_, _<_}
+use mathlib.Core.Path.{_≡_, refl, sym, ap, ap₂, _∙_}
+use mathlib.Core.Logic.{inl, inr}
+use mathlib.Core.Bool.{Bool, true, false, _&&_, _||_, and-true, and-assoc, or-false, false≢true}
+use mathlib.Core.List.{List, [], _∷_, _++_}
+use native.Mathlib.Omega.{arith}
+use native.Mathlib.Numerals.{add-one}
+use lib.Dec.{eqb, ltb}
+use lib.ListN.{length, getD, take, drop, replicate, length-append, length-replicate, drop-of-length-le}
+use lib.Seq.{drop-cons, take-all, getD-take, getD-drop}
+use borrow.Author.Tests.{lt-ltb, le-ltb, ltb-false, ne-eqb}
+use Rattle.buffers.specs.Lists.{all, same}
+use Rattle.buffers.specs.Words.{number}
+use Rattle.buffers.proofs.Tests.{either, and-i, and-l, and-r, clash}
+use Rattle.buffers.proofs.Lists.{same-path, same-refl}
+use Rattle.text.specs.Keys.{isKeyByte, isKey, isPrefix}
+use Rattle.blocks.specs.Blocks.{blockOf, keyIn, isBlock}
+use Rattle.blocks.proofs.Blocks.{block-is}
+use Rattle.model.specs.Rows.{before}
+use Rattle.model.proofs.Order.{before-irrefl}
+use Rattle.bucket.specs.Steps.{allBelow, isKeyBlock, blockAt, keyedAt, aheadOf, aheadAt, soundKeys}
+use Rattle.bucket.proofs.Steps.{below-at, below-more, pick-and, cut}
+
+-- ## The same bytes
+
+pub other-word : (a b : List ℕ) (x y : ℕ) → x ≡ number (take 8 (drop 0 a)) → y ≡ number (take 8 (drop 0 b)) → (x ≡ y → ⊥) → false ≡ same a b
+other-word a b x y p q h =
+    elim (either (same a b)) [
+      | inl e ↦ absurd (h (p ∙ ap (λ (l : List ℕ). number (take 8 l)) (same-path a b e) ∙ sym q))
+      | inr e ↦ sym e
+    ]
+
+module _ (w ok : Bool) (a b : List ℕ) (i : ℕ) (e : w ≡ ok && same (drop i a) (drop i b)) where
+  pub same-more : i < length a → i < length b → w ≡ (ok && eqb (getD a i 0) (getD b i 0)) && same (drop (i + 1) a) (drop (i + 1) b)
+  same-more h k =
+      e ∙ rw (add-one, drop-cons a i 0 h, drop-cons b i 0 k, pick-and (eqb (getD a i 0) (getD b i 0)) (same (drop (suc i) a) (drop (suc i) b)))
+      (sym (and-assoc ok (eqb (getD a i 0) (getD b i 0)) (same (drop (suc i) a) (drop (suc i) b))))
+
+  pub same-end : 64 ≤ i → length a ≡ 64 → length b ≡ 64 → ok ≡ w
+  same-end h p q =
+      let j : length a ≤ i = omega arith in
+      let k : length b ≤ i = omega arith in
+      sym (e ∙ rw (drop-of-length-le a j, drop-of-length-le b k) (and-true ok))
+
+pub ruleset same-cases = (other-word, same-more, same-end)
+
+-- ## Keys by their 64 bytes
+
+byte-some : (x : ℕ) → isKeyByte x ≡ true → 0 < x
+unfolding isKeyByte
+byte-some x e =
+    elim (either (ltb x 33)) [
+      | inl t ↦ absurd (false≢true (rw t at e))
+      | inr t ↦ omega (arith, ltb-false x 33 t)
+    ]
+
+-- Keys with zeros behind them stand as the keys do.
+padded : (k l : List ℕ) (m n : ℕ) → all isKeyByte k ≡ true → all isKeyByte l ≡ true → length k + m ≡ length l + n
+    → before (k ++ replicate m 0) (l ++ replicate n 0) ≡ before k l
+padded [] [] m n p q h = let e : m ≡ n = omega arith in rw e (before-irrefl (replicate n 0))
+padded [] (y ∷ l) zero n p q h = absurd (omega arith)
+padded [] (y ∷ l) (suc m) n p q h = rw (lt-ltb 0 y (byte-some y (and-l _ _ q)))
+padded (x ∷ k) [] m zero p q h = absurd (omega arith)
+padded (x ∷ k) [] m (suc n) p q h = rw (ne-eqb x 0 (λ e. omega (arith, byte-some x (and-l _ _ p))), le-ltb x 0 (omega arith))
+padded (x ∷ k) (y ∷ l) m n p q h =
+    ap (λ (t : Bool). ltb x y || (eqb x y && t)) (padded k l m n (and-r (isKeyByte x) _ p) (and-r (isKeyByte y) _ q) (omega arith))
+
+-- What the bytes of a key are.
+record Keyed (a : List ℕ) : Type 0 where
+  pub fits : length (keyIn a) ≤ 63
+  pub bytes : all isKeyByte (keyIn a) ≡ true
+  pub is : a ≡ length (keyIn a) ∷ keyIn a ++ replicate (63 - length (keyIn a)) 0
+
+keyed : (a : List ℕ) → isKeyBlock a ≡ true → Keyed a
+unfolding isKeyBlock isKey isPrefix isBlock
+keyed a e =
+    let k = keyIn a in
+    let f = and-r (isBlock a) _ e in
+    elim (either (eqb (length k) 0)) [
+      | inl t ↦ absurd (false≢true (rw t at f))
+      | inr t ↦ elim (either (ltb 63 (length k))) [
+        | inl u ↦ absurd (false≢true (simp (t, u) at f))
+        | inr u ↦
+            let h = ltb-false 63 (length k) u in
+            record { fits = h; bytes = simp (t, u) at f; is = same-path a (blockOf k) (and-l _ _ e) ∙ block-is k h }
+      ]
+    ]
+
+-- The bytes behind the first.
+tail : (k : List ℕ) (x : ℕ) → length k ≤ 63 → take 63 (drop 1 (x ∷ k ++ replicate (63 - length k) 0)) ≡ k ++ replicate (63 - length k) 0
+tail k x h = take-all 63 (k ++ replicate (63 - length k) 0) (rw (length-append, length-replicate) (omega arith))
+
+module _ (a b : List ℕ) (f : isKeyBlock a ≡ true) where
+  keys-stand : isKeyBlock b ≡ true → before (take 63 (drop 1 a)) (take 63 (drop 1 b)) ≡ before (keyIn a) (keyIn b)
+  keys-stand g =
+      let u = keyed a f in
+      let v = keyed b g in
+      let h = u .fits in
+      let k = v .fits in
+      ap₂ (λ (s t : List ℕ). before (take 63 (drop 1 s)) (take 63 (drop 1 t))) (u .is) (v .is)
+      ∙ ap₂ before (tail (keyIn a) (length (keyIn a)) h) (tail (keyIn b) (length (keyIn b)) k)
+      ∙ padded (keyIn a) (keyIn b) (63 - length (keyIn a)) (63 - length (keyIn b)) (u .bytes) (v .bytes) (omega arith)
+
+  -- Other bytes are those of another key.
+  other-key : isKeyBlock b ≡ true → same a b ≡ false → same (keyIn a) (keyIn b) ≡ false
+  other-key g e =
+      elim (either (same (keyIn a) (keyIn b))) [
+        | inl t ↦
+            let q : a ≡ b = keyed a f .is ∙ ap (λ (k : List ℕ). length k ∷ k ++ replicate (63 - length k) 0) (same-path (keyIn a) (keyIn b) t) ∙ sym (keyed b g .is) in
+            absurd (clash (same b b) (same-refl b) (rw q at e))
+        | inr t ↦ t
+      ]
+
+  module _ (x y : ℕ) (r : Bool) (e : r ≡ same a b) where
+    pub follows-same : r ≡ true → ltb y x ≡ isKeyBlock b && aheadOf (keyIn a) x (keyIn b) y
+    follows-same t = rw (← same-path a b (sym e ∙ t), f, before-irrefl (keyIn a), same-refl (keyIn a))
+
+    pub follows-other : (t q : Bool) → r ≡ false → t ≡ isBlock b && isKey (keyIn b) → t ≡ true → q ≡ before (take 63 (drop 1 a)) (take 63 (drop 1 b))
+        → q ≡ isKeyBlock b && aheadOf (keyIn a) x (keyIn b) y
+    unfolding isKeyBlock
+    follows-other t q o g h d =
+        rw (sym g ∙ h, other-key (sym g ∙ h) (sym e ∙ o)) (d ∙ keys-stand (sym g ∙ h) ∙ sym (or-false (before (keyIn a) (keyIn b))))
+
+pub follows-no : (b : List ℕ) (t u : Bool) → t ≡ isBlock b && isKey (keyIn b) → t ≡ false → false ≡ isKeyBlock b && u
+unfolding isKeyBlock
+follows-no b t u g h = rw (sym g ∙ h)
+
+pub ruleset follows-cases = (follows-same, follows-other, follows-no)
+
+-- ## The rows one after the other
+
+-- The first element of a part.
+part-first : (k : ℕ) (l : List ℕ) (i : ℕ) → getD (take (suc k) (drop i l)) 0 0 ≡ getD l i 0
+part-first k l i = let q : i + 0 ≡ i = omega arith in getD-take (suc k) (drop i l) 0 0 (omega arith) ∙ getD-drop i l 0 0 ∙ rw q
+
+pub part-keyed : (b : List ℕ) (i : ℕ) → keyedAt b i ≡ true → isKeyBlock (take (64 * i + 64 - 64 * i) (drop (64 * i) b)) ≡ true
+part-keyed b i e = rw (cut b (64 * i) 64) e
+
+module _ (n b : List ℕ) (i : ℕ) where
+  pub next-is : (r : Bool)
+      → r ≡ isKeyBlock (take (64 * i + 64 + 64 - (64 * i + 64)) (drop (64 * i + 64) b))
+      && aheadOf (keyIn (take (64 * i + 64 - 64 * i) (drop (64 * i) b))) (getD n (8 * i) 0)
+      (keyIn (take (64 * i + 64 + 64 - (64 * i + 64)) (drop (64 * i + 64) b))) (getD n (8 * i + 8) 0)
+      → r ≡ keyedAt b (i + 1) && aheadAt n b i
+  unfolding aheadAt
+  next-is r e =
+      let p : 64 * (i + 1) ≡ 64 * i + 64 = omega arith in
+      let q : 8 * (i + 1) ≡ 8 * i + 8 = omega arith in
+      e ∙ rw (cut b (64 * i) 64, cut b (64 * i + 64) 64, p, q, part-first 7 n (8 * i), part-first 7 n (8 * i + 8))
+
+  -- what holds once the rows up to position i are tested
+  pub record Followed : Type 0 where
+    pub keys : allBelow (keyedAt b) (i + 1) ≡ true
+    pub order : allBelow (aheadAt n b) i ≡ true
+
+  pub followed-key : Followed → keyedAt b i ≡ true
+  followed-key w = below-at (keyedAt b) (i + 1) i (w .keys) (omega arith)
+
+module _ (n b : List ℕ) (u : ℕ) where
+  pub keys-none : u < 1 → true ≡ soundKeys n b u
+  unfolding soundKeys
+  keys-none h = let q : u ≡ 0 = omega arith in rw q
+
+  sound-key : soundKeys n b u ≡ true → (i : ℕ) → i < u → keyedAt b i ≡ true
+  unfolding soundKeys
+  sound-key e i h = below-at (keyedAt b) u i (and-l _ _ e) h
+
+  sound-order : soundKeys n b u ≡ true → (i : ℕ) → i + 1 < u → aheadAt n b i ≡ true
+  unfolding soundKeys
+  sound-order e i h = below-at (aheadAt n b) (u - 1) i (and-r (allBelow (keyedAt b) u) _ e) (omega arith)
+
+  pub first-no : (r : Bool) → r ≡ isBlock (blockAt b 0) && isKey (keyIn (blockAt b 0)) → r ≡ false → 1 ≤ u → false ≡ soundKeys n b u
+  unfolding isKeyBlock
+  first-no r e t h =
+      elim (either (soundKeys n b u)) [
+        | inl s ↦ absurd (clash r (e ∙ sound-key s 0 h) t)
+        | inr s ↦ sym s
+      ]
+
+  pub next-no : (i : ℕ) (r : Bool) → r ≡ keyedAt b (i + 1) && aheadAt n b i → r ≡ false → i + 1 < u → false ≡ soundKeys n b u
+  next-no i r e t h =
+      elim (either (soundKeys n b u)) [
+        | inl s ↦ absurd (clash r (e ∙ and-i (keyedAt b (i + 1)) _ (sound-key s (i + 1) h) (sound-order s i h)) t)
+        | inr s ↦ sym s
+      ]
+
+  pub keys-end : (i : ℕ) → Followed n b i → i + 1 ≤ u → u ≤ i + 1 → true ≡ soundKeys n b u
+  unfolding soundKeys
+  keys-end i w h k =
+      let p : u ≡ i + 1 = omega arith in
+      let q : u - 1 ≡ i = omega arith in
+      sym (and-i (allBelow (keyedAt b) u) _ (rw p (w .keys)) (rw q (w .order)))
+
+pub first-yes : (n b : List ℕ) (r : Bool) → r ≡ isBlock (blockAt b 0) && isKey (keyIn (blockAt b 0)) → r ≡ true → Followed n b 0
+unfolding isKeyBlock
+first-yes n b r e t = record { keys = sym e ∙ t; order = refl }
+
+pub next-yes : (n b : List ℕ) (i : ℕ) (r : Bool) → Followed n b i → r ≡ keyedAt b (i + 1) && aheadAt n b i → r ≡ true → Followed n b (i + 1)
+next-yes n b i r w e t =
+    let s = sym e ∙ t in
+    record {
+      keys = below-more (keyedAt b) (i + 1) true (w .keys) (sym (and-l _ _ s)) refl;
+      order = below-more (aheadAt n b) i true (w .order) (sym (and-r (keyedAt b (i + 1)) _ s)) refl;
+    }
+
+pub ruleset keys-cases = (keys-none, first-no, first-yes, next-no, next-yes, keys-end)
