@@ -1,17 +1,17 @@
 -- Laws of the loops: what holds between two lines, and between two blocks.
-use Prim.Native.Nat.{ℕ, suc, _+_, _*_, _-_, _≤_, _<_}
-use mathlib.Core.Path.{_≡_, refl, sym, _∙_, ap, subst, subst⁻¹}
+use Prim.Native.Nat.{ℕ, _+_, _*_, _-_, _≤_, _<_}
+use mathlib.Core.Path.{_≡_, refl, sym, _∙_, ap}
 use mathlib.Core.Bool.{true}
-use mathlib.Core.List.{List, _∷_, _++_}
+use mathlib.Core.List.{List, _++_}
 use native.Mathlib.Omega.{arith}
-use lib.ListN.{length, getD, take, drop, replicate, length-take, length-drop}
-use lib.Seq.{drop-drop, length-take-le}
+use lib.ListN.{length, take, drop, replicate, length-take, length-drop}
+use lib.Seq.{length-take-le}
 use borrow.Rule.Slice.PartMut.{midOf, putMid}
-use Rattle.buffers.specs.Ranges.{Within, Span}
+use Rattle.buffers.specs.Ranges.{Within}
 use Rattle.buffers.specs.Moves.{movedDown}
 use Rattle.text.specs.Lines.{linesOf, feedAt}
-use Rattle.text.proofs.Lines.{lines-next}
-use Rattle.text.proofs.Scans.{next, rest-all}
+use Rattle.text.proofs.Lines.{lines-at}
+use Rattle.text.proofs.Scans.{rest-all}
 use Rattle.settings.specs.declared.Settings.{Settings}
 use Rattle.settings.specs.Changes.{Fresh}
 use Rattle.bucket.specs.Whole.{whole}
@@ -33,14 +33,6 @@ still-whole s n b line out at r n′ b′ out′ w a = rw (a .settings-are, a .n
 -- A line's end lies within the block.
 pub end-inside : (k v i : ℕ) (l : List ℕ) (m : ℕ) → Within k v (length (take m (drop i l))) → k ≤ m
 end-inside k v i l m w = let e = length-take m (drop i l) in omega (arith, w .most)
-
--- The lines from i on are the line at i and those behind its end.
-lines-at : (t : List ℕ) (i k : ℕ) → i < length t → k ≡ feedAt (drop i t) → linesOf (drop i t) ≡ take k (drop i t) ∷ linesOf (drop (i + k + 1) t)
-lines-at t i k h e =
-    let n : i + k + 1 ≡ i + suc k = omega arith in
-    let d : drop i t ≡ getD t i 0 ∷ drop (i + 1) t = next t i h in
-    let q : drop (suc k) (drop i t) ≡ drop (i + suc k) t = drop-drop (suc k) i t in
-    rw (n, ← q, e) (subst (λ (u : List ℕ). linesOf u ≡ take (feedAt u) u ∷ linesOf (drop (suc (feedAt u)) u)) (sym d) (lines-next (getD t i 0) (drop (i + 1) t)))
 
 part-wide : (out : List ℕ) (at : ℕ) → at ≤ 65536 → length out ≡ 131072 → length (take 65536 (drop at out)) ≡ 65536
 part-wide out at h l = length-take-le 65536 (drop at out) (rw length-drop (omega arith))

@@ -1,49 +1,36 @@
 -- The date that an accepted GET prints reads back as the same instant.
 use Prim.Native.Nat.{ℕ, _≤_}
 use mathlib.Core.Path.{_≡_, refl, sym, _∙_, ap}
-use mathlib.Core.Logic.{_⊎_, inl, inr}
-use mathlib.Core.Bool.{Bool, true, false, _&&_, false≢true}
-use mathlib.Core.List.{List}
+use mathlib.Core.Logic.{inl, inr}
+use mathlib.Core.Bool.{Bool, true, false, _&&_}
 use mathlib.Core.Option.{Option, some, none}
 use native.Mathlib.Omega.{arith}
 use lib.Dec.{eqb, leb, ltb}
 use lib.ListN.{length}
-use borrow.Author.Tests.{eqb-true, eqb-false}
+use borrow.Author.Tests.{eqb-true}
 use Rattle.buffers.specs.Choices.{pick, thenSome}
 use Rattle.buffers.specs.Lists.{all, same}
 use Rattle.buffers.proofs.Tests.{either, and-l, and-r}
 use Rattle.buffers.proofs.Lists.{all-first}
 use Rattle.calendar.specs.Calendar.{latest}
-use Rattle.calendar.specs.Reading.{readDate}
-use Rattle.model.specs.Rows.{Row, isData, isMarker, bodies, largestSize, soundRetention, soundRow}
+use Rattle.model.specs.Rows.{Row, isData, isMarker, bodies, largestSize, soundRow}
 use Rattle.model.specs.Settings.{Bucket}
-use Rattle.model.specs.Requests.{Version, Name, name, Get, Verb, Put, Copy, Retain, Hold, AddMarker, DeleteVersion, Set, Sweep, Ask}
+use Rattle.model.specs.Requests.{Version, name, Get, Verb, Put, Copy, Retain, Hold, AddMarker, DeleteVersion, Set, Sweep, Ask}
 use Rattle.model.specs.Time.{Now, nowOf}
 use Rattle.model.specs.Effects.{hasVersion, rowOf}
-use Rattle.model.specs.Answers.{Answer, done, made, marked, removed, removedMarker, sweptCounts, shown, reply, answerTo}
+use Rattle.model.specs.Answers.{Answer, done, made, marked, removed, removedMarker, sweptCounts, shown, reply}
 use Rattle.model.proofs.SoundRows.{row-parts}
-use Rattle.bucket.specs.Whole.{whole}
 use Rattle.bucket.proofs.Whole.{whole-parts, sound-parts}
 use Rattle.table.specs.Layout.{capacity}
 use Rattle.judge.proofs.Naming.{date-most}
-use Rattle.answers.specs.Text.{untilText}
 use Rattle.answers.proofs.ReadBack.{until-back}
-use Rattle.outcome.specs.Outcome.{asked, refusalOf}
-use Rattle.guarantee.specs.Calls.{Lent, Call, held, served}
-use Rattle.guarantee.specs.Promise.{Accepted, DateReadsBack}
-use Rattle.guarantee.proofs.Demands.{number-is}
-use Rattle.guarantee.proofs.Lines.{not-whole-refused}
+use Rattle.outcome.specs.Outcome.{asked}
+use Rattle.outcome.proofs.Demands.{accepted-of-whole}
+use Rattle.guarantee.specs.Calls.{Lent, Call, held}
+use Rattle.guarantee.specs.Promise.{DateReadsBack}
 
 none-some : {x : Row} → none ≡ some x → ⊥
 none-some e = let z : _≡_ {A = ℕ} 0 1 = ap (λ (o : Option Row). thenSome o 0 (λ y. 1)) e in omega arith
-
--- An accepted call was on a whole bucket.
-accepted-whole : (s : Lent) (l : Call) → (served s l) .number ≡ 0 → whole (s .settings) (s .numbers) (s .keys) ≡ true
-accepted-whole s l z =
-    elim (either (whole (s .settings) (s .numbers) (s .keys))) [
-      | inl t ↦ t
-      | inr t ↦ absurd (not-whole-refused (s .settings) (s .numbers) (s .keys) (l .line) (l .answer) t (sym (number-is s l) ∙ z))
-    ]
 
 -- ## The row that is shown
 
@@ -95,7 +82,7 @@ row-date n t x e =
 
 pub date-reads-back : (s : Lent) (l : Call) → DateReadsBack s l
 date-reads-back s l z a x e m =
-    let w = whole-parts (s .settings) (s .numbers) (s .keys) (accepted-whole s l z) in
+    let w = whole-parts (s .settings) (s .numbers) (s .keys) (accepted-of-whole (s .settings) (s .numbers) (s .keys) (l .line) (l .answer) z) in
     let rows = (sound-parts (capacity (s .keys)) (held s) (w .is-sound)) .rows-sound in
     let q = asked (length (l .answer)) (a .said) in
     until-back (x .mode) (x .until) m

@@ -1,22 +1,17 @@
 -- Demands 1 and 2.
-use Prim.Native.Nat.{ℕ, _≤_}
+use Prim.Native.Nat.{ℕ}
 use mathlib.Core.Path.{_≡_, refl, sym, _∙_, ap}
-use mathlib.Core.Logic.{_⊎_, inl, inr}
-use mathlib.Core.Bool.{Bool, true, false, not}
+use mathlib.Core.Bool.{true, not}
 use mathlib.Core.List.{List, [], _∷_, _++_}
 use mathlib.Core.Option.{Option, some, none}
-use native.Mathlib.Omega.{arith}
-use lib.Dec.{eqb}
-use lib.ListN.{length}
-use borrow.Author.Tests.{eqb-true, eqb-false, not-true}
-use Rattle.buffers.specs.Choices.{pick}
+use borrow.Author.Tests.{not-true}
 use Rattle.buffers.specs.Lists.{all}
-use Rattle.buffers.proofs.Tests.{either, and-l, and-r}
+use Rattle.buffers.proofs.Tests.{and-l, and-r}
 use Rattle.calendar.proofs.RoundTrip.{round-trip}
-use Rattle.model.specs.Refusals.{Check, check, firstOf, FirstHolds}
+use Rattle.model.specs.Refusals.{Check, check, firstOf}
 use Rattle.request.specs.Grammar.{Said, readLine}
-use Rattle.outcome.specs.Outcome.{refused, asked, refusalOf, outcome}
-use Rattle.outcome.proofs.Demands.{refusal-range, refusal-first, refused-unchanged, unreadable-refused, accepted-line}
+use Rattle.outcome.specs.Outcome.{refused, refusalOf}
+use Rattle.outcome.proofs.Demands.{refusal-range, refusal-first, refused-unchanged, unreadable-refused, accepted-line, outcome-number}
 use Rattle.guarantee.specs.Calls.{Lent, Call, served}
 use Rattle.guarantee.specs.Promise.{conditions, Unchanged, Accepted, Demand1, Demand2, DatesReadBack}
 
@@ -52,13 +47,7 @@ module _ (s : Lent) (l : Call) where
 
   -- The number that a call returns is its refusal, or 0.
   pub number-is : (served s l) .number ≡ refusal
-  number-is =
-      elim (either (eqb refusal 0)) [
-        | inl t ↦
-            let z = eqb-true refusal 0 t in
-            ap (λ o. o .number) ((accepts z) .does) ∙ sym z
-        | inr t ↦ ap (λ o. o .number) (unchanged (eqb-false refusal 0 t))
-      ]
+  number-is = outcome-number (s .settings) (s .numbers) (s .keys) (l .line) (l .answer)
 
   pub demand-1 : Demand1 s l
   demand-1 =

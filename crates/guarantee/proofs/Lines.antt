@@ -1,40 +1,26 @@
 -- Laws of a list of lines: one line more, the end of the text, and buffers that are not whole.
-use Prim.Native.Nat.{ℕ, suc, _+_, _-_, _≤_, _<_}
-use mathlib.Core.Path.{_≡_, refl, sym, _∙_, ap, subst, subst⁻¹}
+use Prim.Native.Nat.{ℕ, _+_, _-_, _≤_, _<_}
+use mathlib.Core.Path.{_≡_, refl, sym, _∙_, ap, subst⁻¹}
 use mathlib.Core.Bool.{Bool, true, false}
 use mathlib.Core.List.{List, [], _∷_}
 use native.Mathlib.Omega.{arith}
-use native.Mathlib.Numerals.{add-one}
-use lib.ListN.{length, getD, take, drop, drop-of-length-le, length-drop}
-use lib.Seq.{drop-drop, drop-cons}
+use lib.ListN.{length, take, drop, drop-of-length-le, length-drop}
 use Rattle.buffers.specs.Ranges.{Within}
 use Rattle.text.specs.Lines.{linesOf, feedAt}
-use Rattle.text.proofs.Lines.{lines-next}
-use Rattle.text.proofs.Scans.{next, rest-all}
+use Rattle.text.proofs.Lines.{lines-at}
+use Rattle.text.proofs.Scans.{rest-all}
 use Rattle.settings.specs.declared.Settings.{Settings}
 use Rattle.bucket.specs.Whole.{whole}
 use Rattle.engine.specs.declared.Served.{Served}
 use Rattle.engine.specs.Served.{served as returned}
-use Rattle.outcome.specs.Outcome.{Outcome, refusalOf, outcome}
+use Rattle.outcome.specs.Outcome.{Outcome, outcome}
+use Rattle.outcome.proofs.Demands.{unsound-refused}
 use Rattle.outcome.proofs.Kept.{outcome-whole}
-use Rattle.guarantee.specs.Calls.{Lent, Call, served, leaves, left}
-use Rattle.guarantee.specs.Lists.{Ended, lent, ended, call, servedLines, callsOf, Serving}
+use Rattle.guarantee.specs.Calls.{served, leaves}
+use Rattle.guarantee.specs.Lists.{Ended, lent, ended, call, servedLines, Serving}
 use Rattle.guarantee.proofs.Demands.{unchanged}
 
--- Refusal 1 meets every line on buffers that are not whole.
-pub not-whole-refused : (s : Settings) (n b l a : List ℕ) → whole s n b ≡ false → refusalOf s n b l a ≡ 0 → ⊥
-unfolding refusalOf
-not-whole-refused s n b l a e z = omega (arith, rw e at z)
-
 -- ## The loop over the lines
-
--- The lines from i on are the line at i and those behind its end.
-lines-at : (t : List ℕ) (i k : ℕ) → i < length t → k ≡ feedAt (drop i t) → linesOf (drop i t) ≡ take k (drop i t) ∷ linesOf (drop (i + k + 1) t)
-lines-at t i k h e =
-    let n : i + k + 1 ≡ i + suc k = omega arith in
-    let d : drop i t ≡ getD t i 0 ∷ drop (i + 1) t = next t i h in
-    let q : drop (suc k) (drop i t) ≡ drop (i + suc k) t = drop-drop (suc k) i t in
-    rw (n, ← q, e) (subst (λ (u : List ℕ). linesOf u ≡ take (feedAt u) u ∷ linesOf (drop (suc (feedAt u)) u)) (sym d) (lines-next (getD t i 0) (drop (i + 1) t)))
 
 module _ (t : List ℕ) (i k : ℕ) where
   -- The line's end lies within the text.
@@ -74,7 +60,7 @@ module _ (t n b a : List ℕ) (s : Settings) where
 pub not-whole : (s : Settings) (n b a : List ℕ) (w : Bool) (ls : List (List ℕ)) → w ≡ whole s n b → w ≡ false → ended (lent s n b) a ≡ servedLines (lent s n b) a ls
 not-whole s n b a w [] e h = refl
 not-whole s n b a w (l ∷ ls) e h =
-    let z = unchanged (lent s n b) (call l a) (not-whole-refused s n b l a (sym e ∙ h)) in
+    let z = unchanged (lent s n b) (call l a) (unsound-refused s n b l a (sym e ∙ h)) in
     not-whole s n b a w ls e h ∙ ap (λ (x : Outcome). servedLines (leaves x) (x .answer) ls) (sym z)
 
 pub ruleset serving = (end-most, one-more, none-yet, all-done, not-whole)

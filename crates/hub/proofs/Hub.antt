@@ -16,23 +16,13 @@ use Rattle.table.specs.Layout.{capacity}
 use Rattle.bucket.specs.Whole.{whole}
 use Rattle.bucket.proofs.Whole.{whole-parts}
 use Rattle.outcome.specs.Outcome.{Outcome, outcome}
-use Rattle.outcome.proofs.Demands.{refusal-range}
-use Rattle.outcome.proofs.Deciding.{outcome-1}
+use Rattle.outcome.proofs.Demands.{refusal-range, outcome-number, accepted-of-whole}
 use Rattle.outcome.proofs.Kept.{outcome-whole}
 use Rattle.hub.specs.Bytes.{numbersFrom, numbersBytes, ByteOutcome, byteOutcome, outcomeBytes, spelledOutcome, servedBytes, hubServed}
 use Rattle.hub.proofs.Numbers.{length-bytes, numbers-back}
-use Rattle.hub.proofs.Serving.{outcome-number}
 use Rattle.hub.proofs.Fits.{whole-fits, whole-words}
 
 -- ## A line
-
--- An accepted outcome comes of what is whole.
-outcome-accepted : (s : Settings) (n b line a : List ℕ) → (outcome s n b line a) .number ≡ 0 → whole s n b ≡ true
-outcome-accepted s n b line a z =
-    elim (either (whole s n b)) [
-      | inl t ↦ t
-      | inr t ↦ let e : 1 ≡ (outcome s n b line a) .number = ap (λ (o : Outcome). o .number) (outcome-1 s n b line a t) in absurd (omega arith)
-    ]
 
 module _ (settings rows keys line answer : List ℕ) where
   -- the outcome of the line on what the bytes spell
@@ -112,7 +102,7 @@ module _ (settings rows keys line answer : List ℕ) where
   handing : Accepts → HandsOn
   handing w =
       let o : whole (core .settings) (core .numbers) (core .keys) ≡ true =
-      outcome-whole (settingsOf settings) (numbersFrom (length rows / 8) rows) keys line answer (outcome-accepted (settingsOf settings) (numbersFrom (length rows / 8) rows) keys line answer (w .zero)) in
+      outcome-whole (settingsOf settings) (numbersFrom (length rows / 8) rows) keys line answer (accepted-of-whole (settingsOf settings) (numbersFrom (length rows / 8) rows) keys line answer (w .zero)) in
       let fit = whole-fits (core .settings) (core .numbers) (core .keys) o in
       let l : length (numbersBytes (core .numbers)) / 8 ≡ length (core .numbers) = omega (arith, length-bytes (core .numbers)) in
       record {

@@ -1,48 +1,27 @@
 -- A line served on bytes, and a fresh bucket: one law for each way through.
 use Prim.Native.Nat.{ℕ, _-_, _/_, _≤_}
-use mathlib.Core.Path.{_≡_, refl, sym, ap, _∙_}
-use mathlib.Core.Logic.{inl, inr}
+use mathlib.Core.Path.{_≡_, sym, ap, _∙_}
 use mathlib.Core.List.{List}
-use mathlib.Core.Option.{Option, some, none}
 use native.Mathlib.Omega.{arith}
-use lib.Dec.{eqb}
 use lib.ListN.{length, replicate}
 use lib.Seq.{drop-length, length-take-le}
-use borrow.Author.Tests.{eqb-true, eqb-false, eq-eqb, ne-eqb}
+use borrow.Author.Tests.{eq-eqb, ne-eqb}
 use borrow.Rule.Slice.PartMut.{midOf}
 use Rattle.buffers.specs.Moves.{movedDown}
-use Rattle.buffers.proofs.Tests.{either, and-l}
+use Rattle.buffers.proofs.Tests.{and-l}
 use Rattle.model.specs.Settings as model
 use Rattle.settings.specs.declared.Settings.{Settings}
 use Rattle.settings.specs.Bytes.{settingsOf, settingsBytes}
 use Rattle.settings.specs.Changes.{Fresh}
 use Rattle.settings.specs.Meaning.{settingsMean, settingsSound}
-use Rattle.request.specs.Grammar.{Said, readLine}
-use Rattle.outcome.specs.Outcome.{Outcome, settingsFrom, refused, refusalOf, outcome}
+use Rattle.outcome.specs.Outcome.{Outcome, settingsFrom, refused, outcome}
 use Rattle.outcome.proofs.Back.{settings-back}
-use Rattle.outcome.proofs.Demands.{refused-unchanged, unreadable-refused, accepted-line}
+use Rattle.outcome.proofs.Demands.{outcome-refused}
 use Rattle.engine.specs.declared.Served.{Served}
 use Rattle.engine.specs.Served.{served}
 use Rattle.hub.specs.Bytes.{numbersFrom, numbersBytes, ByteOutcome, byteOutcome, servedBytes, freshSettings, freshOutcome}
 
 -- ## A line
-
--- The number of an outcome is the refusal, 0 where there is none.
-pub outcome-number : (s : Settings) (n b line a : List ℕ) → (outcome s n b line a) .number ≡ refusalOf s n b line a
-outcome-number s n b line a =
-    elim (either (eqb (refusalOf s n b line a) 0)) [
-      | inl t ↦ go (readLine line) refl (eqb-true (refusalOf s n b line a) 0 t)
-      | inr t ↦ ap (λ (o : Outcome). o .number) (refused-unchanged s n b line a (eqb-false (refusalOf s n b line a) 0 t))
-    ]
-  where
-    go : (o : Option Said) → readLine line ≡ o → refusalOf s n b line a ≡ 0 → (outcome s n b line a) .number ≡ refusalOf s n b line a
-    go none e z = absurd (unreadable-refused s n b line a e z)
-    go (some q) e z = ap (λ (o : Outcome). o .number) (accepted-line s n b line a q e z) ∙ sym z
-
--- An outcome with a refusal's number left everything as it was.
-pub outcome-refused : (s : Settings) (n b line a : List ℕ) → ((outcome s n b line a) .number ≡ 0 → ⊥) → outcome s n b line a ≡ refused ((outcome s n b line a) .number) s n b a
-outcome-refused s n b line a z =
-    refused-unchanged s n b line a (λ q. z (outcome-number s n b line a ∙ q)) ∙ ap (λ (k : ℕ). refused k s n b a) (sym (outcome-number s n b line a))
 
 module _ (k : ℕ) (settings rows keys line answer : List ℕ) (s : Settings) (n : List ℕ) (r : Served) (n′ keys′ answer′ : List ℕ)
     (es : s ≡ settingsOf settings) (en : n ≡ numbersFrom k rows) (er : served r n′ keys′ answer′ ≡ outcome s n keys line answer) where

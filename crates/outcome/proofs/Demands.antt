@@ -60,3 +60,33 @@ module _ (s : Settings) (numbers keys line answer : List ℕ) where
   pub accepted-line : (q : Said) → readLine line ≡ some q → refusalOf s numbers keys line answer ≡ 0 → outcome s numbers keys line answer ≡ accepted s numbers keys (asked (length answer) q) answer
   unfolding outcome
   accepted-line q e z = simp (z, e)
+
+-- The number of an outcome is the refusal, 0 where there is none.
+pub outcome-number : (s : Settings) (n b line a : List ℕ) → (outcome s n b line a) .number ≡ refusalOf s n b line a
+outcome-number s n b line a =
+    elim (either (eqb (refusalOf s n b line a) 0)) [
+      | inl t ↦ go (readLine line) refl (eqb-true (refusalOf s n b line a) 0 t)
+      | inr t ↦ ap (λ (o : Outcome). o .number) (refused-unchanged s n b line a (eqb-false (refusalOf s n b line a) 0 t))
+    ]
+  where
+    go : (o : Option Said) → readLine line ≡ o → refusalOf s n b line a ≡ 0 → (outcome s n b line a) .number ≡ refusalOf s n b line a
+    go none e z = absurd (unreadable-refused s n b line a e z)
+    go (some q) e z = ap (λ (o : Outcome). o .number) (accepted-line s n b line a q e z) ∙ sym z
+
+-- An outcome with a refusal's number left everything as it was.
+pub outcome-refused : (s : Settings) (n b line a : List ℕ) → ((outcome s n b line a) .number ≡ 0 → ⊥) → outcome s n b line a ≡ refused ((outcome s n b line a) .number) s n b a
+outcome-refused s n b line a z =
+    refused-unchanged s n b line a (λ q. z (outcome-number s n b line a ∙ q)) ∙ ap (λ (k : ℕ). refused k s n b a) (sym (outcome-number s n b line a))
+
+-- Refusal 1 meets every line on buffers that are not whole.
+pub unsound-refused : (s : Settings) (n b line a : List ℕ) → whole s n b ≡ false → refusalOf s n b line a ≡ 0 → ⊥
+unfolding refusalOf
+unsound-refused s n b line a e z = omega (arith, rw e at z)
+
+-- An accepted outcome comes of what is whole.
+pub accepted-of-whole : (s : Settings) (n b line a : List ℕ) → (outcome s n b line a) .number ≡ 0 → whole s n b ≡ true
+accepted-of-whole s n b line a z =
+    elim (either (whole s n b)) [
+      | inl t ↦ t
+      | inr t ↦ absurd (unsound-refused s n b line a t (sym (outcome-number s n b line a) ∙ z))
+    ]

@@ -1,11 +1,12 @@
 -- Laws of lines: where the first one ends, and what is left behind it.
 use Prim.Native.Nat.{ℕ, suc, _+_, _≤_, _<_}
-use mathlib.Core.Path.{_≡_, refl, sym, _∙_, ap}
+use mathlib.Core.Path.{_≡_, refl, sym, _∙_, ap, subst}
 use mathlib.Core.Logic.{inl, inr}
 use mathlib.Core.List.{List, [], _∷_}
 use native.Mathlib.Omega.{arith}
 use lib.Dec.{eqb}
 use lib.ListN.{length, getD, take, drop, drop-of-length-le}
+use lib.Seq.{drop-drop}
 use borrow.Author.Tests.{eq-eqb, ne-eqb}
 use Rattle.buffers.specs.Ranges.{Within}
 use Rattle.buffers.proofs.Tests.{either}
@@ -43,3 +44,11 @@ lines-next b (a ∷ s) =
       | inl t ↦ rw t
       | inr t ↦ rw t (joined b _ _ (linesOf (a ∷ s)) (lines-next a s))
     ]
+
+-- The lines from i on are the line at i and those behind its end.
+pub lines-at : (t : List ℕ) (i k : ℕ) → i < length t → k ≡ feedAt (drop i t) → linesOf (drop i t) ≡ take k (drop i t) ∷ linesOf (drop (i + k + 1) t)
+lines-at t i k h e =
+    let n : i + k + 1 ≡ i + suc k = omega arith in
+    let d : drop i t ≡ getD t i 0 ∷ drop (i + 1) t = next t i h in
+    let q : drop (suc k) (drop i t) ≡ drop (i + suc k) t = drop-drop (suc k) i t in
+    rw (n, ← q, e) (subst (λ (u : List ℕ). linesOf u ≡ take (feedAt u) u ∷ linesOf (drop (suc (feedAt u)) u)) (sym d) (lines-next (getD t i 0) (drop (i + 1) t)))
