@@ -2,7 +2,7 @@
 use Prim.Native.Nat.{ℕ, zero, suc, _+_, _/_, _%_, _^_, _≤_, _<_}
 use mathlib.Core.Path.{_≡_, refl, sym, ap, _∙_}
 use mathlib.Core.Bool.{Bool, true, false}
-use mathlib.Core.List.{List, [], _∷_, _++_}
+use mathlib.Core.List.{List, [], _∷_, _++_, append-assoc}
 use native.Mathlib.Omega.{arith}
 use lib.ListN.{length, set, length-append, length-set}
 use lib.Dec.{ltb}
@@ -12,7 +12,7 @@ use borrow.Author.Tests.{lt-ltb, le-ltb, ltb-false}
 use Rattle.buffers.specs.Choices.{pick}
 use Rattle.buffers.specs.Writes.{Wrote}
 use Rattle.buffers.proofs.Writes.{wrote-both, wrote-byte, wrote-as}
-use Rattle.text.specs.Printing.{digitsUp, digits}
+use Rattle.text.specs.Printing.{digitsUp, pairOf, digits}
 
 -- ## The digits
 
@@ -49,10 +49,38 @@ pub digits-long : (n : ℕ) → n < 18446744073709551616 → length (digits n) �
 unfolding digits
 digits-long n h = up-most 19 (suc n) n (omega arith)
 
+-- Two digits at once.
+digits-two : (n : ℕ) → 10 ≤ n → n < 100 → digits n ≡ pairOf n
+digits-two n h k = digits-more n h ∙ rw (digits-one (n / 10) (omega arith))
+
+digits-pair : (n : ℕ) → 100 ≤ n → digits n ≡ digits (n / 100) ++ pairOf (n % 100)
+digits-pair n h =
+    let a : n / 10 / 10 ≡ n / 100 = omega arith in
+    let b : n / 10 % 10 ≡ n % 100 / 10 = omega arith in
+    let c : n % 10 ≡ n % 100 % 10 = omega arith in
+    digits-more n (omega arith) ∙ rw (digits-more (n / 10) (omega arith), a, b, c) (append-assoc (digits (n / 100)) _ _)
+
+pair-long : (n : ℕ) → 100 ≤ n → length (digits n) ≡ length (digits (n / 100)) + 2
+pair-long n h = rw (digits-pair n h) (simp length-append)
+
 -- ## Writing them
 
-more-long : (n : ℕ) → 10 ≤ n → length (digits n) ≡ length (digits (n / 10)) + 1
-more-long n h = rw (digits-more n h) (simp length-append)
+module _ (out : List ℕ) (a n : ℕ) where
+  pub pair-wrote : a + 2 ≤ length out → Wrote out a (pairOf n) 2 (set (set out a (48 + n / 10)) (a + 1) (48 + n % 10)) (a + 2)
+  pair-wrote h =
+      let l = length-set out a (48 + n / 10) in
+      let m = set out a (48 + n / 10) in
+      let e : a + 1 + 1 ≡ a + 2 = omega arith in
+      rw e at (wrote-both out a ((48 + n / 10) ∷ []) 1 m (a + 1) ((48 + n % 10) ∷ []) 1 (set m (a + 1) (48 + n % 10)) (a + 1 + 1) (omega arith)
+      (wrote-byte out a (48 + n / 10) (omega arith)) (wrote-byte m (a + 1) (48 + n % 10) (omega arith)))
+
+  pub pair-room : a + 2 ≤ length out → a + 1 < length (set out a (48 + n / 10))
+  pair-room h = let l = length-set out a (48 + n / 10) in omega arith
+
+  pub pair-kept : length (set (set out a (48 + n / 10)) (a + 1) (48 + n % 10)) ≡ length out
+  pair-kept = length-set (set out a (48 + n / 10)) (a + 1) (48 + n % 10) ∙ length-set out a (48 + n / 10)
+
+pub ruleset pair-cases = (pair-wrote, pair-room, pair-kept)
 
 module _ (out : List ℕ) (a n : ℕ) (room : a + 20 ≤ length out) where
   pub print-one : n < 10 → Wrote out a (digits n) 20 (set out a (48 + n)) (a + 1)
@@ -60,21 +88,17 @@ module _ (out : List ℕ) (a n : ℕ) (room : a + 20 ≤ length out) where
       wrote-as out a ((48 + n) ∷ []) (digits n) 1 20 (set out a (48 + n)) (a + 1) (wrote-byte out a (48 + n) (omega arith)) (sym (digits-one n h))
       (rw (digits-one n h) (omega arith))
 
-  module _ (m : List ℕ) (e : ℕ) (w : Wrote out a (digits (n / 10)) 20 m e) (big : 10 ≤ n) (small : n < 18446744073709551616) where
-    pub print-room : e < length m
-    print-room = let l = w .long in let x = w .next in omega (arith, more-long n big, digits-long n small)
+  pub print-two : (m : List ℕ) (e : ℕ) → 10 ≤ n → n < 100 → Wrote out a (pairOf n) 2 m e → Wrote out a (digits n) 20 m e
+  print-two m e h k w = wrote-as out a (pairOf n) (digits n) 2 20 m e w (sym (digits-two n h k)) (rw (digits-two n h k) (omega arith))
 
-    pub print-more : Wrote out a (digits n) 20 (set m e (48 + n % 10)) (e + 1)
-    print-more =
-        wrote-as out a (digits (n / 10) ++ (48 + n % 10) ∷ []) (digits n) 21 20 (set m e (48 + n % 10)) (e + 1)
-        (wrote-both out a (digits (n / 10)) 20 m e ((48 + n % 10) ∷ []) 1 (set m e (48 + n % 10)) (e + 1) (omega arith) w
-        (wrote-byte m e (48 + n % 10) print-room))
-        (sym (digits-more n big)) (digits-long n small)
+  module _ (m : List ℕ) (e : ℕ) (w : Wrote out a (digits (n / 100)) 20 m e) (big : 100 ≤ n) (small : n < 18446744073709551616) where
+    pub print-room : e + 2 ≤ length m
+    print-room = let l = w .long in let x = w .next in omega (arith, pair-long n big, digits-long n small)
 
-    pub print-fits : length out < 18446744073709551616 → Fits w64 (e + 1)
-    print-fits l = let x = print-room in let y = w .long in omega arith
+    pub print-more : (k : List ℕ) (r : ℕ) → Wrote m e (pairOf (n % 100)) 2 k r → Wrote out a (digits n) 20 k r
+    print-more k r v =
+        wrote-as out a (digits (n / 100) ++ pairOf (n % 100)) (digits n) 22 20 k r
+        (wrote-both out a (digits (n / 100)) 20 m e (pairOf (n % 100)) 2 k r (omega arith) w v)
+        (sym (digits-pair n big)) (digits-long n small)
 
-    pub print-kept : length (set m e (48 + n % 10)) ≡ length out
-    print-kept = length-set m e (48 + n % 10) ∙ w .long
-
-pub ruleset print-cases = (print-one, print-room, print-more, print-fits, print-kept)
+pub ruleset print-cases = (print-one, print-two, print-room, print-more)

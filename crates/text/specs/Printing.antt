@@ -12,3 +12,7 @@ digitsUp (suc f) n = pick (ltb n 10) ((48 + n) ∷ []) (digitsUp f (n / 10) ++ (
 -- the digits of a number, the first one first: n + 1 steps are always enough
 unfoldable pub digits : ℕ → List ℕ
 digits n = digitsUp (suc n) n
+
+-- two digits, those of a number below 100
+abbrev pub pairOf : ℕ → List ℕ
+pairOf n = (48 + n / 10) ∷ (48 + n % 10) ∷ []

@@ -9,7 +9,7 @@ ghost use Rattle.text.specs.Numbers.{valueOf, isDigit, leadingZero, digi
 ghost use Rattle.text.specs.Fields.{tabsIn, startOf, fieldOf, partOf, Split, Found};
 ghost use Rattle.text.specs.Lines.{feedAt};
 ghost use Rattle.text.specs.Keys.{isKeyByte, keyBytes, isPrefix, isKey, has};
-ghost use Rattle.text.specs.Printing.{digits};
+ghost use Rattle.text.specs.Printing.{pairOf, digits};
 
 // A number that was read, or one that can't be read.
 pub enum Value {
@@ -281,6 +281,16 @@ pub fn is_key(text: &[u8]) -> bool
     is_prefix(text)
 }
 
+// Writes two digits, those of a number below 100.
+fn print_pair(out: &mut [u8], at: usize, n: u64) -> usize
+    requires { ⌜ (at + 2 ≤ length (now out)) × (n < 100) ⌝ }
+    ensures { λ r. ⌜ Wrote (now (out .entry)) at (pairOf n) 2 (now (out .exit)) r ⌝ }
+{
+    out[at] = (48 + n / 10) as u8;
+    out[at + 1] = (48 + n % 10) as u8;
+    at + 2
+}
+
 // Writes the digits of n from `at` on, and returns the place after them.
 pub fn print_number(out: &mut [u8], at: usize, n: u64) -> usize
     requires { ⌜ at + 20 ≤ length (now out) ⌝ }
@@ -290,7 +300,9 @@ pub fn print_number(out: &mut [u8], at: usize, n: u64) -> usize
         out[at] = (48 + n) as u8;
         return at + 1;
     }
-    let next = print_number(out, at, n / 10);
-    out[next] = (48 + n % 10) as u8;
-    next + 1
+    if n < 100 {
+        return print_pair(out, at, n);
+    }
+    let next = print_number(out, at, n / 100);
+    print_pair(out, next, n % 100)
 }

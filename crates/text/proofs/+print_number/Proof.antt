@@ -4,6 +4,7 @@ use borrow.Author.Needs.{needs}
 use Prim.Native.Nat.{ℕ, _<_}
 use borrow.Fn.Kinds.{In}
 use borrow.Fn.PlainCycle.{Measures, is, falls, and}
+use Rattle.text.proofs.print_pair.Reads as pair
 use Rattle.text.proofs.print_number.Reads as print-number
 use Rattle.text.proofs.print_number.Kinds as print-number-kinds
 use Rattle.text.proofs.+print_number.Lts-print_number as print-number-lts
@@ -27,7 +28,7 @@ print-number-below t =
 
 pub +print-number-spec : {M : Type 1} → statement M
 +print-number-spec =
-    close μ-print-number λ t. print-number-lts.spec (print-number-below t, print-number.Post) (print-number-at t) print-number.Post
+    close μ-print-number λ t. print-number-lts.spec (pair.Asked, pair.Learnt, print-number-below t, print-number.Post) (print-number-at t) print-number.Post
     (λ c. search (needs, print-cases))
     (λ c. search (needs, print-cases))
     (λ c. search (needs, print-cases))
@@ -37,7 +38,7 @@ pub +print-number-spec : {M : Type 1} → statement M
     (λ c κs. search (needs, print-cases))
     (λ c. search (needs, print-cases))
     (λ c. search (needs, print-cases))
-    (λ c. search (needs, print-cases))
-    (λ c. search (needs, print-cases))
+    (λ c κs. search (needs, print-cases))
+    (λ c κs. search (needs, print-cases))
     (λ c. search (needs, print-cases))
     (λ c. search (needs, print-cases))
