@@ -6,15 +6,14 @@ use mathlib.Core.Bool.{Bool, true, false}
 use mathlib.Core.List.{List, [], _∷_, _++_, nil≢cons}
 use native.Mathlib.Omega.{arith}
 use lib.Dec.{eqb}
-use lib.ListN.{length, getD, take, drop, length-drop, drop-of-length-le}
+use lib.ListN.{length, getD, take, drop, length-drop}
 use borrow.Author.Tests.{eq-eqb, ne-eqb, eqb-true, eqb-false}
 use Rattle.buffers.specs.Choices.{pick}
-use Rattle.buffers.specs.Ranges.{Within}
 use Rattle.buffers.proofs.Tests.{either}
 use Rattle.text.specs.declared.Place.{Place}
 use Rattle.text.specs.Fields.{onFirst, fields, tabbed, fieldOf, tabAt, tabsIn, startOf, endOf, placeOf, partOf, Found}
 use Rattle.text.specs.Keys.{has}
-use Rattle.text.proofs.Scans.{next, rest-all}
+use Rattle.text.proofs.Scans.{next}
 
 -- ## The first byte and its field
 

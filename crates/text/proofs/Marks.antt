@@ -2,17 +2,15 @@
 use Prim.Native.Nat.{ℕ, zero, suc, _+_, _-_, _≤_, _<_}
 use mathlib.Core.Path.{_≡_, refl, sym, ap, _∙_}
 use mathlib.Core.Logic.{inl, inr}
-use mathlib.Core.Bool.{Bool, true, false}
 use mathlib.Core.List.{List, [], _∷_}
 use native.Mathlib.Omega.{arith}
 use lib.Dec.{eqb, ltb}
 use lib.ListN.{length, getD, set, drop, replicate, length-set, getD-replicate, drop-of-length-le}
 use lib.Seq.{drop-cons, getD-set-same, getD-set-other}
 use borrow.Author.Tests.{eq-eqb, ne-eqb, ltb-true, ltb-false, eqb-true, eqb-false}
-use Rattle.buffers.specs.Choices.{pick}
 use Rattle.buffers.proofs.Tests.{either}
 use Rattle.text.specs.declared.Place.{Place}
-use Rattle.text.specs.Fields.{fieldOf, tabAt, tabsIn, startOf, endOf, marksOf, placeOf, Split, Found}
+use Rattle.text.specs.Fields.{fieldOf, tabsIn, startOf, endOf, marksOf, placeOf, Split, Found}
 use Rattle.text.proofs.Scans.{next}
 use Rattle.text.proofs.Fields.{start-zero, end-tab, end-other, next-start, last-start, end-is, place-within}
 

@@ -6,8 +6,6 @@ use mathlib.Core.List.{List, [], _∷_, _++_, append-assoc}
 use native.Mathlib.Omega.{arith}
 use lib.ListN.{length, set, length-append, length-set}
 use lib.Dec.{ltb}
-use mir.Val.{Fits}
-use mir.Syntax.{w64}
 use borrow.Author.Tests.{lt-ltb, le-ltb, ltb-false}
 use Rattle.buffers.specs.Choices.{pick}
 use Rattle.buffers.specs.Writes.{Wrote}
@@ -65,20 +63,20 @@ pair-long n h = rw (digits-pair n h) (simp length-append)
 
 -- ## Writing them
 
-module _ (out : List ℕ) (a n : ℕ) where
-  pub pair-wrote : a + 2 ≤ length out → Wrote out a (pairOf n) 2 (set (set out a (48 + n / 10)) (a + 1) (48 + n % 10)) (a + 2)
-  pair-wrote h =
+module _ (out : List ℕ) (a : ℕ) where
+  pub pair-wrote : (n : ℕ) → a + 2 ≤ length out → Wrote out a (pairOf n) 2 (set (set out a (48 + n / 10)) (a + 1) (48 + n % 10)) (a + 2)
+  pair-wrote n h =
       let l = length-set out a (48 + n / 10) in
       let m = set out a (48 + n / 10) in
       let e : a + 1 + 1 ≡ a + 2 = omega arith in
       rw e at (wrote-both out a ((48 + n / 10) ∷ []) 1 m (a + 1) ((48 + n % 10) ∷ []) 1 (set m (a + 1) (48 + n % 10)) (a + 1 + 1) (omega arith)
       (wrote-byte out a (48 + n / 10) (omega arith)) (wrote-byte m (a + 1) (48 + n % 10) (omega arith)))
 
-  pub pair-room : a + 2 ≤ length out → a + 1 < length (set out a (48 + n / 10))
-  pair-room h = let l = length-set out a (48 + n / 10) in omega arith
+  pub pair-room : (x : ℕ) → a + 2 ≤ length out → a + 1 < length (set out a x)
+  pair-room x h = let l = length-set out a x in omega arith
 
-  pub pair-kept : length (set (set out a (48 + n / 10)) (a + 1) (48 + n % 10)) ≡ length out
-  pair-kept = length-set (set out a (48 + n / 10)) (a + 1) (48 + n % 10) ∙ length-set out a (48 + n / 10)
+  pub pair-kept : (x y : ℕ) → length (set (set out a x) (a + 1) y) ≡ length out
+  pair-kept x y = length-set (set out a x) (a + 1) y ∙ length-set out a x
 
 pub ruleset pair-cases = (pair-wrote, pair-room, pair-kept)
 
