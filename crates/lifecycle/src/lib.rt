@@ -124,17 +124,18 @@ fn copy_rule(
     let end = start + 64;
     let current = days[2 * at];
     let noncurrent = days[2 * at + 1];
-    put_rule(near, periods, to, &prefixes[start..end], current, noncurrent);
+    put_rule(
+        near,
+        periods,
+        to,
+        &prefixes[start..end],
+        current,
+        noncurrent,
+    );
 }
 
 // Chooses the rules that may begin a key with this first byte, and returns how many.
-fn choose(
-    prefixes: &[u8],
-    days: &[u64],
-    first: u8,
-    near: &mut [u8],
-    periods: &mut [u64],
-) -> usize
+fn choose(prefixes: &[u8], days: &[u64], first: u8, near: &mut [u8], periods: &mut [u64]) -> usize
     requires { ⌜ Rules (now prefixes) (now days) 8 × (length (now near) ≡ 512) × (length (now periods) ≡ 16) ⌝ }
     ensures { λ r. ⌜ Laid (now (near .exit)) (now (periods .exit)) r (keep (mayBegin first) (rulesIn (now (prefixes .entry)) (now (days .entry)) 8)) ⌝ }
 {
@@ -390,7 +391,16 @@ fn judge_rows(
     let mut i = 0;
     while i < used {
         let next = judge_next(
-            rows, keys, i, prefixes, days, near, periods, chosen, limits, instant,
+            rows,
+            keys,
+            i,
+            prefixes,
+            days,
+            near,
+            periods,
+            chosen,
+            limits,
+            instant,
         );
         fates[i] = next.fate;
         removed += removes(next.fate);
