@@ -48,12 +48,13 @@ module _ (line : List ℕ) (next instant : ℕ) (fates n b : List ℕ) (u : ℕ)
   fates-are : fatesIn (take (length (rowsOf n b u)) (j .fates)) ≡ fatesIn (take u (j .fates))
   fates-are = ap (λ (k : ℕ). fatesIn (take k (j .fates))) long
 
-  pub sweep-ready : passes.Judged n b u fates new next
+  pub sweep-ready : passes.Judged n b u fates gone new next
   sweep-ready =
       let g : gone ≡ total removes (fatesIn (take u fates)) = can .0 ∙ ap (total removes) fates-are in
       record {
         holds = h .held;
         each = h .fates-fit;
+        removed = g;
         markers = can .1 ∙ ap (total marks) fates-are;
         room = omega (arith, long, can .2, can .3);
         numbers = can .4;

@@ -51,7 +51,7 @@ pub fn apply_change(
             }
         }
         Change::Sweep(gone, new) => {
-            sweep::carry_out(rows, keys, used, fates, new, next, instant);
+            sweep::carry_out(rows, keys, used, fates, gone, new, next, instant);
             Progress {
                 used: used - gone + new,
                 next: next + new as u64,

@@ -6,12 +6,14 @@ use mathlib.Core.List.{List}
 use mathlib.Core.Option.{none}
 use native.Mathlib.Omega.{arith}
 use lib.Dec.{eqb, leb}
-use lib.ListN.{length, take}
+use lib.ListN.{length, take, drop}
 use Rattle.buffers.specs.Lists.{all}
 use Rattle.buffers.proofs.Tests.{and-i, and-l, and-r}
 use Rattle.buffers.proofs.Lists.{all-as}
 use Rattle.text.specs.Keys.{isPrefix}
 use Rattle.calendar.specs.Calendar.{latest}
+use Rattle.blocks.specs.Blocks.{isBlock}
+use Rattle.blocks.proofs.Blocks.{block-block}
 use Rattle.model.specs.Rows.{Row, soundRow}
 use Rattle.model.specs.Settings as model
 use Rattle.model.specs.Requests.{Setting, Verb, Set, Sweep}
@@ -23,8 +25,8 @@ use Rattle.model.proofs.SoundRows.{row-parts}
 use Rattle.model.proofs.Room.{length-swept}
 use Rattle.settings.specs.declared.Rule.{Rule}
 use Rattle.settings.specs.Meaning.{rulesMean}
-use Rattle.table.specs.Layout.{rowAt, capacity}
-use Rattle.table.proofs.Held.{rows-length, held-numbers, held-keys, held-first}
+use Rattle.table.specs.Layout.{rowAt, rowsOf, capacity}
+use Rattle.table.proofs.Held.{rows-length, held-numbers, held-keys, held-block, held-fit}
 use Rattle.search.proofs.Positions.{rows-row, all-row}
 use Rattle.lifecycle.specs.declared.Counts.{Counts}
 use Rattle.lifecycle.specs.Days.{fewDays}
@@ -70,14 +72,16 @@ module _ (s : State) (numbers keys : List ℕ) (now : ℕ) (rules : List Rule) (
       let b = held-keys h in
       let z = rows-length numbers keys (s .used) in
       record {
-        numbers = omega arith;
-        blocks = omega arith;
-        lengths = λ i l. held-first h i (rowAt numbers keys i) (omega arith);
-        instants = instants;
+        table = record { numbers = omega arith; blocks = omega arith; whole = λ i l. whole i (omega arith); instants = instants };
         prefixes = ready-rules .prefixes;
         days = sound-days (rulesMean rules) (ready-rules .rules-sound);
       }
     where
+      whole : (i : ℕ) → i < length (rowsOf numbers keys (s .used)) → isBlock (take 64 (drop (64 * i) keys)) ≡ true
+      whole i l =
+          let h = asked .ready .holds in
+          rw (held-block h i (rowAt numbers keys i) l) (block-block _ (held-fit h i (rowAt numbers keys i) l))
+
       instants : (i : ℕ) → i < s .used → rowAt numbers keys i .created ≤ latest
       instants i l =
           let e = all-row (soundRow (s .next) (s .time)) (rowsIn s numbers keys) i (rowAt numbers keys i) (asked .ready .rows-sound) (rows-row numbers keys (s .used) i l) in

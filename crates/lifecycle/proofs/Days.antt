@@ -1,26 +1,19 @@
 -- The least days decide: an action is due by some rule's days where it is by the least that the rules set.
-use Prim.Native.Nat.{ℕ, suc, _-_, _≤_, _<_}
+use Prim.Native.Nat.{ℕ, _≤_}
 use mathlib.Core.Path.{_≡_, refl, sym, ap, ap₂, _∙_}
 use mathlib.Core.Logic.{inl, inr}
 use mathlib.Core.Bool.{Bool, true, false, not, _&&_, _||_}
 use mathlib.Core.List.{List, [], _∷_}
 use native.Mathlib.Omega.{arith}
 use lib.Dec.{eqb, leb, ltb}
-use lib.ListN.{length, getD, take, drop, length-take}
-use lib.Seq.{drop-cons, drop-length}
 use borrow.Author.Tests.{ltb-true, ltb-false, leb-true, le-leb}
 use Rattle.buffers.specs.Lists.{all, begins}
 use Rattle.buffers.proofs.Tests.{either, clash, and-l, and-r}
-use Rattle.buffers.proofs.Lists.{same-path, all-as, all-keep}
+use Rattle.buffers.proofs.Lists.{all-as, all-keep}
 use Rattle.calendar.specs.Periods.{expiresAt}
-use Rattle.blocks.specs.Blocks.{blockOf, keyIn, isBlock}
 use Rattle.model.specs.Settings as model
 use Rattle.model.specs.Settings.{isSet}
 use Rattle.model.specs.Sweep.{applying, due}
-use Rattle.table.proofs.Lists.{all-at}
-use Rattle.settings.specs.declared.Rule.{Rule}
-use Rattle.settings.proofs.Encoding.{no-rule}
-use Rattle.settings.specs.Meaning.{ruleMeans, rulesMean, prefixesAre}
 use Rattle.lifecycle.specs.declared.Limits.{Limits}
 use Rattle.lifecycle.specs.Days.{lesser, least, limitsOf, tightened, over, fewDays}
 
@@ -77,13 +70,28 @@ over-last s t d r e = rw e
 pub limits-both : (a b c d : ℕ) → a ≡ c → b ≡ d → _≡_ {A = Limits} (record { current = a; noncurrent = b }) (record { current = c; noncurrent = d })
 limits-both a b c d e f = rw (e, f)
 
-limits-more : (u : model.Rule) (us : List model.Rule) (k : List ℕ) → tightened u k (limitsOf us k) ≡ limitsOf (u ∷ us) k
+lesser-none : (a b : ℕ) → eqb a 0 ≡ true → lesser a b ≡ b
+unfolding lesser
+lesser-none a b e = rw e
+
+pub limits-more : (u : model.Rule) (us : List model.Rule) (k : List ℕ) → tightened u k (limitsOf us k) ≡ limitsOf (u ∷ us) k
 unfolding tightened limitsOf
 limits-more u us k =
     elim (either (isSet u)) [
       | inl e ↦ elim (either (begins (u .prefix) k)) [ inl f ↦ simp (e, f) | inr f ↦ simp (e, f) ]
-      | inr e ↦ simp e
+      | inr e ↦
+          let z = not-false (eqb (u .currentDays) 0 && eqb (u .noncurrentDays) 0) e in
+          let c = and-l (eqb (u .currentDays) 0) _ z in
+          let n = and-r (eqb (u .currentDays) 0) _ z in
+          elim (either (begins (u .prefix) k)) [
+            | inl f ↦ simp (e, f, lesser-none (u .currentDays) (least (λ v. v .currentDays) (applying us k)) c, lesser-none (u .noncurrentDays) (least (λ v. v .noncurrentDays) (applying us k)) n)
+            | inr f ↦ simp (e, f)
+          ]
     ]
+  where
+    not-false : (b : Bool) → not b ≡ false → b ≡ true
+    not-false true h = refl
+    not-false false h = sym h
 
 lesser-most : (a b m : ℕ) → a ≤ m → b ≤ m → lesser a b ≤ m
 unfolding lesser
@@ -113,36 +121,3 @@ module _ (us : List model.Rule) (k : List ℕ) (l : Limits) (h : all fewDays us 
   noncurrent-most =
       rw e (least-most (λ u. u .noncurrentDays) 36500 (applying us k)
       (all-as fewDays _ (λ u f. and-r (leb (u .currentDays) 36500) _ f) (applying us k) (all-keep fewDays _ us h)))
-
--- ## The rules from the last to the first
-
--- a block's first byte is a length that fits
-pub block-short : (b : List ℕ) → isBlock b ≡ true → getD b 0 0 ≤ 63
-unfolding isBlock blockOf
-block-short b e =
-    let q : b ≡ blockOf (keyIn b) = same-path _ _ e in
-    let f : getD b 0 0 ≡ length (take 63 (keyIn b)) = ap (λ (l : List ℕ). getD l 0 0) q in
-    omega (arith, length-take 63 (keyIn b))
-
-pub begins-in : (p q k : List ℕ) (r : Bool) → r ≡ begins p k → p ≡ q → r ≡ begins q k
-begins-in p q k r e f = cc
-
-module _ (rules : List Rule) (long : length rules ≡ 8) where
-  pub prefix-at : (i : ℕ) → prefixesAre rules ≡ true → 0 < i → i ≤ 8 → isBlock (getD rules (i - 1) no-rule .prefix) ≡ true
-  prefix-at i e h k = all-at (λ u. isBlock (u .prefix)) rules (i - 1) no-rule (omega arith) e
-
-  pub limits-start : (k : List ℕ) → record { current = 0; noncurrent = 0 } ≡ limitsOf (rulesMean (drop 8 rules)) k
-  unfolding limitsOf
-  limits-start k = rw (ap (λ (n : ℕ). drop n rules) (sym long) ∙ drop-length rules)
-
-  pub limits-step : (k : List ℕ) (l r : Limits) (i : ℕ) → l ≡ limitsOf (rulesMean (drop i rules)) k → 0 < i → i ≤ 8
-      → r ≡ tightened (ruleMeans (getD rules (i - 1) no-rule)) k l → r ≡ limitsOf (rulesMean (drop (i - 1) rules)) k
-  limits-step k l r i e h g q =
-      let j : suc (i - 1) ≡ i = omega arith in
-      let d : drop (i - 1) rules ≡ getD rules (i - 1) no-rule ∷ drop i rules = drop-cons rules (i - 1) no-rule (omega arith) ∙ rw j in
-      q ∙ rw (e, d) (limits-more _ _ k)
-
-  pub limits-end : (k : List ℕ) (l : Limits) (i : ℕ) → l ≡ limitsOf (rulesMean (drop i rules)) k → i ≤ 0 → l ≡ limitsOf (rulesMean rules) k
-  limits-end k l i e h = let j : i ≡ 0 = omega arith in e ∙ rw j
-
-pub ruleset limits-cases = (prefix-at, limits-start, limits-step, limits-end)

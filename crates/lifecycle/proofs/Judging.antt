@@ -3,7 +3,7 @@ use Prim.Native.Nat.{ℕ, zero, suc, _+_, _-_, _*_, _≤_, _<_}
 use mathlib.Core.Path.{_≡_, refl, sym, ap, _∙_}
 use mathlib.Core.Bool.{Bool, true, false, not, _&&_, false≢true}
 use mathlib.Core.List.{List, [], _∷_, _++_, append-assoc, append-nil}
-use mathlib.Core.Option.{none}
+use mathlib.Core.Option.{Option, some, none}
 use native.Mathlib.Omega.{arith}
 use native.Mathlib.Numerals.{add-one}
 use lib.ListN.{length, getD, take, drop, set, length-set, drop-of-length-le}
@@ -14,22 +14,26 @@ use Rattle.buffers.specs.Lists.{all, same}
 use Rattle.buffers.specs.Ranges.{Within}
 use Rattle.buffers.proofs.Lists.{same-path}
 use Rattle.calendar.specs.Calendar.{latest}
+use Rattle.blocks.specs.Blocks.{keyIn, isBlock}
 use Rattle.model.specs.Rows.{Row, isData}
 use Rattle.model.specs.Settings as model
 use Rattle.model.specs.Locks.{locked}
 use Rattle.model.specs.Sweep.{applying, Fate, stays, goes, gains, currentFate, noncurrentFate, fate, marks, removes}
-use Rattle.settings.specs.declared.Rule.{Rule}
-use Rattle.settings.specs.Meaning.{rulesMean}
 use Rattle.table.specs.Layout.{rowAt, rowsOf}
 use Rattle.table.specs.Places.{rowFrom, numbersIn, keyAt}
 use Rattle.table.specs.declared.Numbers.{Numbers}
 use Rattle.table.proofs.Held.{rows-length, row-at}
 use Rattle.lifecycle.specs.declared.Limits.{Limits}
 use Rattle.lifecycle.specs.declared.Judged.{Judged}
-use Rattle.lifecycle.specs.Days.{least, limitsOf, over}
+use Rattle.lifecycle.specs.declared.Chosen.{Chosen}
+use Rattle.lifecycle.specs.declared.Counts.{Counts}
+use Rattle.lifecycle.specs.declared.Next.{Next}
+use Rattle.lifecycle.specs.Days.{limitsOf, over, fewDays}
+use Rattle.lifecycle.specs.Rules.{rulesIn, Laid, ChosenBy}
 use Rattle.lifecycle.specs.Fates.{fateOf, fatesIn, fates, total}
-use Rattle.lifecycle.specs.Judging.{currentBy, noncurrentBy, rowBefore, sameKey, Known, Keys, Judgeable, JudgedRow, JudgedRows}
+use Rattle.lifecycle.specs.Judging.{currentBy, noncurrentBy, rowBefore, sameKey, Known, KnownHere, Keys, Readable, JudgedRow, JudgedNext, JudgedRows}
 use Rattle.lifecycle.proofs.Days.{due-least, current-most, noncurrent-most}
+use Rattle.lifecycle.proofs.Rules.{block-short, part-first, applying-near, chosen-again, chosen-rules, chosen-few}
 use Rattle.lifecycle.proofs.Fates.{total-counted, fates-append, total-append}
 
 -- ## A row's fate by the least days
@@ -54,8 +58,25 @@ noncurrent-is us t y x = rw (due-least (y .created) t (λ u. u .noncurrentDays) 
 
 -- ## The key of the row before
 
-pub same-at : (a b p q : List ℕ) (r : Bool) → r ≡ same a b → a ≡ p → b ≡ q → r ≡ same p q
-same-at a b p q r e f g = cc
+-- the blocks of two rows, one behind the other
+module _ (b : List ℕ) (i : ℕ) (h : (i ≡ 0 → ⊥)) where
+  before-cut : take (64 * i - 64 * (i - 1)) (drop (64 * (i - 1)) b) ≡ take 64 (drop (64 * (i - 1)) b)
+  before-cut = let q : 64 * i - 64 * (i - 1) ≡ 64 = omega arith in rw q
+
+  own-cut : take (64 * i + 64 - 64 * i) (drop (64 * i) b) ≡ take 64 (drop (64 * i) b)
+  own-cut = let q : 64 * i + 64 - 64 * i ≡ 64 = omega arith in rw q
+
+  pub before-block : Keys b i → isBlock (take (64 * i - 64 * (i - 1)) (drop (64 * (i - 1)) b)) ≡ true
+  before-block k = rw before-cut (k .before)
+
+  pub own-block : Keys b i → isBlock (take (64 * i + 64 - 64 * i) (drop (64 * i) b)) ≡ true
+  own-block k = rw own-cut (k .own)
+
+  pub same-at : (r : Bool) → r ≡ same (keyIn (take (64 * i - 64 * (i - 1)) (drop (64 * (i - 1)) b))) (keyIn (take (64 * i + 64 - 64 * i) (drop (64 * i) b)))
+      → r ≡ same (keyAt b (i - 1)) (keyAt b i)
+  same-at r e = e ∙ rw (before-cut, own-cut)
+
+pub ruleset same-cases = (before-block, own-block, same-at)
 
 same-none : (b : List ℕ) → sameKey b 0 ≡ false
 unfolding sameKey
@@ -73,12 +94,15 @@ later b (suc i) r e t = omega arith
 
 -- ## The ways through judge_row
 
-module _ (n b : List ℕ) (i : ℕ) (rules : List Rule) (h : Judgeable n b (i + 1) rules) where
+pub key-short : (n b : List ℕ) (u i : ℕ) → Readable n b u → i < u → getD b (64 * i) 0 ≤ 63
+key-short n b u i h g = rw (part-first b (64 * i) 64 (omega arith)) (block-short (take 64 (drop (64 * i) b)) (h .whole i g))
+
+module _ (n b : List ℕ) (i : ℕ) (h : Readable n b (i + 1)) where
   pub own-length : getD b (64 * i) 0 ≤ 63
-  own-length = h .lengths i (omega arith)
+  own-length = key-short n b (i + 1) i h (omega arith)
 
   pub keys-ready : Keys b i
-  keys-ready = record { blocks = omega (arith, h .blocks); own = own-length; before = h .lengths (i - 1) (omega arith) }
+  keys-ready = record { blocks = omega (arith, h .blocks); own = h .whole i (omega arith); before = h .whole (i - 1) (omega arith) }
 
   pub own-created : (m : Numbers) → m ≡ numbersIn (take 8 (drop (8 * i) n)) → m .created ≤ latest
   own-created m e = rw e (h .instants i (omega arith))
@@ -86,19 +110,18 @@ module _ (n b : List ℕ) (i : ℕ) (rules : List Rule) (h : Judgeable n b (i + 
   pub newer-created : (m : Numbers) → m ≡ numbersIn (take 8 (drop (8 * (i - 1)) n)) → m .created ≤ latest
   newer-created m e = rw e (h .instants (i - 1) (omega arith))
 
-pub known-most : (n b : List ℕ) (i : ℕ) (rules : List Rule) (l : Limits) → Judgeable n b (i + 1) rules → Known (rulesMean rules) (rowBefore n b i) l → 1 ≤ i → l .noncurrent ≤ 36500
-known-most n b zero rules l h k g = absurd (omega arith)
-known-most n b (suc i) rules l h k g = noncurrent-most (rulesMean rules) (rowAt n b i .key) l (h .days) k
+pub known-most : (us : List model.Rule) (b : List ℕ) (i : ℕ) (l : Limits) (r : Bool) → all fewDays us ≡ true → KnownHere us b i l → r ≡ sameKey b i → r ≡ true → l .noncurrent ≤ 36500
+known-most us b i l r h k e t = noncurrent-most us (keyAt b i) l h (k .here (sym e ∙ t))
 
 module _ (us : List model.Rule) (t : ℕ) (n b : List ℕ) (m : Numbers) (f : ℕ) (r : Bool) where
   pub judged-later : (i : ℕ) (p : Numbers) (l : Limits) → m ≡ numbersIn (take 8 (drop (8 * i) n)) → r ≡ sameKey b i → r ≡ true
-      → p ≡ numbersIn (take 8 (drop (8 * (i - 1)) n)) → Known us (rowBefore n b i) l → ((k : List ℕ) → fateOf f ≡ noncurrentBy (l .noncurrent) (p .created) t (rowFrom m k))
+      → p ≡ numbersIn (take 8 (drop (8 * (i - 1)) n)) → KnownHere us b i l → ((k : List ℕ) → fateOf f ≡ noncurrentBy (l .noncurrent) (p .created) t (rowFrom m k))
       → JudgedRow us t (rowBefore n b i) (rowAt n b i) (record { limits = l; fate = f })
   judged-later zero p l em er et ep k g = absurd (false≢true (sym (same-none b) ∙ sym er ∙ et))
   judged-later (suc i) p l em er et ep k g =
       let s : same (keyAt b i) (keyAt b (suc i)) ≡ true = sym (same-some b i) ∙ sym er ∙ et in
       let o : suc i - 1 ≡ i = omega arith in
-      let q : l ≡ limitsOf us (keyAt b (suc i)) = k ∙ ap (limitsOf us) (same-path (keyAt b i) (keyAt b (suc i)) s) in
+      let q : l ≡ limitsOf us (keyAt b (suc i)) = k .here (sym er ∙ et) in
       record {
         fate-is = g (keyAt b (suc i)) ∙ rw (em, ep, o, q, s) (noncurrent-is us t (rowAt n b i) (rowAt n b (suc i)));
         limits-are = q;
@@ -138,6 +161,46 @@ pub record Judging (us : List model.Rule) (t : ℕ) (n b : List ℕ) (u : ℕ) (
   pub gone : Within removed (total removes (fatesIn (take i m))) i
   pub come : Within added (total marks (fatesIn (take i m))) i
 
+fate-by : (vs us : List model.Rule) (t : ℕ) (y : Option Row) (x : Row) → applying vs (x .key) ≡ applying us (x .key) → fate vs t y x ≡ fate us t y x
+fate-by vs us t none x e = rw e
+fate-by vs us t (some y) x e = rw e
+
+limits-by : (vs us : List model.Rule) (k : List ℕ) → applying vs k ≡ applying us k → limitsOf vs k ≡ limitsOf us k
+unfolding limitsOf
+limits-by vs us k e = rw e
+
+known-here : (us : List model.Rule) (n b : List ℕ) (i : ℕ) (l : Limits) → Known us (rowBefore n b i) l → sameKey b i ≡ true → l ≡ limitsOf us (keyAt b i)
+known-here us n b zero l k e = absurd (false≢true (sym (same-none b) ∙ e))
+known-here us n b (suc i) l k e = k ∙ ap (limitsOf us) (same-path (keyAt b i) (keyAt b (suc i)) (sym (same-some b i) ∙ e))
+
+-- ## The ways through judge_next
+
+module _ (us : List model.Rule) (n b : List ℕ) (i : ℕ) (near periods : List ℕ) (o : Chosen) (c : ChosenBy us near periods (getD b (64 * i + 1) 0) o) where
+  applying-chosen : applying (rulesIn near periods (o .count)) (keyAt b i) ≡ applying us (keyAt b i)
+  applying-chosen = ap (λ (vs : List model.Rule). applying vs (keyAt b i)) (c .laid .are) ∙ applying-near us b i
+
+  -- the limits of the row before are those by the rules that were chosen, where the keys are the same
+  pub known-near : (l : Limits) → Readable n b (i + 1) → Known us (rowBefore n b i) l → KnownHere (rulesIn near periods (o .count)) b i l
+  known-near l g k =
+      record { here = λ e. known-here us n b i l k e ∙ sym (limits-by (rulesIn near periods (o .count)) us (keyAt b i) applying-chosen) }
+
+  -- the row was judged by the rules that were chosen
+  pub judged-near : (t : ℕ) (j : Judged) → JudgedRow (rulesIn near periods (o .count)) t (rowBefore n b i) (rowAt n b i) j
+      → JudgedNext us t (rowBefore n b i) (rowAt n b i) near periods (record { limits = j .limits; fate = j .fate; chosen = o })
+  judged-near t j d =
+      record {
+        row =
+            record {
+              fate-is = d .fate-is ∙ fate-by (rulesIn near periods (o .count)) us t (rowBefore n b i) (rowAt n b i) applying-chosen;
+              limits-are = d .limits-are ∙ limits-by (rulesIn near periods (o .count)) us (keyAt b i) applying-chosen;
+            };
+        chosen-by = chosen-again us near periods (getD b (64 * i + 1) 0) o c;
+        long = c .laid .long;
+        periods-long = c .laid .days-long;
+      }
+
+pub ruleset next-cases = (known-near, judged-near, chosen-rules, chosen-few)
+
 count-more : (of : Fate → ℕ) (m : List ℕ) (i f c r : ℕ) → i < length m → Within c (total of (fatesIn (take i m))) i → Within r (of (fateOf f)) 1
     → Within (c + r) (total of (fatesIn (take (suc i) (set m i f)))) (suc i)
 count-more of m i f c r h x y =
@@ -147,7 +210,7 @@ count-more of m i f c r h x y =
     }
 
 module _ (us : List model.Rule) (t : ℕ) (n b : List ℕ) (u : ℕ) (entry m : List ℕ) (l : Limits) (removed added i : ℕ) where
-  pub judging-step : (j : Judged) (r s : ℕ) → Judging us t n b u entry m l removed added i → i < u → u ≤ length entry
+  judging-step : (j : Judged) (r s : ℕ) → Judging us t n b u entry m l removed added i → i < u → u ≤ length entry
       → JudgedRow us t (rowBefore n b i) (rowAt n b i) j → Within r (removes (fateOf (j .fate))) 1 → Within s (marks (fateOf (j .fate))) 1
       → Judging us t n b u entry (set m i (j .fate)) (j .limits) (removed + r) (added + s) (i + 1)
   judging-step j r s h g k d x y =
@@ -163,6 +226,11 @@ module _ (us : List model.Rule) (t : ℕ) (n b : List ℕ) (u : ℕ) (entry m : 
         gone = count-more removes m i (j .fate) removed r q (h .gone) x;
         come = count-more marks m i (j .fate) added s q (h .come) y;
       })
+
+  pub judging-next : (near periods : List ℕ) (o : Next) (r s : ℕ) → Judging us t n b u entry m l removed added i → i < u → u ≤ length entry
+      → JudgedNext us t (rowBefore n b i) (rowAt n b i) near periods o → Within r (removes (fateOf (o .fate))) 1 → Within s (marks (fateOf (o .fate))) 1
+      → Judging us t n b u entry (set m i (o .fate)) (o .limits) (removed + r) (added + s) (i + 1)
+  judging-next near periods o r s h g k d x y = judging-step (record { limits = o .limits; fate = o .fate }) r s h g k (d .row) x y
 
   pub judging-end : Judging us t n b u entry m l removed added i → u ≤ i → JudgedRows us t (rowsOf n b u) u entry m (record { removed = removed; added = added })
   judging-end h g =
@@ -187,15 +255,24 @@ judging-start us t n b u entry l =
       come = record { is = refl; most = omega arith };
     }
 
-pub judgeable-fewer : (n b : List ℕ) (u i : ℕ) (rules : List Rule) → Judgeable n b u rules → i < u → Judgeable n b (i + 1) rules
-judgeable-fewer n b u i rules h g =
+pub readable-fewer : (n b : List ℕ) (u i : ℕ) → Readable n b u → i < u → Readable n b (i + 1)
+readable-fewer n b u i h g =
     record {
       numbers = omega (arith, h .numbers);
       blocks = omega (arith, h .blocks);
-      lengths = λ k q. h .lengths k (omega arith);
+      whole = λ k q. h .whole k (omega arith);
       instants = λ k q. h .instants k (omega arith);
-      prefixes = h .prefixes;
-      days = h .days;
     }
 
-pub ruleset judge-cases = (judgeable-fewer, judging-start, judging-step, judging-end)
+pub ruleset judge-cases = (readable-fewer, judging-start, judging-next, judging-end)
+
+-- ## The rules by value
+
+pub laid-few : (p d : List ℕ) (us : List model.Rule) → Laid p d 8 us → all fewDays us ≡ true → all fewDays (rulesIn p d 8) ≡ true
+laid-few p d us l e = ap (all fewDays) (l .are) ∙ e
+
+pub judged-laid : (p d : List ℕ) (us : List model.Rule) (t : ℕ) (xs : List Row) (u : ℕ) (entry exit : List ℕ) (r : Counts) → Laid p d 8 us
+    → JudgedRows (rulesIn p d 8) t xs u entry exit r → JudgedRows us t xs u entry exit r
+judged-laid p d us t xs u entry exit r l h = rw (l .are) at h
+
+pub ruleset laid-cases = (laid-few, judged-laid)

@@ -6,7 +6,7 @@ use lib.Dec.{eqb, leb, ltb}
 use Rattle.buffers.specs.Choices.{pick}
 use Rattle.buffers.specs.Lists.{begins}
 use Rattle.calendar.specs.Periods.{expiresAt}
-use Rattle.model.specs.Settings.{Rule, isSet, isDays}
+use Rattle.model.specs.Settings.{Rule, isDays}
 use Rattle.model.specs.Sweep.{applying}
 use Rattle.lifecycle.specs.declared.Limits.{Limits}
 
@@ -27,10 +27,8 @@ limitsOf rules k =
 -- a key's limits with one rule more
 unfoldable pub tightened : Rule → List ℕ → Limits → Limits
 tightened u k l =
-    pick (isSet u)
-    (pick (begins (u .prefix) k)
+    pick (begins (u .prefix) k)
     (record { current = lesser (u .currentDays) (l .current); noncurrent = lesser (u .noncurrentDays) (l .noncurrent) })
-    l)
     l
 
 -- the days stand for an action, and they are over since an instant

@@ -5,11 +5,12 @@ use mathlib.Core.Bool.{Bool, true, false}
 use mathlib.Core.List.{List}
 use mathlib.Core.Option.{Option, some, none}
 use lib.Dec.{eqb}
-use lib.ListN.{length, getD, take}
+use lib.ListN.{length, take, drop}
 use Rattle.buffers.specs.Choices.{pick}
 use Rattle.buffers.specs.Lists.{all, same}
 use Rattle.buffers.specs.Ranges.{Within}
 use Rattle.calendar.specs.Calendar.{latest}
+use Rattle.blocks.specs.Blocks.{isBlock}
 use Rattle.model.specs.Rows.{Row, isData}
 use Rattle.model.specs.Settings as model
 use Rattle.model.specs.Locks.{locked}
@@ -21,7 +22,9 @@ use Rattle.table.specs.Places.{keyAt}
 use Rattle.lifecycle.specs.declared.Limits.{Limits}
 use Rattle.lifecycle.specs.declared.Judged.{Judged}
 use Rattle.lifecycle.specs.declared.Counts.{Counts}
+use Rattle.lifecycle.specs.declared.Next.{Next}
 use Rattle.lifecycle.specs.Days.{limitsOf, over, fewDays}
+use Rattle.lifecycle.specs.Rules.{ChosenBy}
 use Rattle.lifecycle.specs.Fates.{fateOf, fatesIn, fates}
 
 -- ## A row's fate by its key's days
@@ -55,22 +58,37 @@ Known us (some y) l = l ≡ limitsOf us (y .key)
 -- The key at a position can be read, and the one before it.
 pub record Keys (keys : List ℕ) (at : ℕ) : Type 0 where
   pub blocks : 64 * at + 64 ≤ length keys
-  pub own : getD keys (64 * at) 0 ≤ 63
-  pub before : getD keys (64 * (at - 1)) 0 ≤ 63
+  pub own : isBlock (take 64 (drop (64 * at) keys)) ≡ true
+  pub before : isBlock (take 64 (drop (64 * (at - 1)) keys)) ≡ true
 
--- The first `used` rows and the rules can be read, and no sum of an instant and days is too large.
-pub record Judgeable (rows keys : List ℕ) (used : ℕ) (rules : List Rule) : Type 0 where
+-- The first `used` rows can be read, and no sum of an instant and days is too large.
+pub record Readable (rows keys : List ℕ) (used : ℕ) : Type 0 where
   pub numbers : 8 * used ≤ length rows
   pub blocks : 64 * used ≤ length keys
-  pub lengths : (i : ℕ) → i < used → getD keys (64 * i) 0 ≤ 63
+  pub whole : (i : ℕ) → i < used → isBlock (take 64 (drop (64 * i) keys)) ≡ true
   pub instants : (i : ℕ) → i < used → rowAt rows keys i .created ≤ latest
+
+-- The first `used` rows and the rules can be judged.
+pub record Judgeable (rows keys : List ℕ) (used : ℕ) (rules : List Rule) : Type 0 where
+  pub table : Readable rows keys used
   pub prefixes : prefixesAre rules ≡ true
   pub days : all fewDays (rulesMean rules) ≡ true
+
+-- The limits are those of the row's key, where the row before has that key.
+pub record KnownHere (us : List model.Rule) (keys : List ℕ) (at : ℕ) (l : Limits) : Type 0 where
+  pub here : sameKey keys at ≡ true → l ≡ limitsOf us (keyAt keys at)
 
 -- A row's fate, and the limits of its key.
 pub record JudgedRow (us : List model.Rule) (now : ℕ) (y : Option Row) (x : Row) (r : Judged) : Type 0 where
   pub fate-is : fateOf (r .fate) ≡ fate us now y x
   pub limits-are : r .limits ≡ limitsOf us (x .key)
+
+-- The same, and the rules that may begin the row's key are chosen.
+pub record JudgedNext (us : List model.Rule) (now : ℕ) (y : Option Row) (x : Row) (near periods : List ℕ) (r : Next) : Type 0 where
+  pub row : JudgedRow us now y x (record { limits = r .limits; fate = r .fate })
+  pub chosen-by : ChosenBy us near periods (r .chosen .first) (r .chosen)
+  pub long : length near ≡ 512
+  pub periods-long : length periods ≡ 16
 
 -- The fates of all rows, and how many rows go and how many markers come.
 pub record JudgedRows (us : List model.Rule) (now : ℕ) (xs : List Row) (used : ℕ) (entry exit : List ℕ) (r : Counts) : Type 0 where

@@ -4,21 +4,21 @@ use table::Numbers;
 ghost use mathlib.Core.Path.{_≡_};
 ghost use mathlib.Core.Bool.{true};
 ghost use mathlib.Core.List.{List};
-ghost use Prim.Native.Nat.{ℕ, _+_, _≤_};
-ghost use lib.ListN.{length};
-ghost use Rattle.buffers.specs.Lists.{begins};
+ghost use Prim.Native.Nat.{ℕ, _+_, _*_, _≤_};
+ghost use lib.ListN.{length, getD, take, drop};
+ghost use Rattle.buffers.specs.Lists.{all, begins, keep, same};
 ghost use Rattle.buffers.specs.Ranges.{Within};
 ghost use Rattle.calendar.specs.Calendar.{latest};
 ghost use Rattle.blocks.specs.Blocks.{keyIn, isBlock};
 ghost use Rattle.model.specs.Locks.{locked};
-ghost use Rattle.model.specs.Settings.{isSet};
 ghost use Rattle.model.specs.Sweep.{marks, removes};
-ghost use Rattle.settings.specs.Meaning.{ruleMeans, rulesMean, prefixesAre};
+ghost use Rattle.settings.specs.Meaning.{rulesMean, prefixesAre};
 ghost use Rattle.table.specs.Layout.{rowAt, rowsOf};
-ghost use Rattle.table.specs.Places.{rowFrom};
-ghost use Rattle.lifecycle.specs.Days.{lesser, limitsOf, tightened, over};
+ghost use Rattle.table.specs.Places.{rowFrom, keyAt};
+ghost use Rattle.lifecycle.specs.Days.{lesser, limitsOf, tightened, over, fewDays};
+ghost use Rattle.lifecycle.specs.Rules.{ruleIn, rulesIn, mayBegin, Rules, Laid, RulePut, ChosenBy};
 ghost use Rattle.lifecycle.specs.Fates.{fateOf};
-ghost use Rattle.lifecycle.specs.Judging.{Keys, currentBy, noncurrentBy, rowBefore, sameKey, Known, Judgeable, JudgedRow, JudgedRows};
+ghost use Rattle.lifecycle.specs.Judging.{Keys, currentBy, noncurrentBy, rowBefore, sameKey, Known, KnownHere, Readable, Judgeable, JudgedRow, JudgedNext, JudgedRows};
 
 // The least days that the rules set for a key's rows, 0 for none.
 struct Limits {
@@ -30,6 +30,19 @@ struct Limits {
 struct Judged {
     limits: Limits,
     fate: u8,
+}
+
+// The rules that may begin a key with this first byte, so many.
+struct Chosen {
+    first: u8,
+    count: usize,
+}
+
+// A row's fate, the limits of its key, and the rules that may begin it.
+struct Next {
+    limits: Limits,
+    fate: u8,
+    chosen: Chosen,
 }
 
 // The rows that go and the markers that come.
@@ -54,52 +67,146 @@ fn lesser(a: u64, b: u64) -> u64
     b
 }
 
-// The rule has an action.
-fn is_set(rule: Rule) -> bool
-    ensures { λ r. ⌜ r ≡ isSet (ruleMeans rule) ⌝ }
+// Writes a rule at a place of the flat rules.
+fn put_rule(
+    prefixes: &mut [u8],
+    days: &mut [u64],
+    at: usize,
+    prefix: &[u8],
+    current: u64,
+    noncurrent: u64,
+)
+    requires { ⌜ (64 * at + 64 ≤ length (now prefixes)) × (2 * at + 2 ≤ length (now days)) × (length (now prefix) ≡ 64) ⌝ }
+    ensures { λ _. ⌜ RulePut at (now (prefix .entry)) current noncurrent (now (prefixes .entry)) (now (days .entry)) (now (prefixes .exit)) (now (days .exit)) ⌝ }
 {
-    !((rule.current == 0) & (rule.noncurrent == 0))
+    buffers::copy_in(prefixes, 64 * at, prefix);
+    days[2 * at] = current;
+    days[2 * at + 1] = noncurrent;
 }
 
-// The prefix in 64 bytes begins the key.
-fn begins_with(prefix: [u8; 64], key: &[u8]) -> bool
-    requires { ⌜ isBlock prefix ≡ true ⌝ }
-    ensures { λ r. ⌜ r ≡ begins (keyIn prefix) (now (key .entry)) ⌝ }
+// Lays the eight rules flat. Handing them on by value would copy them for each key.
+fn lay_rules(rules: [Rule; 8], prefixes: &mut [u8], days: &mut [u64])
+    requires { ⌜ (prefixesAre rules ≡ true) × (length (now prefixes) ≡ 512) × (length (now days) ≡ 16) ⌝ }
+    ensures { λ _. ⌜ Laid (now (prefixes .exit)) (now (days .exit)) 8 (rulesMean rules) ⌝ }
 {
-    text::begins_with(key, blocks::key_in(&prefix))
+    let mut n = 0;
+    while n < 8 {
+        let rule = rules[7 - n];
+        let prefix = rule.prefix;
+        put_rule(prefixes, days, n, &prefix, rule.current, rule.noncurrent);
+        n += 1;
+    }
+}
+
+// The rule at a place is set, and its prefix may begin a key with this first byte.
+fn may_begin(prefixes: &[u8], days: &[u64], at: usize, first: u8) -> bool
+    requires { ⌜ Rules (now prefixes) (now days) (at + 1) ⌝ }
+    ensures { λ r. ⌜ r ≡ mayBegin first (ruleIn (now (prefixes .entry)) (now (days .entry)) at) ⌝ }
+{
+    let set = !((days[2 * at] == 0) & (days[2 * at + 1] == 0));
+    set & ((prefixes[64 * at] == 0) | (prefixes[64 * at + 1] == first))
+}
+
+// Copies the rule at a place of the flat rules to a place of others.
+fn copy_rule(
+    prefixes: &[u8],
+    days: &[u64],
+    at: usize,
+    near: &mut [u8],
+    periods: &mut [u64],
+    to: usize,
+)
+    requires { ⌜ Rules (now prefixes) (now days) (at + 1) ⌝ }
+    requires { ⌜ (64 * to + 64 ≤ length (now near)) × (2 * to + 2 ≤ length (now periods)) ⌝ }
+    ensures { λ _. ⌜ RulePut to (take 64 (drop (64 * at) (now (prefixes .entry)))) (getD (now (days .entry)) (2 * at) 0) (getD (now (days .entry)) (2 * at + 1) 0) (now (near .entry)) (now (periods .entry)) (now (near .exit)) (now (periods .exit)) ⌝ }
+{
+    let start = 64 * at;
+    let end = start + 64;
+    let current = days[2 * at];
+    let noncurrent = days[2 * at + 1];
+    put_rule(
+        near,
+        periods,
+        to,
+        &prefixes[start..end],
+        current,
+        noncurrent,
+    );
+}
+
+// Chooses the rules that may begin a key with this first byte, and returns how many.
+fn choose(prefixes: &[u8], days: &[u64], first: u8, near: &mut [u8], periods: &mut [u64]) -> usize
+    requires { ⌜ Rules (now prefixes) (now days) 8 × (length (now near) ≡ 512) × (length (now periods) ≡ 16) ⌝ }
+    ensures { λ r. ⌜ Laid (now (near .exit)) (now (periods .exit)) r (keep (mayBegin first) (rulesIn (now (prefixes .entry)) (now (days .entry)) 8)) ⌝ }
+{
+    let mut n = 0;
+    let mut i = 0;
+    while i < 8 {
+        let at = i;
+        i += 1;
+        if may_begin(prefixes, days, at, first) {
+            copy_rule(prefixes, days, at, near, periods, n);
+            n += 1;
+        }
+    }
+    n
+}
+
+// Chooses the rules for a first byte, unless they are chosen for it already. Keys are in order, so that few first bytes follow each other.
+fn choose_for(
+    prefixes: &[u8],
+    days: &[u64],
+    first: u8,
+    near: &mut [u8],
+    periods: &mut [u64],
+    chosen: Chosen,
+) -> Chosen
+    requires { ⌜ Rules (now prefixes) (now days) 8 ⌝ }
+    requires { ⌜ ChosenBy (rulesIn (now prefixes) (now days) 8) (now near) (now periods) (chosen .first) chosen ⌝ }
+    ensures { λ r. ⌜ ChosenBy (rulesIn (now (prefixes .entry)) (now (days .entry)) 8) (now (near .exit)) (now (periods .exit)) first r ⌝ }
+{
+    if chosen.first == first {
+        return chosen;
+    }
+    let count = choose(prefixes, days, first, near, periods);
+    Chosen { first, count }
+}
+
+// The prefix at a place begins the key.
+fn begins_at(prefixes: &[u8], at: usize, key: &[u8]) -> bool
+    requires { ⌜ (64 * at + 64 ≤ length (now prefixes)) × (getD (now prefixes) (64 * at) 0 ≤ 63) ⌝ }
+    ensures { λ r. ⌜ r ≡ begins (keyAt (now (prefixes .entry)) at) (now (key .entry)) ⌝ }
+{
+    text::begins_with(key, table::key_at(prefixes, at))
 }
 
 // A key's limits with one rule more.
-fn tighten(rule: Rule, key: &[u8], limits: Limits) -> Limits
-    requires { ⌜ isBlock (rule .prefix) ≡ true ⌝ }
-    ensures { λ r. ⌜ r ≡ tightened (ruleMeans rule) (now (key .entry)) limits ⌝ }
+fn tighten(prefixes: &[u8], days: &[u64], at: usize, key: &[u8], limits: Limits) -> Limits
+    requires { ⌜ Rules (now prefixes) (now days) (at + 1) ⌝ }
+    ensures { λ r. ⌜ r ≡ tightened (ruleIn (now (prefixes .entry)) (now (days .entry)) at) (now (key .entry)) limits ⌝ }
 {
-    if is_set(rule) {
-        let prefix = rule.prefix;
-        if begins_with(prefix, key) {
-            return Limits {
-                current: lesser(rule.current, limits.current),
-                noncurrent: lesser(rule.noncurrent, limits.noncurrent),
-            };
-        }
+    if begins_at(prefixes, at, key) {
+        return Limits {
+            current: lesser(days[2 * at], limits.current),
+            noncurrent: lesser(days[2 * at + 1], limits.noncurrent),
+        };
     }
     limits
 }
 
-// The limits of a key. The prefix of each rule with an action is compared once.
-fn limits_of(rules: [Rule; 8], key: &[u8]) -> Limits
-    requires { ⌜ prefixesAre rules ≡ true ⌝ }
-    ensures { λ r. ⌜ r ≡ limitsOf (rulesMean rules) (now (key .entry)) ⌝ }
+// The limits of a key by the first n rules.
+fn limits_of(prefixes: &[u8], days: &[u64], n: usize, key: &[u8]) -> Limits
+    requires { ⌜ Rules (now prefixes) (now days) n ⌝ }
+    ensures { λ r. ⌜ r ≡ limitsOf (rulesIn (now (prefixes .entry)) (now (days .entry)) n) (now (key .entry)) ⌝ }
 {
     let mut limits = Limits {
         current: 0,
         noncurrent: 0,
     };
-    let mut i = 8;
-    while 0 < i {
-        i -= 1;
-        let rule = rules[i];
-        limits = tighten(rule, key, limits);
+    let mut i = 0;
+    while i < n {
+        limits = tighten(prefixes, days, i, key, limits);
+        i += 1;
     }
     limits
 }
@@ -150,6 +257,22 @@ fn noncurrent_fate(n: Numbers, days: u64, since: u64, instant: u64) -> u8
     0
 }
 
+// The two blocks hold one key. Words are compared up to the key's end; the first that differs decides.
+fn same_block(a: &[u8], b: &[u8]) -> bool
+    requires { ⌜ (isBlock (now a) ≡ true) × (isBlock (now b) ≡ true) ⌝ }
+    ensures { λ r. ⌜ r ≡ same (keyIn (now (a .entry))) (keyIn (now (b .entry))) ⌝ }
+{
+    let n = a[0] as usize;
+    let mut i = 0;
+    while i <= n {
+        if buffers::word_at(a, i) != buffers::word_at(b, i) {
+            return false;
+        }
+        i += 8;
+    }
+    true
+}
+
 // The row has the key of the row before it.
 fn same_key(keys: &[u8], at: usize) -> bool
     requires { ⌜ Keys (now keys) at ⌝ }
@@ -158,30 +281,36 @@ fn same_key(keys: &[u8], at: usize) -> bool
     if at == 0 {
         return false;
     }
-    text::is_word(table::key_at(keys, at - 1), table::key_at(keys, at))
+    let before = 64 * (at - 1);
+    let own = 64 * at;
+    let end = own + 64;
+    same_block(&keys[before..own], &keys[own..end])
 }
 
-// Judges the row at a position; the limits are those of the row before it.
+// Judges the row at a position by the first n rules; the limits are those of the row before it.
 fn judge_row(
     rows: &[u64],
     keys: &[u8],
     at: usize,
-    rules: [Rule; 8],
+    near: &[u8],
+    periods: &[u64],
+    n: usize,
     limits: Limits,
     instant: u64,
 ) -> Judged
-    requires { ⌜ Judgeable (now rows) (now keys) (at + 1) rules ⌝ }
-    requires { ⌜ Known (rulesMean rules) (rowBefore (now rows) (now keys) at) limits ⌝ }
-    ensures { λ r. ⌜ JudgedRow (rulesMean rules) instant (rowBefore (now (rows .entry)) (now (keys .entry)) at) (rowAt (now (rows .entry)) (now (keys .entry)) at) r ⌝ }
+    requires { ⌜ Readable (now rows) (now keys) (at + 1) × Rules (now near) (now periods) n ⌝ }
+    requires { ⌜ all fewDays (rulesIn (now near) (now periods) n) ≡ true ⌝ }
+    requires { ⌜ KnownHere (rulesIn (now near) (now periods) n) (now keys) at limits ⌝ }
+    ensures { λ r. ⌜ JudgedRow (rulesIn (now (near .entry)) (now (periods .entry)) n) instant (rowBefore (now (rows .entry)) (now (keys .entry)) at) (rowAt (now (rows .entry)) (now (keys .entry)) at) r ⌝ }
 {
-    let n = table::numbers_at(rows, at);
+    let numbers = table::numbers_at(rows, at);
     if same_key(keys, at) {
         let newer = table::numbers_at(rows, at - 1);
-        let fate = noncurrent_fate(n, limits.noncurrent, newer.created, instant);
+        let fate = noncurrent_fate(numbers, limits.noncurrent, newer.created, instant);
         return Judged { limits, fate };
     }
-    let own = limits_of(rules, table::key_at(keys, at));
-    let fate = current_fate(n, own.current, instant);
+    let own = limits_of(near, periods, n, table::key_at(keys, at));
+    let fate = current_fate(numbers, own.current, instant);
     Judged { limits: own, fate }
 }
 
@@ -205,6 +334,100 @@ fn marks(fate: u8) -> usize
     0
 }
 
+// Judges the row at a position by the rules that may begin its key.
+fn judge_next(
+    rows: &[u64],
+    keys: &[u8],
+    at: usize,
+    prefixes: &[u8],
+    days: &[u64],
+    near: &mut [u8],
+    periods: &mut [u64],
+    chosen: Chosen,
+    limits: Limits,
+    instant: u64,
+) -> Next
+    requires { ⌜ Readable (now rows) (now keys) (at + 1) × Rules (now prefixes) (now days) 8 ⌝ }
+    requires { ⌜ all fewDays (rulesIn (now prefixes) (now days) 8) ≡ true ⌝ }
+    requires { ⌜ ChosenBy (rulesIn (now prefixes) (now days) 8) (now near) (now periods) (chosen .first) chosen ⌝ }
+    requires { ⌜ Known (rulesIn (now prefixes) (now days) 8) (rowBefore (now rows) (now keys) at) limits ⌝ }
+    ensures { λ r. ⌜ JudgedNext (rulesIn (now (prefixes .entry)) (now (days .entry)) 8) instant (rowBefore (now (rows .entry)) (now (keys .entry)) at) (rowAt (now (rows .entry)) (now (keys .entry)) at) (now (near .exit)) (now (periods .exit)) r ⌝ }
+{
+    let own = choose_for(prefixes, days, keys[64 * at + 1], near, periods, chosen);
+    let judged = judge_row(rows, keys, at, near, periods, own.count, limits, instant);
+    let of = judged.limits;
+    Next {
+        limits: of,
+        fate: judged.fate,
+        chosen: own,
+    }
+}
+
+// Judges every row by the rules that may begin its key, and counts.
+fn judge_rows(
+    rows: &[u64],
+    keys: &[u8],
+    used: usize,
+    prefixes: &[u8],
+    days: &[u64],
+    near: &mut [u8],
+    periods: &mut [u64],
+    start: Chosen,
+    instant: u64,
+    fates: &mut [u8],
+) -> Counts
+    requires { ⌜ Readable (now rows) (now keys) used × Rules (now prefixes) (now days) 8 × (used ≤ length (now fates)) ⌝ }
+    requires { ⌜ all fewDays (rulesIn (now prefixes) (now days) 8) ≡ true ⌝ }
+    requires { ⌜ ChosenBy (rulesIn (now prefixes) (now days) 8) (now near) (now periods) (start .first) start ⌝ }
+    ensures { λ r. ⌜ JudgedRows (rulesIn (now (prefixes .entry)) (now (days .entry)) 8) instant (rowsOf (now (rows .entry)) (now (keys .entry)) used) used (now (fates .entry)) (now (fates .exit)) r ⌝ }
+{
+    let mut chosen = start;
+    let mut limits = Limits {
+        current: 0,
+        noncurrent: 0,
+    };
+    let mut removed = 0;
+    let mut added = 0;
+    let mut i = 0;
+    while i < used {
+        let next = judge_next(
+            rows,
+            keys,
+            i,
+            prefixes,
+            days,
+            near,
+            periods,
+            chosen,
+            limits,
+            instant,
+        );
+        fates[i] = next.fate;
+        removed += removes(next.fate);
+        added += marks(next.fate);
+        let own = next.limits;
+        limits = own;
+        let by = next.chosen;
+        chosen = by;
+        i += 1;
+    }
+    Counts { removed, added }
+}
+
+// Room for the prefixes of eight rules.
+fn no_prefixes() -> [u8; 512]
+    ensures { λ r. ⌜ length r ≡ 512 ⌝ }
+{
+    [0u8; 512]
+}
+
+// Room for the days of eight rules.
+fn no_days() -> [u64; 16]
+    ensures { λ r. ⌜ length r ≡ 16 ⌝ }
+{
+    [0u64; 16]
+}
+
 // Judges every row, each key's rules once, and counts. A fate is 0 for a row that stays, 1 for one that goes, 2 for one that gains a marker.
 pub fn judge(
     rows: &[u64],
@@ -218,21 +441,23 @@ pub fn judge(
     requires { ⌜ used ≤ length (now fates) ⌝ }
     ensures { λ r. ⌜ JudgedRows (rulesMean rules) instant (rowsOf (now (rows .entry)) (now (keys .entry)) used) used (now (fates .entry)) (now (fates .exit)) r ⌝ }
 {
-    let mut limits = Limits {
-        current: 0,
-        noncurrent: 0,
-    };
-    let mut removed = 0;
-    let mut added = 0;
-    let mut i = 0;
-    while i < used {
-        let judged = judge_row(rows, keys, i, rules, limits, instant);
-        fates[i] = judged.fate;
-        removed += removes(judged.fate);
-        added += marks(judged.fate);
-        let own = judged.limits;
-        limits = own;
-        i += 1;
-    }
-    Counts { removed, added }
+    let mut prefixes = no_prefixes();
+    let mut days = no_days();
+    lay_rules(rules, &mut prefixes, &mut days);
+    let mut near = no_prefixes();
+    let mut periods = no_days();
+    let count = choose(&prefixes, &days, 0, &mut near, &mut periods);
+    let start = Chosen { first: 0, count };
+    judge_rows(
+        rows,
+        keys,
+        used,
+        &prefixes,
+        &days,
+        &mut near,
+        &mut periods,
+        start,
+        instant,
+        fates,
+    )
 }

@@ -79,6 +79,15 @@ kept-length fs xs e = let q = count fs xs e in omega arith
         let l = length-append (unlessGone f x) (kept fs xs) in
         omega arith
 
+-- where no row goes, all are kept
+pub kept-all : {A : Type 0} (fs : List Fate) (xs : List A) → length xs ≡ length fs → total removes fs ≡ 0 → kept fs xs ≡ xs
+kept-all [] [] e z = refl
+kept-all [] (x ∷ xs) e z = absurd (omega arith)
+kept-all (f ∷ fs) [] e z = refl
+kept-all {A} (stays ∷ fs) (x ∷ xs) e z = ap (λ (l : List A). x ∷ l) (kept-all fs xs (omega arith) (omega arith))
+kept-all (goes ∷ fs) (x ∷ xs) e z = absurd (omega arith)
+kept-all {A} (gains ∷ fs) (x ∷ xs) e z = ap (λ (l : List A). x ∷ l) (kept-all fs xs (omega arith) (omega arith))
+
 -- the markers are those of the fates that are kept
 pub kept-marks : (fs : List Fate) → total marks (kept fs fs) ≡ total marks fs
 kept-marks [] = refl

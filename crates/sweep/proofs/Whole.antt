@@ -1,17 +1,28 @@
 -- The two passes, one after the other.
-use Prim.Native.Nat.{ℕ, _-_}
+use Prim.Native.Nat.{ℕ, _-_, _≤_}
 use mathlib.Core.Path.{_≡_, refl, sym, ap, _∙_}
 use mathlib.Core.List.{List}
 use native.Mathlib.Omega.{arith}
 use lib.ListN.{length, take}
 use lib.Seq.{length-take-le}
+use Rattle.model.specs.Sweep.{removes}
 use Rattle.table.specs.Layout.{Holds, rowsOf, capacity}
 use Rattle.table.proofs.Held.{rows-length, held-capacity, held-rows, held-again}
-use Rattle.lifecycle.specs.Fates.{carriedOut}
+use Rattle.lifecycle.specs.Fates.{total, carriedOut}
 use Rattle.sweep.specs.Passes.{kept, fatesOf, Judged, Thinned, Left}
-use Rattle.sweep.proofs.Passes.{fates-length, kept-length, two-passes}
+use Rattle.sweep.proofs.Passes.{fates-length, kept-length, kept-all, two-passes}
 
-module _ (n b : List ℕ) (used : ℕ) (m : List ℕ) (added next : ℕ) (h : Judged n b used m added next) (n₁ b₁ : List ℕ) (left : ℕ)
+-- No row goes.
+pub none-goes : (n b : List ℕ) (used : ℕ) (m : List ℕ) (gone : ℕ) → Holds (capacity b) (rowsOf n b used) n b → used ≤ length m
+    → gone ≡ total removes (fatesOf used m) → gone ≡ 0 → Left (capacity b) (kept (fatesOf used m) (rowsOf n b used)) n b used
+none-goes n b used m gone h g e z =
+    let l = rows-length n b used in
+    let f = fates-length (take used m) in
+    let t = length-take-le used m g in
+    let k : kept (fatesOf used m) (rowsOf n b used) ≡ rowsOf n b used = kept-all (fatesOf used m) (rowsOf n b used) (omega arith) (sym e ∙ z) in
+    rw k (record { holds = h; many = sym l })
+
+module _ (n b : List ℕ) (used : ℕ) (m : List ℕ) (gone added next : ℕ) (h : Judged n b used m gone added next) (n₁ b₁ : List ℕ) (left : ℕ)
     (d : Left (capacity b) (kept (fatesOf used m) (rowsOf n b used)) n₁ b₁ left) where
   fates-many : length (fatesOf used m) ≡ used
   fates-many = fates-length (take used m) ∙ length-take-le used m (h .each)

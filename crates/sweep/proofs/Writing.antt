@@ -1,12 +1,13 @@
 -- Laws of a row read into arrays and written again.
 use Prim.Native.Nat.{ℕ, _+_, _-_, _*_, _≤_}
-use mathlib.Core.Path.{_≡_, refl, ap, _∙_}
-use mathlib.Core.List.{List, [], _++_, append-nil}
+use mathlib.Core.Path.{_≡_, refl, sym, ap, _∙_}
+use mathlib.Core.List.{List, [], _++_, append-nil, append-assoc}
 use native.Mathlib.Omega.{arith}
-use lib.ListN.{length, take, drop, length-take, length-drop, drop-of-length-le}
-use Rattle.buffers.specs.Writes.{Wrote}
+use lib.ListN.{length, take, drop, length-take, length-drop, drop-of-length-le, take-append-drop}
+use lib.Seq.{drop-drop}
+use Rattle.buffers.specs.Writes.{Wrote, placed}
 use Rattle.buffers.proofs.Writes.{placed-twice}
-use Rattle.sweep.specs.Passes.{Put}
+use Rattle.sweep.specs.Passes.{Place, Put}
 
 -- An array that is written whole holds what was written.
 pub read-whole : (zeros l : List ℕ) (a k m r : ℕ) (out : List ℕ) → Wrote zeros 0 (take (a + k - a) (drop a l)) m out r → length zeros ≡ k → a + k ≤ length l
@@ -25,7 +26,18 @@ put-as at x y xs ys n b n′ b′ p e f = record { numbers-are = p .numbers-are 
 pub put-as-both : (at : ℕ) (f x y xs ys n b n′ b′ : List ℕ) → Put at (f ++ x) (y ++ y) n b n′ b′ → x ≡ xs → y ≡ ys → Put at (f ++ xs) (ys ++ ys) n b n′ b′
 put-as-both at f x y xs ys n b n′ b′ p e h = record { numbers-are = p .numbers-are ∙ rw e; keys-are = p .keys-are ∙ rw h }
 
-pub ruleset put-cases = (refl, put-as)
+-- A row in place already.
+placed-same : (l : List ℕ) (a k : ℕ) → a + k ≤ length l → l ≡ placed l a (take k (drop a l))
+placed-same l a k h =
+    let s : length (take k (drop a l)) ≡ k = simp (length-take, length-drop) (omega arith) in
+    let d : drop (a + k) l ≡ drop k (drop a l) = sym (drop-drop k a l) in
+    rw (s, d, append-assoc, take-append-drop k (drop a l), take-append-drop a l)
+
+pub put-same : (from to : ℕ) (n b : List ℕ) → from ≡ to → Place from n b → Put to (take 8 (drop (8 * from) n)) (take 64 (drop (64 * from) b)) n b n b
+put-same from to n b e p =
+    rw (← e) (record { numbers-are = placed-same n (8 * from) 8 (p .numbers); keys-are = placed-same b (64 * from) 64 (p .block) })
+
+pub ruleset put-cases = (refl, put-as, put-same)
 
 -- Two rows, the second behind the first, are one piece.
 pub put-twice : (at : ℕ) (x y x₂ y₂ n b n₁ b₁ n₂ b₂ : List ℕ) → Put at x y n b n₁ b₁ → Put (at + 1) x₂ y₂ n₁ b₁ n₂ b₂

@@ -25,10 +25,11 @@ kept (f ∷ fs) (x ∷ xs) = unlessGone f x ++ kept fs xs
 abbrev pub fatesOf : ℕ → List ℕ → List Fate
 fatesOf used fates = fatesIn (take used fates)
 
--- What carrying out asks: the buffers hold the rows, each has its fate, the markers are counted, there is room and there are numbers for them.
-pub record Judged (rows keys : List ℕ) (used : ℕ) (fates : List ℕ) (added next : ℕ) : Type 0 where
+-- What carrying out asks: the buffers hold the rows, each has its fate, the rows that go and the markers are counted, there is room and there are numbers for them.
+pub record Judged (rows keys : List ℕ) (used : ℕ) (fates : List ℕ) (gone added next : ℕ) : Type 0 where
   pub holds : Holds (capacity keys) (rowsOf rows keys used) rows keys
   pub each : used ≤ length fates
+  pub removed : gone ≡ total removes (fatesOf used fates)
   pub markers : added ≡ total marks (fatesOf used fates)
   pub room : used - total removes (fatesOf used fates) + added ≤ capacity keys
   pub numbers : next + added ≤ 4294967296

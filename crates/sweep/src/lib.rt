@@ -4,9 +4,9 @@ ghost use mathlib.Core.List.{[], _++_};
 ghost use Prim.Native.Nat.{_+_, _-_, _*_, _≤_};
 ghost use lib.ListN.{length, take, drop, replicate};
 ghost use Rattle.buffers.specs.Writes.{Wrote};
-ghost use Rattle.model.specs.Sweep.{marker};
+ghost use Rattle.model.specs.Sweep.{marker, removes};
 ghost use Rattle.table.specs.Layout.{Holds, numbersOfRow, rowsOf, capacity};
-ghost use Rattle.lifecycle.specs.Fates.{carriedOut};
+ghost use Rattle.lifecycle.specs.Fates.{total, carriedOut};
 ghost use Rattle.sweep.specs.Passes.{kept, fatesOf, Judged, Thinned, Left, Place, Put};
 
 // Copies all of `src` into `out` from `at` on, and returns the place after it.
@@ -53,11 +53,14 @@ fn put_row(rows: &mut [u64], keys: &mut [u8], at: usize, numbers: [u64; 8], bloc
     buffers::copy_in(keys, 64 * at, &block);
 }
 
-// Copies the row at one place to another.
+// Copies the row at one place to another; a row that is in place already is left as it is.
 fn copy_row(rows: &mut [u64], keys: &mut [u8], from: usize, to: usize)
     requires { ⌜ Place from (now rows) (now keys) × Place to (now rows) (now keys) ⌝ }
     ensures { λ _. ⌜ Put to (take 8 (drop (8 * from) (now (rows .entry)))) (take 64 (drop (64 * from) (now (keys .entry)))) (now (rows .entry)) (now (keys .entry)) (now (rows .exit)) (now (keys .exit)) ⌝ }
 {
+    if from == to {
+        return;
+    }
     let numbers = numbers_in(rows, from);
     let block = block_in(keys, from);
     put_row(rows, keys, to, numbers, block);
@@ -151,6 +154,18 @@ fn remove_rows(rows: &mut [u64], keys: &mut [u8], used: usize, fates: &[u8]) -> 
     left
 }
 
+// Leaves out the rows that go, if any, and returns how many are left.
+fn thin(rows: &mut [u64], keys: &mut [u8], used: usize, fates: &[u8], gone: usize) -> usize
+    requires { ⌜ Holds (capacity (now keys)) (rowsOf (now rows) (now keys) used) (now rows) (now keys) × (used ≤ length (now fates)) ⌝ }
+    requires { ⌜ gone ≡ total removes (fatesOf used (now fates)) ⌝ }
+    ensures { λ r. ⌜ Left (capacity (now (keys .entry))) (kept (fatesOf used (now (fates .entry))) (rowsOf (now (rows .entry)) (now (keys .entry)) used)) (now (rows .exit)) (now (keys .exit)) r ⌝ }
+{
+    if gone == 0 {
+        return used;
+    }
+    remove_rows(rows, keys, used, fates)
+}
+
 // Puts markers in front of the rows that gain one, from the last to the first. Each row is copied at most once.
 fn insert_markers(
     rows: &mut [u64],
@@ -189,13 +204,14 @@ pub fn carry_out(
     keys: &mut [u8],
     used: usize,
     fates: &[u8],
+    gone: usize,
     added: usize,
     next: u64,
     stamp: u64,
 )
-    requires { ⌜ Judged (now rows) (now keys) used (now fates) added next ⌝ }
+    requires { ⌜ Judged (now rows) (now keys) used (now fates) gone added next ⌝ }
     ensures { λ _. ⌜ Holds (capacity (now (keys .entry))) (carriedOut stamp next (fatesOf used (now (fates .entry))) (rowsOf (now (rows .entry)) (now (keys .entry)) used)) (now (rows .exit)) (now (keys .exit)) ⌝ }
 {
-    let left = remove_rows(rows, keys, used, fates);
+    let left = thin(rows, keys, used, fates, gone);
     insert_markers(rows, keys, left, used, fates, added, next, stamp);
 }

@@ -11,7 +11,7 @@ judge-row-spec =
     (λ c κs. search needs)
     (λ c κs. search (needs, row-cases))
     (λ c. search (needs, row-cases))
-    (λ c κs. search (needs, row-cases))
+    (λ c κs. search needs)
     (λ c κs. search (needs, row-cases))
     (λ c. search (needs, row-cases))
     (λ c κs. search (needs, row-cases))

@@ -1,19 +1,18 @@
 -- `limits_of` meets its contract.
-use Prim.Native.Nat.{_≤_}
+use Rattle.lifecycle.proofs.Rules.{limits-cases}
+use Prim.Native.Nat.{_-_, _≤_}
 use mathlib.Core.Path.{_≡_}
-use lib.ListN.{drop}
-use Rattle.settings.specs.Meaning.{rulesMean}
 use Rattle.lifecycle.specs.Days.{limitsOf}
-use Rattle.lifecycle.proofs.Days.{limits-cases}
+use Rattle.lifecycle.specs.Rules.{rulesIn}
 use borrow.Author.Needs.{needs}
 use Rattle.lifecycle.proofs.limits_of.Statement.{statement}
 use Rattle.lifecycle.proofs.limits_of.Tie as tie
 
 abbrev Inv-loop : tie.InvT-loop
-Inv-loop key rules limits₀ i₀ limits i = (i ≤ 8) × (limits ≡ limitsOf (rulesMean (drop i rules)) key)
+Inv-loop prefixes days n key limits₀ i₀ limits i = (i ≤ n) × (limits ≡ limitsOf (rulesIn prefixes days i) key)
 
 abbrev μ-loop : tie.MeasureT-loop
-μ-loop key rules limits₀ i₀ limits i = i
+μ-loop prefixes days n key limits₀ i₀ limits i = n - i
 
 pub limits-of-spec : {M : Type 1} → statement M
 limits-of-spec =
@@ -22,10 +21,8 @@ limits-of-spec =
     Inv-loop
     μ-loop
     (λ c. search (needs, limits-cases))
-    (λ c. search (needs, limits-cases))
-    (λ c. search (needs, limits-cases))
-    (λ c. search (needs, limits-cases))
     (λ c κs. search (needs, limits-cases))
+    (λ c. search (needs, limits-cases))
     (λ c. search (needs, limits-cases))
     (λ c. search (needs, limits-cases))
     (λ c. search (needs, limits-cases)))

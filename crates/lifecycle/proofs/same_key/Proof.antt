@@ -1,6 +1,6 @@
 -- `same_key` meets its contract.
+use Rattle.lifecycle.proofs.Judging.{same-cases}
 use Rattle.buffers.proofs.Choices.{picks}
-use Rattle.lifecycle.proofs.Judging.{same-at}
 use Rattle.lifecycle.specs.Judging.{sameKey}
 use borrow.Author.Needs.{needs}
 use Rattle.lifecycle.proofs.same_key.Statement.{statement}
@@ -13,7 +13,14 @@ same-key-spec =
     (tie.spec
     (λ c. search (needs, picks))
     (λ c. search needs)
-    (λ c κs. search needs)
-    (λ c κs. search needs)
-    (λ c κs. search needs)
-    (λ c. search (needs, picks, same-at)))
+    (λ c. search needs)
+    (λ c. search needs)
+    (λ c. search needs)
+    (λ c. search needs)
+    (λ c. search needs)
+    (λ c. search needs)
+    (λ c. search needs)
+    (λ c. search needs)
+    (λ c. search needs)
+    (λ c κs. search (needs, same-cases))
+    (λ c. search (needs, picks, same-cases)))

@@ -1,7 +1,8 @@
 -- `tighten` meets its contract.
+use Rattle.lifecycle.proofs.Rules.{rule-short}
 use Rattle.buffers.proofs.Choices.{picks}
-use Rattle.lifecycle.proofs.Days.{limits-both}
 use Rattle.lifecycle.specs.Days.{tightened}
+use Rattle.lifecycle.proofs.Days.{limits-both}
 use borrow.Author.Needs.{needs}
 use Rattle.lifecycle.proofs.tighten.Statement.{statement}
 use Rattle.lifecycle.proofs.tighten.Tie as tie
@@ -11,10 +12,15 @@ unfolding tightened
 tighten-spec =
     tie.close
     (tie.spec
+    (λ c κs. search (needs, rule-short))
+    (λ c. search needs)
+    (λ c. search needs)
+    (λ c. search needs)
     (λ c κs. search needs)
-    (λ c κs. search needs)
-    (λ c κs. search needs)
+    (λ c. search needs)
+    (λ c. search needs)
+    (λ c. search needs)
+    (λ c. search needs)
     (λ c κs. search needs)
     (λ c. search (needs, picks, limits-both))
-    (λ c. search (needs, picks))
     (λ c. search (needs, picks)))

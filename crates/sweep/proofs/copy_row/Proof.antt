@@ -8,6 +8,7 @@ pub copy-row-spec : {M : Type 1} → statement M
 copy-row-spec =
     tie.close
     (tie.spec
+    (λ c. search (needs, put-cases))
     (λ c κs. search needs)
     (λ c κs. search needs)
     (λ c κs. search needs)

@@ -1,0 +1,12 @@
+-- `begins_at` meets its contract.
+use Rattle.lifecycle.proofs.Rules.{begins-in}
+use borrow.Author.Needs.{needs}
+use Rattle.lifecycle.proofs.begins_at.Statement.{statement}
+use Rattle.lifecycle.proofs.begins_at.Tie as tie
+
+pub begins-at-spec : {M : Type 1} → statement M
+begins-at-spec = tie.close
+    (tie.spec
+    (λ c κs. search needs)
+    (λ c κs. search needs)
+    (λ c. search (needs, begins-in)))

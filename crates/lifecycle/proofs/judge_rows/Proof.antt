@@ -1,0 +1,49 @@
+-- `judge_rows` meets its contract.
+use borrow.Author.Needs.{needs}
+use Prim.Native.Nat.{_-_, _≤_, _<_}
+use mathlib.Core.Bool.{true}
+use Rattle.buffers.specs.Lists.{all}
+use Rattle.lifecycle.specs.Days.{fewDays}
+use Rattle.lifecycle.specs.Judging.{Readable}
+use mathlib.Core.Path.{_≡_}
+use lib.ListN.{length}
+use Rattle.lifecycle.specs.Rules.{rulesIn, Rules, ChosenBy}
+use Rattle.lifecycle.proofs.Judging.{Judging, judging-next, readable-fewer, judge-cases}
+use Rattle.lifecycle.proofs.judge_rows.Statement.{statement}
+use Rattle.lifecycle.proofs.judge_rows.Tie as tie
+
+abbrev Inv-loop : tie.InvT-loop
+Inv-loop rows keys used prefixes days near₀ periods₀ instant fates₀ chosen₀ limits₀ removed₀ added₀ i₀ near periods fates chosen limits removed added i =
+    Judging (rulesIn prefixes days 8) instant rows keys used fates₀ fates limits removed added i
+    × ChosenBy (rulesIn prefixes days 8) near periods (chosen .first) chosen
+    × (length near ≡ length near₀)
+    × (length periods ≡ length periods₀)
+    × Readable rows keys used
+    × Rules prefixes days 8
+    × (all fewDays (rulesIn prefixes days 8) ≡ true)
+    × (used ≤ length fates₀)
+    × (used < 18446744073709551616)
+
+abbrev μ-loop : tie.MeasureT-loop
+μ-loop rows keys used prefixes days near₀ periods₀ instant fates₀ chosen₀ limits₀ removed₀ added₀ i₀ near periods fates chosen limits removed added i = used - i
+
+pub judge-rows-spec : {M : Type 1} → statement M
+judge-rows-spec =
+    tie.close
+    (tie.spec
+    Inv-loop
+    μ-loop
+    (λ c. search (needs, judge-cases))
+    (λ c κs. ((search (needs, readable-fewer), search needs), (search needs, (search needs, search needs))))
+    (λ c. search (needs, judge-cases))
+    (λ c κs. search (needs, judge-cases))
+    (λ c. search (needs, judge-cases))
+    (λ c κs. search (needs, judge-cases))
+    (λ c. search (needs, judge-cases))
+    (λ c. search (needs, judge-cases))
+    (λ c. search (needs, judge-cases))
+    (λ c. (search (needs, judging-next), search needs, search needs, search needs, search needs, search needs, search needs, search needs, search needs))
+    (λ c. search (needs, judge-cases))
+    (λ c. search (needs, judge-cases))
+    (λ c. search (needs, judge-cases))
+    (λ c. search (needs, judge-cases)))

@@ -1,0 +1,24 @@
+-- `put_rule` meets its contract.
+use Rattle.lifecycle.proofs.Rules.{rule-put}
+use native.Mathlib.Omega.{arith}
+use lib.ListN.{length-set}
+use borrow.Author.Needs.{needs}
+use Rattle.lifecycle.proofs.put_rule.Statement.{statement}
+use Rattle.lifecycle.proofs.put_rule.Tie as tie
+
+pub put-rule-spec : {M : Type 1} → statement M
+put-rule-spec =
+    tie.close
+    (tie.spec
+    (λ c. search needs)
+    (λ c κs. search needs)
+    (λ c. search needs)
+    (λ c. search needs)
+    (λ c. search needs)
+    (λ c. search needs)
+    (λ c. search needs)
+    (λ c. search needs)
+    (λ c. simp length-set (omega arith))
+    (λ c. search needs)
+    (λ c. search needs)
+    (λ c. search (needs, rule-put)))
