@@ -94,6 +94,6 @@ module _ (line : List ℕ) (s : Settings) (n b a : List ℕ) (q : Request) (p : 
       let e = step-done line (stateOf s) n b plan now line a (record { change = change.Keep; answer = answer.Done }) change.Keep answer.Done n b (record { used = s .used; next = s .next }) a' len refl refl refl kept w in
       accepted-is s u now (verbMeans line (q .verb)) len (s .used) (s .next) (record { number = 0; length = len; settings = after }) n b a' (rw ev at g) refl refl ea
       ∙ ap (λ (o : Left). settled s now (verbMeans line (q .verb)) o)
-      (request-done line (stateOf s) (s .rules) n b a q now rq k h z (q .verb) refl x (λ us. act-done line (stateOf s) n b a now (verbMeans line (q .verb)) plan j line us x e))
+      (request-done line (stateOf s) (s .rules) n b a q now rq k h z (q .verb) refl x (act-done line (stateOf s) n b a (q .verb) now plan line x j e))
 
 pub ruleset settling = (set-screened, set-accepted)

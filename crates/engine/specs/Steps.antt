@@ -1,9 +1,10 @@
 -- What a request does to all but the settings: `done` of outcome without them.
 use Prim.Native.Nat.{ℕ, _+_, _≤_, max}
 use mathlib.Core.Path.{_≡_}
-use mathlib.Core.Bool.{true}
+use mathlib.Core.Bool.{true, false}
 use mathlib.Core.List.{List}
 use lib.ListN.{length}
+use Rattle.model.specs.Settings as model
 use Rattle.model.specs.Settings.{soundRules}
 use Rattle.model.specs.Requests.{Verb}
 use Rattle.model.specs.Effects.{configAfter}
@@ -11,14 +12,15 @@ use Rattle.settings.specs.declared.Rule.{Rule}
 use Rattle.settings.specs.declared.Settings.{Settings}
 use Rattle.settings.specs.Meaning.{rulesMean, settingsMean, prefixesAre}
 use Rattle.table.specs.Layout.{numbersOf, keysOf, capacity}
+use Rattle.request.specs.declared.Verb as code
 use Rattle.request.specs.declared.Request.{Request}
 use Rattle.request.specs.Meaning.{verbMeans, VerbInside}
 use Rattle.verdict.specs.declared.State.{State}
 use Rattle.verdict.specs.declared.Verdict.{Verdict}
-use Rattle.verdict.specs.Decision.{Effect, Decision, refuses, does}
-use Rattle.verdict.specs.State.{rowsIn, Ready}
+use Rattle.verdict.specs.Decision.{Effect, Decision, refuses, does, tableDecision}
+use Rattle.verdict.specs.State.{bucketBy, rowsIn, Ready}
 use Rattle.verdict.specs.Meaning.{Feasible}
-use Rattle.judge.specs.Premises.{Asked}
+use Rattle.judge.specs.Premises.{both, Asked, isSweep}
 use Rattle.apply.specs.Applied.{judged}
 use Rattle.outcome.specs.Outcome.{settingsFrom, Outcome, refused, written}
 use Rattle.engine.specs.declared.Step.{Step}
@@ -72,6 +74,17 @@ pub record Performable (line : List ℕ) (s : State) (numbers keys : List ℕ) (
   pub ready : Ready s numbers keys
   pub feasible : Feasible (judged line (s .next) instant fates) (capacity keys) (rowsIn s numbers keys) v
   pub room : 256 ≤ length answer
+
+-- A request of any verb but SWEEP that can be judged, and room for its answer.
+pub record Actable (line : List ℕ) (s : State) (numbers keys answer : List ℕ) (v : code.Verb) (instant : ℕ) : Type 0 where
+  pub judgeable : Asked s numbers keys instant (verbMeans line v)
+  pub inside : VerbInside line v
+  pub no-sweep : isSweep v ≡ false
+  pub room : 256 ≤ length answer
+
+-- What such a request comes to, whatever the rules.
+pub record Acted (line : List ℕ) (s : State) (numbers keys answer : List ℕ) (v : code.Verb) (instant : ℕ) (r : Left) : Type 0 where
+  pub is : (rules : List model.Rule) → r ≡ stepOf s numbers keys answer (tableDecision (capacity keys) (bucketBy s rules (rowsIn s numbers keys)) (both instant) (verbMeans line v))
 
 -- Rules that a sweep can be judged by.
 pub record SoundRules (rules : List Rule) : Type 0 where

@@ -10,27 +10,26 @@ use settings::Settings;
 use verdict::State;
 use verdict::Verdict;
 ghost use mathlib.Core.Path.{_≡_};
-ghost use mathlib.Core.Bool.{true, false};
+ghost use mathlib.Core.Bool.{true};
 ghost use Prim.Native.Nat.{ℕ, _≤_, max};
 ghost use lib.ListN.{length};
 ghost use mathlib.Core.List.{List};
 ghost use Rattle.buffers.specs.Choices.{orZero, thenSome};
-ghost use Rattle.model.specs.Settings as model;
 ghost use Rattle.model.specs.Requests.{Sweep};
 ghost use Rattle.settings.specs.Meaning.{rulesMean};
 ghost use Rattle.settings.specs.Changes.{withProgress};
 ghost use Rattle.table.specs.Layout.{capacity};
 ghost use Rattle.bucket.specs.Whole.{bucketOf, whole};
 ghost use Rattle.fields.specs.Meaning.{modeMeans, periodMeans};
-ghost use Rattle.request.specs.Meaning.{verbMeans, VerbInside};
+ghost use Rattle.request.specs.Meaning.{verbMeans};
 ghost use Rattle.verdict.specs.Decision.{tableDecision, decision};
 ghost use Rattle.verdict.specs.State.{bucketBy, rowsIn};
 ghost use Rattle.verdict.specs.Meaning.{verdictMeans};
-ghost use Rattle.judge.specs.Premises.{both, Asked, isSweep};
+ghost use Rattle.judge.specs.Premises.{both, Asked};
 ghost use Rattle.apply.specs.Applied.{judged};
 ghost use Rattle.outcome.specs.Outcome.{asked, outcome};
 ghost use Rattle.engine.specs.Served.{served, stateOf, isSetting, Settable, Servable, said, Configured};
-ghost use Rattle.engine.specs.Steps.{left, stepOf, settled, Performable, SoundRules, Requested};
+ghost use Rattle.engine.specs.Steps.{left, stepOf, settled, Performable, Actable, Acted, SoundRules, Requested};
 
 // What a call returns: 0 or the refusal, the answer's length, and the settings afterwards.
 pub struct Served {
@@ -198,11 +197,8 @@ fn act(
     verb: Verb,
     instant: u64,
 ) -> Step
-    requires { ⌜ Asked s (now rows) (now keys) instant (verbMeans (now line) verb) ⌝ }
-    requires { ⌜ VerbInside (now line) verb ⌝ }
-    requires { ⌜ isSweep verb ≡ false ⌝ }
-    requires { ⌜ 256 ≤ length (now answer) ⌝ }
-    ensures { λ r. ⌜ ((rules : List model.Rule) → left r (now (rows .exit)) (now (keys .exit)) (now (answer .exit)) ≡ stepOf s (now (rows .entry)) (now (keys .entry)) (now (answer .entry)) (tableDecision (capacity (now (keys .entry))) (bucketBy s rules (rowsIn s (now (rows .entry)) (now (keys .entry)))) (both instant) (verbMeans (now (line .entry)) verb))) ⌝ }
+    requires { ⌜ Actable (now line) s (now rows) (now keys) (now answer) verb instant ⌝ }
+    ensures { λ r. ⌜ Acted (now (line .entry)) s (now (rows .entry)) (now (keys .entry)) (now (answer .entry)) verb instant (left r (now (rows .exit)) (now (keys .exit)) (now (answer .exit))) ⌝ }
 {
     let v = judge::judge(rows, keys, line, s, verb, instant);
     carry_out(s, rows, keys, line, answer, v, instant, b"")
@@ -287,18 +283,11 @@ fn serve_setting(s: Settings, line: &[u8], answer: &mut [u8], q: Request, instan
 fn accepted(s: Settings, done: Done, instant: u64) -> Served
     ensures { λ r. ⌜ (r .number ≡ 0) × (r .length ≡ done .length) × (r .settings ≡ withProgress s instant (done .used) (done .next)) ⌝ }
 {
+    let after = settings::with_progress(s, instant, done.used as u64, done.next);
     Served {
         number: 0,
         length: done.length,
-        settings: Settings {
-            time: instant,
-            used: done.used as u64,
-            next: done.next,
-            mode: s.mode,
-            count: s.count,
-            unit: s.unit,
-            rules: s.rules,
-        },
+        settings: after,
     }
 }
 
