@@ -317,9 +317,7 @@ pub fn serve_whole(
     let step = serve_request(state_of(s), rules, rows, keys, line, answer, q, instant);
     match step {
         Step::Refused(n) => refused(n, s),
-        Step::Accepted(done) => {
-            accepted(s, done, instant)
-        }
+        Step::Accepted(done) => { accepted(s, done, instant) }
     }
 }
 

@@ -413,14 +413,7 @@ pub fn is_sweep(verb: Verb) -> bool
 }
 
 // Refusals 7 to 12, or the plan, of any verb but SWEEP.
-pub fn judge(
-    rows: &[u64],
-    keys: &[u8],
-    line: &[u8],
-    s: State,
-    verb: Verb,
-    instant: u64,
-) -> Verdict
+pub fn judge(rows: &[u64], keys: &[u8], line: &[u8], s: State, verb: Verb, instant: u64) -> Verdict
     requires { ⌜ Asked s (now rows) (now keys) instant (verbMeans (now line) verb) ⌝ }
     requires { ⌜ VerbInside (now line) verb ⌝ }
     requires { ⌜ isSweep verb ≡ false ⌝ }

@@ -1,5 +1,6 @@
 -- `serve_whole` meets its contract: each way through it is one of the cited laws.
-use Rattle.engine.proofs.Serving.{lines}
+use Rattle.engine.proofs.Serving.{lines, line-refused, line-accepted}
+use mathlib.Core.Path.{refl}
 use borrow.Author.Needs.{needs}
 use Rattle.engine.proofs.serve_whole.Statement.{statement}
 use Rattle.engine.proofs.serve_whole.Tie as tie
@@ -68,7 +69,15 @@ same-length-4 : tie.Need-same-length-4
 same-length-4 c = search needs
 
 returns-4 : tie.Need-returns-4
-returns-4 c = search (needs, lines)
+returns-4 c =
+    let start = c .before .before .before .before .before .before .before .before .before .before .before .before .before .before .before .before .before .before .before .before .before .before .before .before .before .before .before .before in
+    let read = c .before .before .before .before .before .before .before .before .before .before .before .before .before .before .before .before .before .before .before .before in
+    let called = c .before .before .before .before .before .before .before .before .before .before in
+    line-refused (start .args .s) (start .args .rows .now) (start .args .keys .now) (start .args .line .now) (start .args .answer .now) _ _
+    (start .pre) (read .before .before .before .if1 .left) (read .before .before .read-line .ensures) (read .q .given .1)
+    _ _ (called .before .before .before .before .state-of .ensures) (c .before .before .before .before .before .before .before .before .before .before .before .before .before .before .before .before .before .before .larger .ensures)
+    _ _ _ _ (called .serve-request .ensures) _
+    _ (c .before .before .step .given .1) (c .refused3 .ensures .0) (c .refused3 .ensures .1) (c .refused3 .ensures .2)
 
 same-length-5 : tie.Need-same-length-5
 same-length-5 c = search needs
@@ -80,7 +89,15 @@ same-length-7 : tie.Need-same-length-7
 same-length-7 c = search needs
 
 returns-5 : tie.Need-returns-5
-returns-5 c = search (needs, lines)
+returns-5 c =
+    let start = c .before .before .before .before .before .before .before .before .before .before .before .before .before .before .before .before .before .before .before .before .before .before .before .before .before .before .before .before in
+    let read = c .before .before .before .before .before .before .before .before .before .before .before .before .before .before .before .before .before .before .before .before in
+    let called = c .before .before .before .before .before .before .before .before .before .before in
+    line-accepted (start .args .s) (start .args .rows .now) (start .args .keys .now) (start .args .line .now) (start .args .answer .now) _ _
+    (start .pre) (read .before .before .before .if1 .left) (read .before .before .read-line .ensures) (read .q .given .1)
+    _ _ (called .before .before .before .before .state-of .ensures) (c .before .before .before .before .before .before .before .before .before .before .before .before .before .before .before .before .before .before .larger .ensures)
+    _ _ _ _ (called .serve-request .ensures) _
+    _ _ _ refl (c .before .before .before .before .before .before .before .before .before .before .before .before .before .before .before .before .before .is-setting .ensures) (c .before .before .before .before .before .before .before .before .before .before .before .before .before .before .before .before .if2 .left) (c .before .before .step2 .given .1) (c .accepted .ensures .0) (c .accepted .ensures .1) (c .accepted .ensures .2)
 
 pub serve-whole-spec : {M : Type 1} → statement M
 serve-whole-spec =
