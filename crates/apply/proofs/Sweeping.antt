@@ -44,6 +44,9 @@ module _ (line : List ℕ) (next instant : ℕ) (fates n b : List ℕ) (u : ℕ)
   can : Changeable j (capacity b) (rowsOf n b u) (Sweep gone new)
   can = rw q at (h .can)
 
+  fates-fit : u ≤ length fates
+  fates-fit = omega (arith, long, can .5)
+
   -- The fates, counted by the used rows or by the list of them.
   fates-are : fatesIn (take (length (rowsOf n b u)) (j .fates)) ≡ fatesIn (take u (j .fates))
   fates-are = ap (λ (k : ℕ). fatesIn (take k (j .fates))) long
@@ -53,7 +56,7 @@ module _ (line : List ℕ) (next instant : ℕ) (fates n b : List ℕ) (u : ℕ)
       let g : gone ≡ total removes (fatesIn (take u fates)) = can .0 ∙ ap (total removes) fates-are in
       record {
         holds = h .held;
-        each = h .fates-fit;
+        each = fates-fit;
         removed = g;
         markers = can .1 ∙ ap (total marks) fates-are;
         room = omega (arith, long, can .2, can .3);
@@ -71,7 +74,7 @@ module _ (line : List ℕ) (next instant : ℕ) (fates n b : List ℕ) (u : ℕ)
 
   pub swept : (n' b' : List ℕ) → Holds (capacity b) (carriedOut instant next (passes.fatesOf u fates) (rowsOf n b u)) n' b' → Applied j (capacity b) (rowsOf n b u) v n' b' (record { used = u - gone + new; next = next + new })
   swept n' b' d =
-      let fl : length (fatesIn (take (length (rowsOf n b u)) (j .fates))) ≡ length (rowsOf n b u) = fates-length (take (length (rowsOf n b u)) (j .fates)) ∙ simp length-take (omega (arith, long, h .fates-fit)) in
+      let fl : length (fatesIn (take (length (rowsOf n b u)) (j .fates))) ≡ length (rowsOf n b u) = fates-length (take (length (rowsOf n b u)) (j .fates)) ∙ simp length-take (omega (arith, can .5)) in
       let l = length-carried (j .now) (j .next) (fatesIn (take (length (rowsOf n b u)) (j .fates))) (rowsOf n b u) fl in
       rw q (record {
         held = rw fates-are d;

@@ -21,7 +21,6 @@ pub record Applicable (j : Judged) (numbers keys : List ℕ) (used : ℕ) (chang
   pub small : capacity keys ≤ 1024
   pub used-small : used ≤ 1024
   pub next-fits : j .next ≤ spentNumber
-  pub fates-fit : used ≤ length (j .fates)
 
 -- The buffers hold the rows that the change leaves, and the counts are theirs.
 pub record Applied (j : Judged) (c : ℕ) (xs : List Row) (change : Change) (numbers keys : List ℕ) (p : Progress) : Type 0 where

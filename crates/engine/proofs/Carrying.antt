@@ -1,53 +1,60 @@
--- A plan carried out: table, settings and answer are those of its effect.
-use Prim.Native.Nat.{ℕ, _+_}
+-- A verdict carried out: table and answer are those of its effect.
+use Prim.Native.Nat.{ℕ, _+_, _≤_}
 use mathlib.Core.Path.{_≡_, refl, sym, _∙_, ap}
-use mathlib.Core.Bool.{Bool, true}
 use mathlib.Core.List.{List, [], _∷_, _++_}
 use native.Mathlib.Omega.{arith}
 use lib.ListN.{length, drop}
 use Rattle.buffers.specs.Writes.{Wrote}
-use Rattle.model.specs.Settings as model
-use Rattle.model.specs.Rows.{Row}
-use Rattle.model.specs.Requests.{Verb}
-use Rattle.model.specs.Effects.{configAfter}
-use Rattle.settings.specs.declared.Settings.{Settings}
-use Rattle.settings.specs.Meaning.{settingsMean, prefixesAre}
-use Rattle.settings.specs.Changes.{withProgress}
 use Rattle.table.specs.Layout.{rowsOf, capacity, Holds}
+use Rattle.verdict.specs.declared.State.{State}
 use Rattle.verdict.specs.declared.Change.{Change}
 use Rattle.verdict.specs.declared.Plan.{Plan}
-use Rattle.verdict.specs.Meaning.{changeMeans, changeTakes}
+use Rattle.verdict.specs.declared.Verdict.{Verdict}
+use Rattle.verdict.specs.declared.Verdict.the-variants as verdict
+use Rattle.verdict.specs.State.{rowsIn, Ready}
+use Rattle.verdict.specs.Meaning.{verdictMeans, Feasible}
 use Rattle.answers.specs.declared.Answer.{Answer}
-use Rattle.answers.specs.Meaning.{textOf}
+use Rattle.answers.specs.Meaning.{textOf, Printable}
 use Rattle.apply.specs.declared.Progress.{Progress}
-use Rattle.apply.specs.Applied.{judged, Applied}
-use Rattle.engine.specs.declared.Served.{Served}
-use Rattle.outcome.specs.Outcome.{settingsFrom, Outcome, written}
-use Rattle.outcome.specs.Steps.{settingsAfter, carried}
-use Rattle.engine.specs.Served.{served, effectOf, Configured}
-use Rattle.outcome.proofs.Back.{settings-back}
+use Rattle.apply.specs.Applied.{judged, Applicable, Applied}
+use Rattle.outcome.specs.Outcome.{written}
+use Rattle.engine.specs.declared.Step.{Step}
+use Rattle.engine.specs.declared.Step.the-variants.{Refused, Accepted}
+use Rattle.engine.specs.Steps.{Left, left, stepOf, Performable}
 
--- The settings: what the verb set, with now, the used rows and the next number.
-settings-carried : (s r : Settings) (v : Verb) (now used next taken : ℕ) → Configured s v r → next ≡ s .next + taken → withProgress r now used next ≡ settingsFrom (settingsAfter (settingsMean s) now taken v) used
-settings-carried s r v now used next taken g e =
-    sym (settings-back (withProgress r now used next) (g .prefixes))
-    ∙ ap (λ (z : model.Config). settingsFrom (record { time = now; next = next; config = z }) used) (g .config)
-    ∙ ap (λ (n : ℕ). settingsFrom (record { time = now; next = n; config = configAfter (settingsMean s .config) v }) used) e
+module _ (line : List ℕ) (s : State) (n b : List ℕ) (v : Verdict) (instant : ℕ) (fates a : List ℕ) where
+  pub step-refused : (k : ℕ) → v ≡ verdict.Refused k → left (Refused k) n b a ≡ stepOf s n b a (verdictMeans (judged line (s .next) instant fates) (rowsIn s n b) v)
+  step-refused k e = rw e
 
--- An outcome by its fields.
-same-outcome : (n l m : ℕ) (s t : Settings) (a b c d f g : List ℕ) → l ≡ m → s ≡ t → a ≡ b → c ≡ d → f ≡ g
-    → _≡_ {A = Outcome} (record { number = n; length = l; settings = s; numbers = a; keys = c; answer = f }) (record { number = n; length = m; settings = t; numbers = b; keys = d; answer = g })
-same-outcome n l m s t a b c d f g e1 e2 e3 e4 e5 = rw (e1, e2, e3, e4, e5)
+  module _ (p : Performable line s n b v instant fates a) (plan : Plan) (e : v ≡ verdict.Accepted plan) where
+    feasible : Feasible (judged line (s .next) instant fates) (capacity b) (rowsIn s n b) (verdict.Accepted plan)
+    feasible = rw e at (p .feasible)
 
-pub carried-out : (line : List ℕ) (s r u : Settings) (v : Verb) (instant : ℕ) (rows keys fates : List ℕ) (plan : Plan) (change : Change) (text : Answer) (n' k' : List ℕ) (p : Progress) (answer a' : List ℕ) (len : ℕ)
-    → plan .change ≡ change → plan .answer ≡ text
-    → Applied (judged line (s .next) instant fates) (capacity keys) (rowsOf rows keys (s .used)) change n' k' p → Configured s v r → u ≡ withProgress r instant (p .used) (p .next) → Wrote answer 0 (textOf text) 256 a' len
-    → served (record { number = 0; length = len; settings = u }) n' k' a' ≡ carried s keys instant v answer (effectOf line s rows keys plan instant fates)
-carried-out line s r u v instant rows keys fates plan change text n' k' p answer a' len pc pa d g e w =
+    pub step-can : Applicable (judged line (s .next) instant fates) n b (s .used) (plan .change)
+    step-can =
+        let r = p .ready in
+        record { held = r .holds; can = feasible .0; small = r .capacity-fits; used-small = omega (arith, r .used-fits, r .capacity-fits); next-fits = r .next-fits }
+
+    pub step-prints : Printable (plan .answer)
+    step-prints = feasible .1
+
+-- What is left, by its parts.
+same-left : (l m u w x z : ℕ) (n n' b b' a a' : List ℕ) → l ≡ m → u ≡ w → x ≡ z → n ≡ n' → b ≡ b' → a ≡ a'
+    → left (Accepted (record { length = l; used = u; next = x })) n b a ≡ left (Accepted (record { length = m; used = w; next = z })) n' b' a'
+same-left l m u w x z n n' b b' a a' e1 e2 e3 e4 e5 e6 = rw (e1, e2, e3, e4, e5, e6)
+
+pub step-done : (line : List ℕ) (s : State) (n b : List ℕ) (v : Verdict) (instant : ℕ) (fates a : List ℕ) (plan : Plan) (change : Change) (text : Answer) (n' b' : List ℕ) (p : Progress) (a' : List ℕ) (len : ℕ)
+    → v ≡ verdict.Accepted plan → plan .change ≡ change → plan .answer ≡ text
+    → Applied (judged line (s .next) instant fates) (capacity b) (rowsOf n b (s .used)) change n' b' p → Wrote a 0 (textOf text) 256 a' len
+    → left (Accepted (record { length = len; used = p .used; next = p .next })) n' b' a' ≡ stepOf s n b a (verdictMeans (judged line (s .next) instant fates) (rowsIn s n b) v)
+step-done line s n b v instant fates a plan change text n' b' p a' len e pc pa d w =
     let z : 0 + length (textOf text) ≡ length (textOf text) = omega arith in
-    rw (pc, pa) (same-outcome 0 len (length (textOf text)) u _ n' _ k' _ a' (written (textOf text) answer)
+    rw (e, pc, pa) (same-left len (length (textOf text)) (p .used) _ (p .next) _ n' _ b' _ a' (written (textOf text) a)
     (omega (arith, w .next))
-    (e ∙ settings-carried s r v instant (p .used) (p .next) (changeTakes change) g (d .next-is) ∙ ap (λ (z : ℕ). settingsFrom (settingsAfter (settingsMean s) instant (changeTakes change) v) z) (d .used-is))
+    (d .used-is)
+    (d .next-is)
     (d .held .numbers-are)
     (d .held .keys-are)
-    (w .holds ∙ ap (λ (k : ℕ). textOf text ++ drop k answer) z))
+    (w .holds ∙ ap (λ (k : ℕ). textOf text ++ drop k a) z))
+
+pub ruleset carrying = (refl, step-refused, step-can, step-prints, step-done)

@@ -24,47 +24,27 @@ use Rattle.fields.specs.declared.Mode.{Mode}
 use Rattle.fields.specs.declared.Period.{Period}
 use Rattle.request.specs.declared.Verb as code
 use Rattle.request.specs.declared.Verb.the-variants as verb
-use Rattle.request.specs.declared.Name.{Name}
-use Rattle.request.specs.declared.Retention.{Retention}
-use Rattle.request.specs.declared.Terms.{Terms}
 use Rattle.fields.specs.Meaning.{modeMeans, periodMeans, Inside}
 use Rattle.request.specs.Meaning.{verbMeans}
 use Rattle.outcome.proofs.Kept.{prefix-short}
-use Rattle.engine.specs.Served.{Settable, Configured}
+use Rattle.engine.specs.Served.{isSetting, Settable, Configured}
 
 -- A verb that sets nothing.
-module _ (s : Settings) (line : List ℕ) (v : code.Verb) (h : Settable line s v) where
-  pub unset-put : (k : Place) (body size : ℕ) (t : Terms) → v ≡ verb.Put k body size t → Configured s (verbMeans line v) s
-  unfolding configAfter
-  unset-put k body size t q = rw q (record { config = refl; prefixes = h .prefixes })
+pub unset : (s : Settings) (line : List ℕ) (v : code.Verb) → prefixesAre (s .rules) ≡ true → isSetting v ≡ false → Configured s (verbMeans line v) s
+unfolding configAfter
+unset s line (verb.Put k body size t) h e = record { config = refl; prefixes = h }
+unset s line (verb.Copy n k t) h e = record { config = refl; prefixes = h }
+unset s line (verb.Retain n r y) h e = record { config = refl; prefixes = h }
+unset s line (verb.SetHold n on) h e = record { config = refl; prefixes = h }
+unset s line (verb.AddMarker k y) h e = record { config = refl; prefixes = h }
+unset s line (verb.DeleteVersion k n y) h e = record { config = refl; prefixes = h }
+unset s line (verb.SetDefault m p) h e = absurd (false≢true (sym e))
+unset s line (verb.SetRule i p current noncurrent) h e = absurd (false≢true (sym e))
+unset s line verb.Sweep h e = record { config = refl; prefixes = h }
+unset s line (verb.Get n) h e = record { config = refl; prefixes = h }
 
-  pub unset-copy : (n : Name) (k : Place) (t : Terms) → v ≡ verb.Copy n k t → Configured s (verbMeans line v) s
-  unfolding configAfter
-  unset-copy n k t q = rw q (record { config = refl; prefixes = h .prefixes })
-
-  pub unset-retain : (n : Name) (r : Retention) (y : Bool) → v ≡ verb.Retain n r y → Configured s (verbMeans line v) s
-  unfolding configAfter
-  unset-retain n r y q = rw q (record { config = refl; prefixes = h .prefixes })
-
-  pub unset-hold : (n : Name) (on : Bool) → v ≡ verb.SetHold n on → Configured s (verbMeans line v) s
-  unfolding configAfter
-  unset-hold n on q = rw q (record { config = refl; prefixes = h .prefixes })
-
-  pub unset-marker : (k : Place) (y : Bool) → v ≡ verb.AddMarker k y → Configured s (verbMeans line v) s
-  unfolding configAfter
-  unset-marker k y q = rw q (record { config = refl; prefixes = h .prefixes })
-
-  pub unset-delete : (k : Place) (u : ℕ) (y : Bool) → v ≡ verb.DeleteVersion k u y → Configured s (verbMeans line v) s
-  unfolding configAfter
-  unset-delete k u y q = rw q (record { config = refl; prefixes = h .prefixes })
-
-  pub unset-sweep : v ≡ verb.Sweep → Configured s (verbMeans line v) s
-  unfolding configAfter
-  unset-sweep q = rw q (record { config = refl; prefixes = h .prefixes })
-
-  pub unset-get : (n : Name) → v ≡ verb.Get n → Configured s (verbMeans line v) s
-  unfolding configAfter
-  unset-get n q = rw q (record { config = refl; prefixes = h .prefixes })
+pub unset-at : (s : Settings) (line : List ℕ) (v w : code.Verb) → Settable line s v → v ≡ w → isSetting w ≡ false → Configured s (verbMeans line v) s
+unset-at s line v w h q e = unset s line v (h .prefixes) (ap isSetting q ∙ e)
 
 pub default-set : (s r : Settings) (line : List ℕ) (v : code.Verb) (m : Mode) (p : Period) (mode count unit : ℕ) → v ≡ verb.SetDefault m p → Settable line s v
     → mode ≡ orZero (modeMeans m) → count ≡ thenSome (periodMeans p) 0 (λ q. q .count) → unit ≡ thenSome (periodMeans p) 0 (λ q. q .unit) → r ≡ withDefault s mode count unit → Configured s (verbMeans line v) r
@@ -101,4 +81,4 @@ module _ (s : Settings) (line : List ℕ) (v : code.Verb) (h : Settable line s v
   pub rule-inside : p .start + p .len ≤ length line
   rule-inside = let x : Inside line p = rw q at (h .inside) in x .end
 
-pub ruleset setting = (unset-put, unset-copy, unset-retain, unset-hold, unset-marker, unset-delete, unset-sweep, unset-get, default-set, rule-set, rule-place, rule-prefix, rule-inside)
+pub ruleset setting = (refl, unset-at, default-set, rule-set, rule-place, rule-prefix, rule-inside)

@@ -1,5 +1,6 @@
 pub mod Carrying
 pub mod Ready
 pub mod Configuring
+pub mod Acting
+pub mod Settling
 pub mod Serving
-pub mod Requesting

@@ -1,7 +1,7 @@
 -- What a call returned and left, as an outcome; the state that it judges by; and the settings that a verb has set.
 use Prim.Native.Nat.{ℕ, _≤_}
 use mathlib.Core.Path.{_≡_}
-use mathlib.Core.Bool.{Bool, true}
+use mathlib.Core.Bool.{Bool, true, false}
 use mathlib.Core.List.{List}
 use lib.ListN.{length}
 use Rattle.model.specs.Requests.{Verb, inRange}
@@ -9,16 +9,11 @@ use Rattle.model.specs.Effects.{configAfter}
 use Rattle.settings.specs.declared.Settings.{Settings}
 use Rattle.settings.specs.Meaning.{settingsMean, prefixesAre}
 use Rattle.calendar.specs.Calendar.{latest}
-use Rattle.table.specs.Layout.{rowsOf}
 use Rattle.bucket.specs.Whole.{whole}
 use Rattle.request.specs.declared.Verb as code
+use Rattle.request.specs.declared.Verb.the-variants as verb
 use Rattle.request.specs.declared.Request.{Request}
 use Rattle.request.specs.Grammar.{Said}
-use Rattle.answers.specs.Meaning.{textOf, Printable}
-use Rattle.verdict.specs.declared.Plan.{Plan}
-use Rattle.verdict.specs.Decision.{Effect}
-use Rattle.verdict.specs.Meaning.{changeMeans, changeTakes}
-use Rattle.apply.specs.Applied.{judged, Applicable}
 use Rattle.fields.specs.Meaning.{rightsMeans}
 use Rattle.request.specs.Meaning.{verbMeans, VerbInside}
 use Rattle.verdict.specs.declared.State.{State}
@@ -33,27 +28,24 @@ served r numbers keys answer =
 abbrev pub stateOf : Settings → State
 stateOf s = record { time = s .time; used = s .used; next = s .next; mode = s .mode; count = s .count; unit = s .unit }
 
+-- DEFAULT and RULE set something, every other verb nothing
+abbrev pub isSetting : code.Verb → Bool
+isSetting (verb.Put k body size t) = false
+isSetting (verb.Copy n k t) = false
+isSetting (verb.Retain n r y) = false
+isSetting (verb.SetHold n on) = false
+isSetting (verb.AddMarker k y) = false
+isSetting (verb.DeleteVersion k n y) = false
+isSetting (verb.SetDefault m p) = true
+isSetting (verb.SetRule i p current noncurrent) = true
+isSetting verb.Sweep = false
+isSetting (verb.Get n) = false
+
 -- What setting asks: prefixes as they are written, and the verb's fields within their ranges and the line.
 pub record Settable (line : List ℕ) (s : Settings) (v : code.Verb) : Type 0 where
   pub prefixes : prefixesAre (s .rules) ≡ true
   pub in-range : inRange (verbMeans line v) ≡ true
   pub inside : VerbInside line v
-
--- What carrying a plan out asks.
-pub record Performable (line : List ℕ) (s : Settings) (numbers keys : List ℕ) (v : code.Verb) (p : Plan) (instant : ℕ) (fates answer : List ℕ) : Type 0 where
-  pub can : Applicable (judged line (s .next) instant fates) numbers keys (s .used) (p .change)
-  pub printable : Printable (p .answer)
-  pub room : 256 ≤ length answer
-  pub settable : Settable line s v
-
--- the effect of a plan
-abbrev pub effectOf : List ℕ → Settings → List ℕ → List ℕ → Plan → ℕ → List ℕ → Effect
-effectOf line s numbers keys p instant fates =
-    record {
-      rows = changeMeans (judged line (s .next) instant fates) (rowsOf numbers keys (s .used)) (p .change);
-      taken = changeTakes (p .change);
-      text = textOf (p .answer);
-    }
 
 -- A request that was read from the line, on a whole bucket, with room for its answer.
 pub record Servable (line : List ℕ) (s : Settings) (numbers keys answer : List ℕ) (q : Request) : Type 0 where

@@ -1,7 +1,7 @@
 -- From a verb's own judgement to that of any verb.
 use Prim.Native.Nat.{ℕ}
-use mathlib.Core.Path.{_≡_, refl}
-use mathlib.Core.Bool.{Bool}
+use mathlib.Core.Path.{_≡_, refl, sym}
+use mathlib.Core.Bool.{Bool, true, false, false≢true}
 use mathlib.Core.List.{List}
 use Rattle.text.specs.declared.Place.{Place}
 use Rattle.model.specs.Settings.{Rule}
@@ -20,7 +20,7 @@ use Rattle.verdict.specs.declared.State.{State}
 use Rattle.verdict.specs.declared.Verdict.{Verdict}
 use Rattle.verdict.specs.declared.Verdict.the-variants.{Accepted}
 use Rattle.verdict.specs.declared.Change.the-variants.{Keep}
-use Rattle.judge.specs.Premises.{Asked, JudgesBy, JudgesOn}
+use Rattle.judge.specs.Premises.{Asked, isSweep, JudgesBy, JudgesOn}
 use Rattle.judge.proofs.Sweeping.{set-done}
 
 -- ## What is asked
@@ -60,8 +60,8 @@ module _ (s : State) (numbers keys line : List ℕ) (now : ℕ) (rules : List Ru
   pub judged-as : (u : Verb) → v ≡ u → JudgesOn s numbers keys line now (verbMeans line u) r → JudgesBy s numbers keys line now rules fates (verbMeans line v) r
   judged-as u e h = rw e (h rules fates)
 
-  pub swept-as : v ≡ verb.Sweep → ((l : List ℕ) → JudgesBy s numbers keys l now rules fates model.Sweep r) → JudgesBy s numbers keys line now rules fates (verbMeans line v) r
-  swept-as e h = rw e (h line)
+  pub no-sweep : isSweep v ≡ false → v ≡ verb.Sweep → JudgesBy s numbers keys line now rules fates (verbMeans line v) r
+  no-sweep h e = absurd (false≢true (sym (rw e at h)))
 
   module _ (asked : Asked s numbers keys now (verbMeans line v)) (done : r ≡ Accepted (record { change = Keep; answer = Done })) where
     pub default-as : (m : Mode) (p : Period) → v ≡ verb.SetDefault m p → JudgesBy s numbers keys line now rules fates (verbMeans line v) r
@@ -82,7 +82,7 @@ pub ruleset verb-ways = (
   delete-inside,
   get-inside,
   judged-as,
-  swept-as,
+  no-sweep,
   default-as,
   rule-as,
 )

@@ -115,10 +115,10 @@ module _ (s : State) (numbers keys line : List ℕ) (now : ℕ) (us : List model
         let r = judged .removed .is in
         omega arith)
 
-    pub sweep-done : s .used - n .removed + n .added ≤ capacity keys
+    pub sweep-done : (rules : List Rule) → Sweepable s rules entry → s .used - n .removed + n .added ≤ capacity keys
         → JudgesBy s numbers keys line now us fs Sweep (Accepted (record { change = change.Sweep (n .removed) (n .added); answer = Swept (n .removed) (n .added) }))
     unfolding added rowsAfter removed reply
-    sweep-done l =
+    sweep-done rules fit l =
         let z = rows-length numbers keys (s .used) in
         let e = swept-length us now (s .next) (rowsIn s numbers keys) in
         let a = judged .added .is in
@@ -132,6 +132,6 @@ module _ (s : State) (numbers keys line : List ℕ) (now : ℕ) (us : List model
         (rw f (carried-out us now now (s .next) none (rowsIn s numbers keys)))
         a
         (rw (a, r))
-        ((rw (f, total-counted) r, rw (f, total-counted) a, omega arith, omega arith, left), tt)
+        ((rw (f, total-counted) r, rw (f, total-counted) a, omega arith, omega arith, left, omega (arith, judged .long, fit .long)), tt)
 
 pub ruleset sweep-ways = (sweep-asks, sweep-spent, sweep-full, sweep-done)

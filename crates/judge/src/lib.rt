@@ -20,6 +20,7 @@ use verdict::Plan;
 use verdict::State;
 use verdict::Verdict;
 ghost use mathlib.Core.Path.{_≡_};
+ghost use mathlib.Core.Bool.{false};
 ghost use mathlib.Core.List.{List};
 ghost use Prim.Native.Nat.{ℕ};
 ghost use Rattle.buffers.specs.Choices.{orZero};
@@ -35,7 +36,7 @@ ghost use Rattle.fields.specs.Meaning.{modeMeans, untilMeans, holdMeans, Inside
 ghost use Rattle.request.specs.Meaning.{nameMeans, retentionMeans, termsMeans, verbMeans, VerbInside};
 ghost use Rattle.verdict.specs.State.{rowsIn, Ready};
 ghost use Rattle.verdict.specs.Meaning.{Looks};
-ghost use Rattle.judge.specs.Premises.{Asked, Sweepable, JudgesBy, JudgesOn};
+ghost use Rattle.judge.specs.Premises.{Asked, Sweepable, isSweep, JudgesBy, JudgesOn};
 
 // The row that a name in the line names.
 fn look_up(rows: &[u64], keys: &[u8], line: &[u8], s: State, name: Name) -> Looked
@@ -354,7 +355,8 @@ fn judge_delete(
     })
 }
 
-fn judge_sweep(
+// SWEEP, whose judgement of each row is left in the fates.
+pub fn judge_sweep(
     rows: &[u64],
     keys: &[u8],
     s: State,
@@ -392,21 +394,30 @@ fn judge_setting() -> Verdict
     })
 }
 
-// Refusals 7 to 12, or the plan.
-pub fn judge(
-    rows: &[u64],
-    keys: &[u8],
-    line: &[u8],
-    s: State,
-    rules: [Rule; 8],
-    verb: Verb,
-    instant: u64,
-    fates: &mut [u8],
-) -> Verdict
+// SWEEP alone is judged by rules.
+pub fn is_sweep(verb: Verb) -> bool
+    ensures { λ r. ⌜ r ≡ isSweep verb ⌝ }
+{
+    match verb {
+        Verb::Put(_, _, _, _) => false,
+        Verb::Copy(_, _, _) => false,
+        Verb::Retain(_, _, _) => false,
+        Verb::SetHold(_, _) => false,
+        Verb::AddMarker(_, _) => false,
+        Verb::DeleteVersion(_, _, _) => false,
+        Verb::SetDefault(_, _) => false,
+        Verb::SetRule(_, _, _, _) => false,
+        Verb::Sweep => true,
+        Verb::Get(_) => false,
+    }
+}
+
+// Refusals 7 to 12, or the plan, of any verb but SWEEP.
+pub fn judge(rows: &[u64], keys: &[u8], line: &[u8], s: State, verb: Verb, instant: u64) -> Verdict
     requires { ⌜ Asked s (now rows) (now keys) instant (verbMeans (now line) verb) ⌝ }
     requires { ⌜ VerbInside (now line) verb ⌝ }
-    requires { ⌜ Sweepable s rules (now fates) ⌝ }
-    ensures { λ r. ⌜ JudgesBy s (now (rows .entry)) (now (keys .entry)) (now (line .entry)) instant (rulesMean rules) (now (fates .exit)) (verbMeans (now (line .entry)) verb) r ⌝ }
+    requires { ⌜ isSweep verb ≡ false ⌝ }
+    ensures { λ r. ⌜ JudgesOn s (now (rows .entry)) (now (keys .entry)) (now (line .entry)) instant (verbMeans (now (line .entry)) verb) r ⌝ }
 {
     match verb {
         Verb::Put(key, body, size, terms) => {
@@ -425,7 +436,8 @@ pub fn judge(
         }
         Verb::SetDefault(_, _) => judge_setting(),
         Verb::SetRule(_, _, _, _) => judge_setting(),
-        Verb::Sweep => judge_sweep(rows, keys, s, rules, instant, fates),
+        // is_sweep keeps it from here
+        Verb::Sweep => judge_setting(),
         Verb::Get(name) => judge_get(rows, keys, line, s, name, instant),
     }
 }

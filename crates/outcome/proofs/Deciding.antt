@@ -44,7 +44,7 @@ module _ (A : Type 0) (stop : ℕ → A) (go-on : Effect → A) where
       ]
 
   -- The conditions in two parts.
-  act-parts : (xs ys : List Check) (e : Effect) → numbered xs ≡ true → act (decide (xs ++ ys) e) ≡ pick (eqb (firstOf xs) 0) (act (decide ys e)) (stop (firstOf xs))
+  pub act-parts : (xs ys : List Check) (e : Effect) → numbered xs ≡ true → act (decide (xs ++ ys) e) ≡ pick (eqb (firstOf xs) 0) (act (decide ys e)) (stop (firstOf xs))
   act-parts [] ys e h = refl
   act-parts (x ∷ xs) ys e h =
       elim (either (x .holds)) [
@@ -87,11 +87,3 @@ module _ (s : Settings) (numbers keys line answer : List ℕ) where
       ∙ sym (act-decide Outcome (λ n. refused n s numbers keys answer) (λ f. carried s keys ((nowOf (bucketOf s numbers keys) (asked (length answer) q .call)) .stamp) (q .verb) answer f)
       (fieldChecks (bucketOf s numbers keys) (asked (length answer) q) ++ tableChecks (capacity keys) (bucketOf s numbers keys) (nowOf (bucketOf s numbers keys) (asked (length answer) q .call)) (q .verb))
       (effect (bucketOf s numbers keys) (nowOf (bucketOf s numbers keys) (asked (length answer) q .call)) (q .verb)) refl))
-
-  -- What is done of conditions in two parts: the first that holds of the first part, or what is done of the second.
-  pub done-parts : (now : ℕ) (v : Verb) (xs ys : List Check) (e : Effect) → numbered xs ≡ true
-      → pick (eqb (firstOf xs) 0) (done s numbers keys now v answer (decide ys e)) (refused (firstOf xs) s numbers keys answer) ≡ done s numbers keys now v answer (decide (xs ++ ys) e)
-  done-parts now v xs ys e h =
-      ap (λ (o : Outcome). pick (eqb (firstOf xs) 0) o (refused (firstOf xs) s numbers keys answer)) (done-act now v (decide ys e))
-      ∙ sym (act-parts Outcome (λ n. refused n s numbers keys answer) (λ f. carried s keys now v answer f) xs ys e h)
-      ∙ sym (done-act now v (decide (xs ++ ys) e))

@@ -74,7 +74,7 @@ Changeable j c xs (Rewrite i n) = i < length xs
 Changeable j c xs (Remove i) = i < length xs
 Changeable j c xs (Sweep gone new) =
     (gone ≡ total removes (fatesIn (take (length xs) (j .fates)))) × (new ≡ total marks (fatesIn (take (length xs) (j .fates))))
-    × (length xs + new ≤ c + gone) × (gone ≤ length xs) × (j .next + new ≤ spentNumber)
+    × (length xs + new ≤ c + gone) × (gone ≤ length xs) × (j .next + new ≤ spentNumber) × (length xs ≤ length (j .fates))
 
 abbrev pub Feasible : Judged → ℕ → List Row → Verdict → Type 0
 Feasible j c xs (Refused n) = (1 ≤ n) × (n ≤ 12)
