@@ -101,12 +101,43 @@ fn order_at(keys: &[u8], at: usize, key: &[u8]) -> Order
     compare_keys(stored, key)
 }
 
+// The first eight bytes of a key as a number, zeros behind a shorter key.
+fn first_rank(key: &[u8]) -> u64
+    ensures { λ r. ⌜ r ≡ rank 8 (now (key .entry)) ⌝ }
+{
+    if 8 <= key.len() {
+        return rank_at(key, 0);
+    }
+    let mut eight = [0; 8];
+    buffers::copy_in(&mut eight, 0, key);
+    rank_at(&eight, 0)
+}
+
+// The key of the row at a position, against a key with its first rank: where the ranks differ they decide.
+fn order_by_rank(keys: &[u8], at: usize, key: &[u8], first: u64) -> Order
+    requires { ⌜ (64 * at + 64 ≤ length (now keys)) × (getD (now keys) (64 * at) 0 ≤ 63) × (first ≡ rank 8 (now key)) ⌝ }
+    ensures { λ r. ⌜ isOrder r (keyAt (now (keys .entry)) at) (now (key .entry)) ≡ true ⌝ }
+{
+    let start = 64 * at;
+    if keys[start] < 8 {
+        return order_at(keys, at, key);
+    }
+    let stored = rank_at(keys, start + 1);
+    if stored < first {
+        return Order::Before;
+    }
+    if first < stored {
+        return Order::After;
+    }
+    order_at(keys, at, key)
+}
+
 // The key of the row at a position is before the key.
-fn key_before(keys: &[u8], at: usize, key: &[u8]) -> bool
-    requires { ⌜ (64 * at + 64 ≤ length (now keys)) × (getD (now keys) (64 * at) 0 ≤ 63) ⌝ }
+fn key_before(keys: &[u8], at: usize, key: &[u8], first: u64) -> bool
+    requires { ⌜ (64 * at + 64 ≤ length (now keys)) × (getD (now keys) (64 * at) 0 ≤ 63) × (first ≡ rank 8 (now key)) ⌝ }
     ensures { λ r. ⌜ r ≡ before (keyAt (now (keys .entry)) at) (now (key .entry)) ⌝ }
 {
-    let o = order_at(keys, at, key);
+    let o = order_by_rank(keys, at, key, first);
     match o {
         Order::Before => true,
         Order::Same => false,
@@ -115,15 +146,15 @@ fn key_before(keys: &[u8], at: usize, key: &[u8]) -> bool
 }
 
 // The row at a position is ahead of the key's version.
-fn row_ahead(rows: &[u64], keys: &[u8], at: usize, key: &[u8], version: u64) -> bool
-    requires { ⌜ HasRow (now rows) (now keys) at ⌝ }
+fn row_ahead(rows: &[u64], keys: &[u8], at: usize, key: &[u8], first: u64, version: u64) -> bool
+    requires { ⌜ HasRow (now rows) (now keys) at × (first ≡ rank 8 (now key)) ⌝ }
     ensures { λ r. ⌜ r ≡ (before (keyAt (now (keys .entry)) at) (now (key .entry)) || (same (keyAt (now (keys .entry)) at) (now (key .entry)) && ltb version (getD (now (rows .entry)) (8 * at) 0))) ⌝ }
 {
-    let o = order_at(keys, at, key);
-    let first = 8 * at;
+    let o = order_by_rank(keys, at, key, first);
+    let number = 8 * at;
     match o {
         Order::Before => true,
-        Order::Same => version < rows[first],
+        Order::Same => version < rows[number],
         Order::After => false,
     }
 }
@@ -160,11 +191,12 @@ fn key_place(rows: &[u64], keys: &[u8], used: usize, key: &[u8]) -> usize
     requires { ⌜ Searchable (now rows) (now keys) used ⌝ }
     ensures { λ r. ⌜ Within r (keyPlace (now (key .entry)) (rowsOf (now (rows .entry)) (now (keys .entry)) used)) used ⌝ }
 {
+    let first = first_rank(key);
     let mut low = 0;
     let mut high = used;
     while low < high {
         let middle = low + (high - low) / 2;
-        if key_before(keys, middle, key) {
+        if key_before(keys, middle, key, first) {
             low = middle + 1;
         } else {
             high = middle;
@@ -178,11 +210,12 @@ fn version_place(rows: &[u64], keys: &[u8], used: usize, key: &[u8], version: u6
     requires { ⌜ Searchable (now rows) (now keys) used ⌝ }
     ensures { λ r. ⌜ Within r (versionPlace (now (key .entry)) version (rowsOf (now (rows .entry)) (now (keys .entry)) used)) used ⌝ }
 {
+    let first = first_rank(key);
     let mut low = 0;
     let mut high = used;
     while low < high {
         let middle = low + (high - low) / 2;
-        if row_ahead(rows, keys, middle, key, version) {
+        if row_ahead(rows, keys, middle, key, first, version) {
             low = middle + 1;
         } else {
             high = middle;
