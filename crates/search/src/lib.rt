@@ -9,7 +9,7 @@ ghost use Rattle.buffers.specs.Ranges.{Within};
 ghost use Rattle.model.specs.Rows.{before};
 ghost use Rattle.table.specs.Layout.{rowsOf};
 ghost use Rattle.table.specs.Places.{keyAt};
-ghost use Rattle.search.specs.Keys.{isOrder, rank};
+ghost use Rattle.search.specs.Keys.{isOrder, rank, Shorter, LastEight};
 ghost use Rattle.search.specs.Places.{keyPlace, versionPlace, currentIn, versionIn};
 ghost use Rattle.search.specs.Searching.{HasRow, Searchable};
 
@@ -70,15 +70,48 @@ fn compare_from(a: &[u8], b: &[u8], at: usize) -> Order
     Order::Same
 }
 
-// Two keys by unsigned bytes, a prefix before the longer key: eight bytes at once, then one by one.
+// Compares keys that are the same up to the last eight bytes of the first n, which is the shorter length.
+fn compare_last(a: &[u8], b: &[u8], n: usize) -> Order
+    requires { ⌜ LastEight (now a) (now b) n ⌝ }
+    ensures { λ r. ⌜ isOrder r (now (a .entry)) (now (b .entry)) ≡ true ⌝ }
+{
+    let x = rank_at(a, n - 8);
+    let y = rank_at(b, n - 8);
+    if x < y {
+        return Order::Before;
+    }
+    if y < x {
+        return Order::After;
+    }
+    if n < b.len() {
+        return Order::Before;
+    }
+    if n < a.len() {
+        return Order::After;
+    }
+    Order::Same
+}
+
+// The shorter of two lengths.
+fn shorter(m: usize, n: usize) -> usize
+    ensures { λ r. ⌜ Shorter r m n ⌝ }
+{
+    if m < n {
+        return m;
+    }
+    n
+}
+
+// Two keys by unsigned bytes, a prefix before the longer key: eight bytes at once, the last eight from where they fit.
 pub fn compare_keys(a: &[u8], b: &[u8]) -> Order
     ensures { λ r. ⌜ isOrder r (now (a .entry)) (now (b .entry)) ≡ true ⌝ }
 {
+    let n = shorter(a.len(), b.len());
+    if n < 8 {
+        return compare_from(a, b, 0);
+    }
     let mut i = 0;
-    while 8 <= a.len() - i {
-        if b.len() - i < 8 {
-            return compare_from(a, b, i);
-        }
+    while i < n - 8 {
         let x = rank_at(a, i);
         let y = rank_at(b, i);
         if x < y {
@@ -89,7 +122,7 @@ pub fn compare_keys(a: &[u8], b: &[u8]) -> Order
         }
         i += 8;
     }
-    compare_from(a, b, i)
+    compare_last(a, b, n)
 }
 
 // The key of the row at a position, against a key.
