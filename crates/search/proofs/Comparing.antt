@@ -1,24 +1,28 @@
 -- Keys compared: byte by byte, and eight bytes at once.
 use Prim.Native.Nat.{ℕ, zero, suc, _+_, _-_, _*_, _^_, _≤_, _<_}
-use mathlib.Core.Path.{_≡_, refl, sym, ap, _∙_}
+use mathlib.Core.Path.{_≡_, refl, sym, ap, ap₂, _∙_}
 use mathlib.Core.Logic.{inl, inr}
 use mathlib.Core.Bool.{Bool, true, false, _&&_, _||_}
-use mathlib.Core.List.{List, [], _∷_}
+use mathlib.Core.List.{List, [], _∷_, _++_}
 use native.Mathlib.Omega.{arith}
+use mir.Val.{Fits}
+use mir.Syntax.{w8}
 use native.Mathlib.Nat.{mul-le-mul-right, suc-mul, pow-succ'}
 use lib.Dec.{eqb, ltb}
-use lib.ListN.{length, getD, drop, length-drop, drop-of-length-le}
-use lib.Seq.{drop-drop, getD-drop}
+use lib.ListN.{length, getD, take, drop, replicate, length-take, length-drop, drop-of-length-le, List·getD-eq-default}
+use lib.Seq.{take-nil, take-take, take-add, drop-drop, getD-take, getD-drop}
 use borrow.Author.Tests.{eq-eqb, eqb-true, eqb-false, lt-ltb, le-ltb, ltb-true, ltb-false}
 use Rattle.buffers.specs.Ranges.{Within}
 use Rattle.buffers.specs.Words.{AllBytes}
+use Rattle.buffers.specs.Writes.{Wrote}
 use Rattle.buffers.specs.Lists.{same}
 use Rattle.buffers.proofs.Tests.{either, clash, or-l, or-r, and-i}
 use Rattle.buffers.proofs.Lists.{same-path}
 use Rattle.text.proofs.Scans.{next}
+use Rattle.table.specs.Places.{keyAt}
 use Rattle.model.specs.Rows.{before}
 use Rattle.model.proofs.Order.{before-trans, before-irrefl}
-use Rattle.search.specs.Keys.{isOrder, rank}
+use Rattle.search.specs.Keys.{isOrder, rank, Shorter, LastEight}
 use Rattle.search.specs.declared.Order.{Order}
 use Rattle.search.specs.declared.Order.the-variants.{Before, Same, After}
 
@@ -95,27 +99,28 @@ rank-bound (suc k) (x ∷ s) h =
 greater : (x y p q r : ℕ) → p < r → x < y → x * r + p < y * r + q
 greater x y p q r h l = let m : suc x * r ≤ y * r = mul-le-mul-right r l in omega (arith, suc-mul x r)
 
--- A smaller number is that of the key before.
-rank-less : (k : ℕ) (s t : List ℕ) → AllBytes s → AllBytes t → k ≤ length s → k ≤ length t → rank k s < rank k t → before s t ≡ true
+-- A smaller number is that of the key before; behind a shorter key zeros count.
+rank-less : (k : ℕ) (s t : List ℕ) → AllBytes s → AllBytes t → rank k s < rank k t → before s t ≡ true
 unfolding rank
-rank-less zero s t p q h g l = absurd (omega arith)
-rank-less (suc k) [] t p q h g l = absurd (omega arith)
-rank-less (suc k) (x ∷ s) [] p q h g l = absurd (omega arith)
-rank-less (suc k) (x ∷ s) (y ∷ t) p q h g l =
+rank-less zero s t p q l = absurd (omega arith)
+rank-less (suc k) [] [] p q l = absurd (omega arith)
+rank-less (suc k) [] (y ∷ t) p q l = refl
+rank-less (suc k) (x ∷ s) [] p q l = absurd (omega arith)
+rank-less (suc k) (x ∷ s) (y ∷ t) p q l =
     elim (either (ltb x y)) [
       | inl e ↦ or-l (ltb x y) _ e
       | inr e ↦ elim (either (eqb x y)) [
         | inl d ↦
             let m : x * 256 ^ k ≡ y * 256 ^ k = ap (λ (z : ℕ). z * 256 ^ k) (eqb-true x y d) in
-            or-r (ltb x y) _ (and-i (eqb x y) _ d (rank-less k s t (λ j. p (suc j)) (λ j. q (suc j)) (omega arith) (omega arith) (omega arith)))
+            or-r (ltb x y) _ (and-i (eqb x y) _ d (rank-less k s t (λ j. p (suc j)) (λ j. q (suc j)) (omega arith)))
         | inr d ↦ absurd (omega (arith, eqb-false x y d, greater y x (rank k t) (rank k s) (256 ^ k) (rank-bound k t (λ j. q (suc j))) (omega (arith, ltb-false x y e, eqb-false x y d))))
       ]
     ]
 
 -- Equal numbers are those of equal bytes.
-rank-same : (k : ℕ) (s t : List ℕ) → AllBytes s → AllBytes t → k ≤ length s → k ≤ length t → rank k s ≡ rank k t → Alike s t (drop k s) (drop k t)
+rank-same : (k : ℕ) (s t : List ℕ) → AllBytes s → AllBytes t → k ≤ length s → k ≤ length t → rank k s ≡ rank k t → take k s ≡ take k t
 unfolding rank
-rank-same zero s t p q h g l = alike-start s t
+rank-same zero s t p q h g l = refl
 rank-same (suc k) [] t p q h g l = absurd (omega arith)
 rank-same (suc k) (x ∷ s) [] p q h g l = absurd (omega arith)
 rank-same (suc k) (x ∷ s) (y ∷ t) p q h g l =
@@ -126,51 +131,172 @@ rank-same (suc k) (x ∷ s) (y ∷ t) p q h g l =
         | inr d ↦
             let z : x ≡ y = omega (arith, ltb-false x y e, ltb-false y x d) in
             let m : x * 256 ^ k ≡ y * 256 ^ k = ap (λ (w : ℕ). w * 256 ^ k) z in
-            let rest = rank-same k s t (λ j. p (suc j)) (λ j. q (suc j)) (omega arith) (omega arith) (omega arith) in
-            record { alike = λ o. same-head o x y s t z ∙ rest .alike o }
+            ap₂ (λ (w : ℕ) (l : List ℕ). w ∷ l) z (rank-same k s t (λ j. p (suc j)) (λ j. q (suc j)) (omega arith) (omega arith) (omega arith))
       ]
     ]
+
+-- Keys with the same first bytes stand as what follows these.
+alike-take : (i : ℕ) (a b : List ℕ) → i ≤ length a → i ≤ length b → take i a ≡ take i b → Alike a b (drop i a) (drop i b)
+alike-take zero a b h g e = alike-start a b
+alike-take (suc i) [] b h g e = absurd (omega arith)
+alike-take (suc i) (x ∷ a) [] h g e = absurd (omega arith)
+alike-take (suc i) (x ∷ a) (y ∷ b) h g e =
+    let z : x ≡ y = cc in
+    let r : take i a ≡ take i b = cc in
+    record { alike = λ o. same-head o x y a b z ∙ alike-take i a b (omega arith) (omega arith) r .alike o }
 
 bytes-from : (i : ℕ) (s : List ℕ) → AllBytes s → AllBytes (drop i s)
 bytes-from i s h k = rw (getD-drop i s k 0) (h (i + k))
 
--- what holds at each turn: the first i bytes are the same
-pub record Words (a b : List ℕ) (i : ℕ) : Type 0 where
-  pub left : i ≤ length a
-  pub right : i ≤ length b
-  pub left-bytes : AllBytes a
-  pub right-bytes : AllBytes b
-  pub rest : Alike a b (drop i a) (drop i b)
+all-bytes : (s : List ℕ) → ((j : ℕ) → Fits w8 (getD s j 0)) → AllBytes s
+all-bytes s h j = omega (arith, h j)
 
-pub words-start : (a b : List ℕ) → AllBytes a → AllBytes b → Words a b 0
-words-start a b p q = record { left = omega arith; right = omega arith; left-bytes = p; right-bytes = q; rest = alike-start a b }
+module _ (a b : List ℕ) (i x y : ℕ) (p : (j : ℕ) → Fits w8 (getD a j 0)) (q : (j : ℕ) → Fits w8 (getD b j 0))
+    (h : i + 8 ≤ length a) (g : i + 8 ≤ length b) (e : take i a ≡ take i b) (ex : x ≡ rank 8 (drop i a)) (ey : y ≡ rank 8 (drop i b)) where
+  left-bytes : AllBytes (drop i a)
+  left-bytes = bytes-from i a (all-bytes a p)
 
-module _ (a b : List ℕ) (i x y : ℕ) (w : Words a b i) (h : 8 ≤ length a - i) (g : 8 ≤ length b - i) (ex : x ≡ rank 8 (drop i a)) (ey : y ≡ rank 8 (drop i b)) where
-  pub words-less : x < y → isOrder Before a b ≡ true
-  words-less d =
-      w .rest .alike Before
-      ∙ rank-less 8 (drop i a) (drop i b) (bytes-from i a (w .left-bytes)) (bytes-from i b (w .right-bytes)) (rw length-drop h) (rw length-drop g) (omega arith)
+  right-bytes : AllBytes (drop i b)
+  right-bytes = bytes-from i b (all-bytes b q)
 
-  pub words-more : y < x → isOrder After a b ≡ true
-  words-more d =
-      w .rest .alike After
-      ∙ rank-less 8 (drop i b) (drop i a) (bytes-from i b (w .right-bytes)) (bytes-from i a (w .left-bytes)) (rw length-drop g) (rw length-drop h) (omega arith)
+  eight-less : x < y → isOrder Before a b ≡ true
+  eight-less d = alike-take i a b (omega arith) (omega arith) e .alike Before ∙ rank-less 8 (drop i a) (drop i b) left-bytes right-bytes (omega arith)
 
-  pub words-again : y ≤ x → x ≤ y → Words a b (i + 8)
-  words-again d e =
-      let eight = rank-same 8 (drop i a) (drop i b) (bytes-from i a (w .left-bytes)) (bytes-from i b (w .right-bytes)) (rw length-drop h) (rw length-drop g) (omega arith) in
+  eight-more : y < x → isOrder After a b ≡ true
+  eight-more d = alike-take i a b (omega arith) (omega arith) e .alike After ∙ rank-less 8 (drop i b) (drop i a) right-bytes left-bytes (omega arith)
+
+  eight-same : y ≤ x → x ≤ y → take (i + 8) a ≡ take (i + 8) b
+  eight-same d f =
+      take-add i 8 a
+      ∙ ap₂ (λ (s t : List ℕ). s ++ t) e (rank-same 8 (drop i a) (drop i b) left-bytes right-bytes (rw length-drop (omega arith)) (rw length-drop (omega arith)) (omega arith))
+      ∙ sym (take-add i 8 b)
+
+-- The last eight of the bytes that both keys have, then the lengths.
+module _ (a b : List ℕ) (n x y : ℕ) (w : LastEight a b n) (ex : x ≡ rank 8 (drop (n - 8) a)) (ey : y ≡ rank 8 (drop (n - 8) b))
+    (p : (j : ℕ) → Fits w8 (getD a j 0)) (q : (j : ℕ) → Fits w8 (getD b j 0)) where
+  pub last-less : x < y → isOrder Before a b ≡ true
+  last-less d = eight-less a b (n - 8) x y p q (omega (arith, w .eight, w .left)) (omega (arith, w .eight, w .right)) (w .start) ex ey d
+
+  pub last-more : y < x → isOrder After a b ≡ true
+  last-more d = eight-more a b (n - 8) x y p q (omega (arith, w .eight, w .left)) (omega (arith, w .eight, w .right)) (w .start) ex ey d
+
+  module _ (d : y ≤ x) (f : x ≤ y) where
+    all-same : Alike a b (drop n a) (drop n b)
+    all-same =
+        let m : n - 8 + 8 ≡ n = omega (arith, w .eight) in
+        alike-take n a b (w .left) (w .right)
+        (rw m at (eight-same a b (n - 8) x y p q (omega (arith, w .eight, w .left)) (omega (arith, w .eight, w .right)) (w .start) ex ey d f))
+
+    pub last-shorter : n < length b → isOrder Before a b ≡ true
+    last-shorter h = keys-shorter a b a b n all-same (w .ends h) h
+
+    pub last-longer : length b ≤ n → n < length a → isOrder After a b ≡ true
+    last-longer h g = keys-longer a b a b n all-same g h
+
+    pub last-both : length b ≤ n → length a ≤ n → isOrder Same a b ≡ true
+    last-both h g = keys-both a b a b n all-same g h
+
+pub ruleset last-cases = (last-less, last-more, last-shorter, last-longer, last-both)
+
+-- what holds at each turn: of the n bytes that both keys have the first i are the same
+pub record Words (a b : List ℕ) (n i : ℕ) : Type 0 where
+  pub shorter : Shorter n (length a) (length b)
+  pub eight : 8 ≤ n
+  pub shared : take i a ≡ take i b
+
+pub words-start : (a b : List ℕ) (n : ℕ) → Shorter n (length a) (length b) → 8 ≤ n → Words a b n 0
+words-start a b n s h = record { shorter = s; eight = h; shared = refl }
+
+module _ (a b : List ℕ) (n i : ℕ) (w : Words a b n i) where
+  module _ (h : i < n - 8) where
+    pub words-left : i + 8 ≤ length a
+    words-left = omega (arith, w .shorter .left)
+
+    pub words-right : i + 8 ≤ length b
+    words-right = omega (arith, w .shorter .right)
+
+    module _ (x y : ℕ) (ex : x ≡ rank 8 (drop i a)) (ey : y ≡ rank 8 (drop i b)) (p : (j : ℕ) → Fits w8 (getD a j 0)) (q : (j : ℕ) → Fits w8 (getD b j 0)) where
+      pub words-less : x < y → isOrder Before a b ≡ true
+      words-less d = eight-less a b i x y p q words-left words-right (w .shared) ex ey d
+
+      pub words-more : y < x → isOrder After a b ≡ true
+      words-more d = eight-more a b i x y p q words-left words-right (w .shared) ex ey d
+
+      pub words-again : y ≤ x → x ≤ y → Words a b n (i + 8)
+      words-again d f = record { shorter = w .shorter; eight = w .eight; shared = eight-same a b i x y p q words-left words-right (w .shared) ex ey d f }
+
+  pub words-end : n - 8 ≤ i → LastEight a b n
+  words-end h =
       record {
-        left = omega arith;
-        right = omega arith;
-        left-bytes = w .left-bytes;
-        right-bytes = w .right-bytes;
-        rest = record { alike = λ o. w .rest .alike o ∙ eight .alike o ∙ simp drop-drop };
+        eight = w .eight;
+        left = w .shorter .left;
+        right = w .shorter .right;
+        ends = w .shorter .ends;
+        start = sym (take-take (n - 8) i a h) ∙ ap (take (n - 8)) (w .shared) ∙ take-take (n - 8) i b h;
       }
 
-pub words-end : (a b : List ℕ) (i : ℕ) (r : Order) → Words a b i → isOrder r (drop i a) (drop i b) ≡ true → isOrder r a b ≡ true
-words-end a b i r w e = w .rest .alike r ∙ e
+pub ruleset word-cases = (words-start, words-left, words-right, words-less, words-more, words-again, words-end)
 
-pub ruleset word-cases = (words-less, words-more, words-again, words-end)
+-- ## By the first eight bytes
+
+zeros-rank : (k m c : ℕ) → rank k (drop m (replicate c 0)) ≡ 0
+unfolding rank
+zeros-rank zero m c = refl
+zeros-rank (suc k) zero zero = refl
+zeros-rank (suc k) (suc m) zero = refl
+zeros-rank (suc k) zero (suc c) = omega (arith, zeros-rank k zero c)
+zeros-rank (suc k) (suc m) (suc c) = zeros-rank (suc k) m c
+
+rank-padded : (k : ℕ) (s : List ℕ) (m c : ℕ) → rank k (s ++ drop m (replicate c 0)) ≡ rank k s
+unfolding rank
+rank-padded zero s m c = refl
+rank-padded (suc k) [] m c = zeros-rank (suc k) m c
+rank-padded (suc k) (x ∷ s) m c = ap (λ (r : ℕ). x * 256 ^ k + r) (rank-padded k s m c)
+
+-- Eight zeros with a key written over them spell what the key's first eight bytes do.
+pub first-padded : (s eight : List ℕ) (e r : ℕ) → Wrote (replicate 8 0) 0 s (length s) eight e → r ≡ rank 8 (drop 0 eight) → r ≡ rank 8 s
+first-padded s eight e r w q = q ∙ ap (rank 8) (w .holds) ∙ rank-padded 8 s (0 + length s) 8
+
+rank-take : (k n : ℕ) (s : List ℕ) → k ≤ n → rank k (take n s) ≡ rank k s
+unfolding rank
+rank-take zero n s h = refl
+rank-take (suc k) zero s h = absurd (omega arith)
+rank-take (suc k) (suc n) [] h = refl
+rank-take (suc k) (suc n) (x ∷ s) h = ap (λ (r : ℕ). x * 256 ^ k + r) (rank-take k n s (omega arith))
+
+drop-take : (n : ℕ) (s : List ℕ) → drop 1 (take (suc n) s) ≡ take n (drop 1 s)
+drop-take n [] = sym (take-nil n)
+drop-take n (x ∷ s) = refl
+
+bytes-to : (n : ℕ) (s : List ℕ) → AllBytes s → AllBytes (take n s)
+bytes-to n s h k =
+    elim (either (ltb k n)) [
+      | inl e ↦ rw (getD-take n s k 0 (ltb-true k n e)) (h k)
+      | inr e ↦ rw (List·getD-eq-default (take n s) 0 {n = k} (rw length-take (omega (arith, ltb-false k n e)))) (omega arith)
+    ]
+
+-- The key in a row's block, where it has eight bytes or more.
+module _ (b k : List ℕ) (i x y : ℕ) (ex : x ≡ rank 8 (drop (64 * i + 1) b)) (ey : y ≡ rank 8 k) (h : 8 ≤ getD b (64 * i) 0) (p : (j : ℕ) → Fits w8 (getD b j 0)) (q : (j : ℕ) → Fits w8 (getD k j 0)) where
+  stored-bytes : AllBytes (keyAt b i)
+  stored-bytes =
+      let block = take 64 (drop (64 * i) b) in
+      bytes-to (getD block 0 0) (drop 1 block) (bytes-from 1 block (bytes-to 64 (drop (64 * i) b) (bytes-from (64 * i) b (all-bytes b p))))
+
+  stored-rank : x ≡ rank 8 (keyAt b i)
+  stored-rank =
+      let z : 64 * i + 0 ≡ 64 * i = omega arith in
+      let f : getD (take 64 (drop (64 * i) b)) 0 0 ≡ getD b (64 * i) 0 = getD-take 64 (drop (64 * i) b) 0 0 (omega arith) ∙ getD-drop (64 * i) b 0 0 ∙ rw z in
+      ex ∙ ap (rank 8) (sym (drop-drop 1 (64 * i) b)) ∙ sym (rank-take 8 63 (drop 1 (drop (64 * i) b)) (omega arith))
+      ∙ ap (rank 8) (sym (drop-take 63 (drop (64 * i) b)))
+      ∙ sym (rank-take 8 (getD (take 64 (drop (64 * i) b)) 0 0) (drop 1 (take 64 (drop (64 * i) b))) (omega arith))
+
+  pub first-less : x < y → isOrder Before (keyAt b i) k ≡ true
+  first-less d = rank-less 8 (keyAt b i) k stored-bytes (all-bytes k q) (omega (arith, stored-rank))
+
+  pub first-more : y < x → isOrder After (keyAt b i) k ≡ true
+  first-more d = rank-less 8 k (keyAt b i) (all-bytes k q) stored-bytes (omega (arith, stored-rank))
+
+pub ruleset first-cases = (first-padded, first-less, first-more)
 
 -- ## What an order says of the other two
 

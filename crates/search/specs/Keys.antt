@@ -1,7 +1,9 @@
 -- The order of two keys, and bytes as a number that orders them.
-use Prim.Native.Nat.{ℕ, zero, suc, _+_, _*_, _^_}
+use Prim.Native.Nat.{ℕ, zero, suc, _+_, _-_, _*_, _^_, _≤_, _<_}
+use mathlib.Core.Path.{_≡_}
 use mathlib.Core.Bool.{Bool}
 use mathlib.Core.List.{List, [], _∷_}
+use lib.ListN.{length, take}
 use Rattle.buffers.specs.Lists.{same}
 use Rattle.model.specs.Rows.{before}
 use Rattle.search.specs.declared.Order.{Order}
@@ -18,3 +20,17 @@ unfoldable pub rank : ℕ → List ℕ → ℕ
 rank zero l = 0
 rank (suc k) [] = 0
 rank (suc k) (b ∷ l) = b * 256 ^ k + rank k l
+
+-- the shorter of two lengths
+pub record Shorter (r m n : ℕ) : Type 0 where
+  pub left : r ≤ m
+  pub right : r ≤ n
+  pub ends : r < n → m ≤ r
+
+-- of the n bytes that both keys have, n being the shorter length, all but the last eight are the same
+pub record LastEight (a b : List ℕ) (n : ℕ) : Type 0 where
+  pub eight : 8 ≤ n
+  pub left : n ≤ length a
+  pub right : n ≤ length b
+  pub ends : n < length b → length a ≤ n
+  pub start : take (n - 8) a ≡ take (n - 8) b

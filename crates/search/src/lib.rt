@@ -9,7 +9,7 @@ ghost use Rattle.buffers.specs.Ranges.{Within};
 ghost use Rattle.model.specs.Rows.{before};
 ghost use Rattle.table.specs.Layout.{rowsOf};
 ghost use Rattle.table.specs.Places.{keyAt};
-ghost use Rattle.search.specs.Keys.{isOrder, rank};
+ghost use Rattle.search.specs.Keys.{isOrder, rank, Shorter, LastEight};
 ghost use Rattle.search.specs.Places.{keyPlace, versionPlace, currentIn, versionIn};
 ghost use Rattle.search.specs.Searching.{HasRow, Searchable};
 
@@ -70,15 +70,48 @@ fn compare_from(a: &[u8], b: &[u8], at: usize) -> Order
     Order::Same
 }
 
-// Two keys by unsigned bytes, a prefix before the longer key: eight bytes at once, then one by one.
+// Compares keys that are the same up to the last eight bytes of the first n, which is the shorter length.
+fn compare_last(a: &[u8], b: &[u8], n: usize) -> Order
+    requires { ⌜ LastEight (now a) (now b) n ⌝ }
+    ensures { λ r. ⌜ isOrder r (now (a .entry)) (now (b .entry)) ≡ true ⌝ }
+{
+    let x = rank_at(a, n - 8);
+    let y = rank_at(b, n - 8);
+    if x < y {
+        return Order::Before;
+    }
+    if y < x {
+        return Order::After;
+    }
+    if n < b.len() {
+        return Order::Before;
+    }
+    if n < a.len() {
+        return Order::After;
+    }
+    Order::Same
+}
+
+// The shorter of two lengths.
+fn shorter(m: usize, n: usize) -> usize
+    ensures { λ r. ⌜ Shorter r m n ⌝ }
+{
+    if m < n {
+        return m;
+    }
+    n
+}
+
+// Two keys by unsigned bytes, a prefix before the longer key: eight bytes at once, the last eight from where they fit.
 pub fn compare_keys(a: &[u8], b: &[u8]) -> Order
     ensures { λ r. ⌜ isOrder r (now (a .entry)) (now (b .entry)) ≡ true ⌝ }
 {
+    let n = shorter(a.len(), b.len());
+    if n < 8 {
+        return compare_from(a, b, 0);
+    }
     let mut i = 0;
-    while 8 <= a.len() - i {
-        if b.len() - i < 8 {
-            return compare_from(a, b, i);
-        }
+    while i < n - 8 {
         let x = rank_at(a, i);
         let y = rank_at(b, i);
         if x < y {
@@ -89,7 +122,7 @@ pub fn compare_keys(a: &[u8], b: &[u8]) -> Order
         }
         i += 8;
     }
-    compare_from(a, b, i)
+    compare_last(a, b, n)
 }
 
 // The key of the row at a position, against a key.
@@ -101,12 +134,43 @@ fn order_at(keys: &[u8], at: usize, key: &[u8]) -> Order
     compare_keys(stored, key)
 }
 
+// The first eight bytes of a key as a number, zeros behind a shorter key.
+fn first_rank(key: &[u8]) -> u64
+    ensures { λ r. ⌜ r ≡ rank 8 (now (key .entry)) ⌝ }
+{
+    if 8 <= key.len() {
+        return rank_at(key, 0);
+    }
+    let mut eight = [0; 8];
+    buffers::copy_in(&mut eight, 0, key);
+    rank_at(&eight, 0)
+}
+
+// The key of the row at a position, against a key with its first rank: where the ranks differ they decide.
+fn order_by_rank(keys: &[u8], at: usize, key: &[u8], first: u64) -> Order
+    requires { ⌜ (64 * at + 64 ≤ length (now keys)) × (getD (now keys) (64 * at) 0 ≤ 63) × (first ≡ rank 8 (now key)) ⌝ }
+    ensures { λ r. ⌜ isOrder r (keyAt (now (keys .entry)) at) (now (key .entry)) ≡ true ⌝ }
+{
+    let start = 64 * at;
+    if keys[start] < 8 {
+        return order_at(keys, at, key);
+    }
+    let stored = rank_at(keys, start + 1);
+    if stored < first {
+        return Order::Before;
+    }
+    if first < stored {
+        return Order::After;
+    }
+    order_at(keys, at, key)
+}
+
 // The key of the row at a position is before the key.
-fn key_before(keys: &[u8], at: usize, key: &[u8]) -> bool
-    requires { ⌜ (64 * at + 64 ≤ length (now keys)) × (getD (now keys) (64 * at) 0 ≤ 63) ⌝ }
+fn key_before(keys: &[u8], at: usize, key: &[u8], first: u64) -> bool
+    requires { ⌜ (64 * at + 64 ≤ length (now keys)) × (getD (now keys) (64 * at) 0 ≤ 63) × (first ≡ rank 8 (now key)) ⌝ }
     ensures { λ r. ⌜ r ≡ before (keyAt (now (keys .entry)) at) (now (key .entry)) ⌝ }
 {
-    let o = order_at(keys, at, key);
+    let o = order_by_rank(keys, at, key, first);
     match o {
         Order::Before => true,
         Order::Same => false,
@@ -115,15 +179,15 @@ fn key_before(keys: &[u8], at: usize, key: &[u8]) -> bool
 }
 
 // The row at a position is ahead of the key's version.
-fn row_ahead(rows: &[u64], keys: &[u8], at: usize, key: &[u8], version: u64) -> bool
-    requires { ⌜ HasRow (now rows) (now keys) at ⌝ }
+fn row_ahead(rows: &[u64], keys: &[u8], at: usize, key: &[u8], first: u64, version: u64) -> bool
+    requires { ⌜ HasRow (now rows) (now keys) at × (first ≡ rank 8 (now key)) ⌝ }
     ensures { λ r. ⌜ r ≡ (before (keyAt (now (keys .entry)) at) (now (key .entry)) || (same (keyAt (now (keys .entry)) at) (now (key .entry)) && ltb version (getD (now (rows .entry)) (8 * at) 0))) ⌝ }
 {
-    let o = order_at(keys, at, key);
-    let first = 8 * at;
+    let o = order_by_rank(keys, at, key, first);
+    let number = 8 * at;
     match o {
         Order::Before => true,
-        Order::Same => version < rows[first],
+        Order::Same => version < rows[number],
         Order::After => false,
     }
 }
@@ -160,11 +224,12 @@ fn key_place(rows: &[u64], keys: &[u8], used: usize, key: &[u8]) -> usize
     requires { ⌜ Searchable (now rows) (now keys) used ⌝ }
     ensures { λ r. ⌜ Within r (keyPlace (now (key .entry)) (rowsOf (now (rows .entry)) (now (keys .entry)) used)) used ⌝ }
 {
+    let first = first_rank(key);
     let mut low = 0;
     let mut high = used;
     while low < high {
         let middle = low + (high - low) / 2;
-        if key_before(keys, middle, key) {
+        if key_before(keys, middle, key, first) {
             low = middle + 1;
         } else {
             high = middle;
@@ -178,11 +243,12 @@ fn version_place(rows: &[u64], keys: &[u8], used: usize, key: &[u8], version: u6
     requires { ⌜ Searchable (now rows) (now keys) used ⌝ }
     ensures { λ r. ⌜ Within r (versionPlace (now (key .entry)) version (rowsOf (now (rows .entry)) (now (keys .entry)) used)) used ⌝ }
 {
+    let first = first_rank(key);
     let mut low = 0;
     let mut high = used;
     while low < high {
         let middle = low + (high - low) / 2;
-        if row_ahead(rows, keys, middle, key, version) {
+        if row_ahead(rows, keys, middle, key, first, version) {
             low = middle + 1;
         } else {
             high = middle;

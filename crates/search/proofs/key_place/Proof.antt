@@ -8,10 +8,10 @@ use Rattle.search.proofs.key_place.Statement.{statement}
 use Rattle.search.proofs.key_place.Tie as tie
 
 abbrev Inv-loop : tie.InvT-loop
-Inv-loop rows keys used key low₀ high₀ low high = Between rows keys used (keyPlace key (rowsOf rows keys used)) low high
+Inv-loop rows keys used key first low₀ high₀ low high = Between rows keys used (keyPlace key (rowsOf rows keys used)) low high
 
 abbrev μ-loop : tie.MeasureT-loop
-μ-loop rows keys used key low₀ high₀ low high = high - low
+μ-loop rows keys used key first low₀ high₀ low high = high - low
 
 pub key-place-spec : {M : Type 1} → statement M
 key-place-spec =
@@ -19,6 +19,7 @@ key-place-spec =
     (tie.spec
     Inv-loop
     μ-loop
+    (λ c κs. search needs)
     (λ c. search (needs, halving))
     (λ c. search (needs, halving))
     (λ c. search (needs, halving))
