@@ -9,7 +9,7 @@ use Rattle.buffers.proofs.Tests.{either}
 use Rattle.text.specs.Fields.{tabbed}
 use Rattle.text.specs.Printing.{digits}
 use Rattle.text.proofs.Printing.{digits-long}
-use Rattle.calendar.proofs.Printing.{printed-length}
+use Rattle.dates.proofs.Printing.{printed-length}
 use Rattle.model.specs.Rows.{governance}
 use Rattle.model.specs.Requests.{numbered}
 use Rattle.model.specs.Answers.{Answer, done, made, marked, removed, removedMarker, sweptCounts, shown}

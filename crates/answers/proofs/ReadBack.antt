@@ -4,8 +4,8 @@ use mathlib.Core.Path.{_≡_}
 use mathlib.Core.Option.{some}
 use borrow.Author.Tests.{ne-eqb}
 use Rattle.calendar.specs.Calendar.{latest}
-use Rattle.calendar.specs.Reading.{readDate}
-use Rattle.calendar.proofs.RoundTrip.{round-trip}
+use Rattle.dates.specs.Reading.{readDate}
+use Rattle.dates.proofs.RoundTrip.{round-trip}
 use Rattle.answers.specs.Text.{untilText}
 
 pub until-back : (m d : ℕ) → (m ≡ 0 → ⊥) → d ≤ latest → readDate (untilText m d) ≡ some d

@@ -3,7 +3,7 @@ use mathlib.Core.Path.{_≡_, refl}
 use Rattle.buffers.specs.Texts.{bytes}
 use Rattle.text.specs.Printing.{digits}
 use Rattle.calendar.specs.Calendar.{leap, yearsLength, monthStart, guessOf, yearOf, monthOf, dateIn, civilOf}
-use Rattle.calendar.specs.Printing.{dateText, printDate}
+use Rattle.dates.specs.Printing.{dateText, printDate}
 use Rattle.model.specs.Rows.{Row, compliance}
 use Rattle.model.specs.Requests.{numbered}
 use Rattle.model.specs.Answers as model

@@ -6,7 +6,7 @@ use Rattle.buffers.specs.Choices.{pick}
 use Rattle.buffers.specs.Texts.{bytes}
 use Rattle.text.specs.Printing.{digits}
 use Rattle.text.specs.Fields.{tabbed}
-use Rattle.calendar.specs.Printing.{printDate}
+use Rattle.dates.specs.Printing.{printDate}
 use Rattle.model.specs.Rows.{Row, governance}
 use Rattle.model.specs.Requests.{Version, numbered}
 use Rattle.model.specs.Answers.{Answer, done, made, marked, removed, removedMarker, sweptCounts, shown}

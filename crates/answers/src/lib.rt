@@ -5,7 +5,7 @@ ghost use mathlib.Core.List.{[], _∷_};
 ghost use Rattle.buffers.specs.Writes.{Wrote};
 ghost use Rattle.text.specs.Printing.{digits};
 ghost use Rattle.calendar.specs.Calendar.{latest};
-ghost use Rattle.calendar.specs.Printing.{printDate};
+ghost use Rattle.dates.specs.Printing.{printDate};
 ghost use Rattle.answers.specs.Text.{fieldsText, okText, modeText, untilText, holdText, rowFields};
 ghost use Rattle.answers.specs.Meaning.{rowShown, textOf, Printable};
 
@@ -54,7 +54,7 @@ fn put_date(out: &mut [u8], at: usize, instant: u64) -> usize
     ensures { λ r. ⌜ Wrote (now (out .entry)) at (9 ∷ printDate instant) 25 (now (out .exit)) r ⌝ }
 {
     let after_tab = buffers::copy_in(out, at, b"\t");
-    calendar::print_date(out, after_tab, instant)
+    dates::print_date(out, after_tab, instant)
 }
 
 // A tab and a row's mode.

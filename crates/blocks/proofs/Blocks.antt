@@ -2,13 +2,13 @@
 use Prim.Native.Nat.{ℕ, suc, _+_, _-_, _≤_, _<_}
 use mathlib.Core.Path.{_≡_, refl, sym, ap, _∙_}
 use mathlib.Core.Bool.{true}
-use mathlib.Core.List.{List, [], _∷_, _++_, append-nil}
+use mathlib.Core.List.{List, [], _∷_, _++_}
 use native.Mathlib.Omega.{arith}
-use lib.ListN.{length, getD, take, drop, set, replicate, length-append, length-take, length-replicate, take-append-drop, replicate-append-replicate}
+use lib.ListN.{length, getD, take, drop, set, replicate, length-append, length-take, length-replicate}
 use lib.Seq.{take-all, take-at}
 use Rattle.buffers.specs.Writes.{Wrote}
 use Rattle.buffers.proofs.Lists.{same-refl}
-use Rattle.buffers.proofs.Writes.{wrote-byte, wrote-both, wrote-as}
+use Rattle.buffers.proofs.Writes.{wrote-both, wrote-as}
 use Rattle.blocks.specs.Blocks.{blockOf, keyIn, isBlock}
 
 -- A block has 64 bytes.
@@ -41,26 +41,6 @@ block-block k h = rw (key-back k h) (same-refl (blockOf k))
 
 pub key-cut : (b : List ℕ) (n : ℕ) → take (n + 1 - 1) (drop 1 b) ≡ take n (drop 1 b)
 key-cut b n = let q : n + 1 - 1 ≡ n = omega arith in rw q
-
-module _ (out : List ℕ) (a : ℕ) where
-  pub zeros-start : Wrote out a (replicate 0 0) 0 out (a + 0)
-  zeros-start =
-      let q : a + 0 ≡ a = omega arith in
-      record { next = refl; holds = rw (q, append-nil) (sym (take-append-drop a out)); long = refl; most = omega arith }
-
-  pub zeros-step : (m : List ℕ) (i n : ℕ) → Wrote out a (replicate i 0) i m (a + i) → i < n → a + n ≤ length out
-      → Wrote out a (replicate (i + 1) 0) (i + 1) (set m (a + i) 0) (a + (i + 1))
-  zeros-step m i n w h l =
-      let d = w .long in
-      let q : a + i + 1 ≡ a + (i + 1) = omega arith in
-      rw q at (wrote-as out a (replicate i 0 ++ 0 ∷ []) (replicate (i + 1) 0) (i + 1) (i + 1) (set m (a + i) 0) (a + i + 1)
-      (wrote-both out a (replicate i 0) i m (a + i) (0 ∷ []) 1 (set m (a + i) 0) (a + i + 1) (omega arith) w (wrote-byte m (a + i) 0 (omega arith)))
-      (replicate-append-replicate i 1 0) (rw length-replicate (omega arith)))
-
-  pub zeros-end : (m : List ℕ) (i n : ℕ) → Wrote out a (replicate i 0) i m (a + i) → i ≤ n → n ≤ i → Wrote out a (replicate n 0) n m (a + i)
-  zeros-end m i n w h k = let q : i ≡ n = omega arith in rw q (rw q at w)
-
-pub ruleset zeros-cases = (zeros-start, zeros-step, zeros-end)
 
 -- The length, the key, zeros.
 pub block-written : (out : List ℕ) (a : ℕ) (k : List ℕ) (m n exit : List ℕ) (r s q : ℕ) → a + 64 ≤ length out → length k ≤ 63

@@ -17,19 +17,6 @@ pub fn key_in(block: &[u8]) -> &[u8]
     &block[1..end]
 }
 
-// Writes n zeros from `at` on, and returns the place after them.
-fn put_zeros(out: &mut [u8], at: usize, n: usize) -> usize
-    requires { ⌜ at + n ≤ length (now out) ⌝ }
-    ensures { λ r. ⌜ Wrote (now (out .entry)) at (replicate n 0) n (now (out .exit)) r ⌝ }
-{
-    let mut i = 0;
-    while i < n {
-        out[at + i] = 0;
-        i += 1;
-    }
-    at + i
-}
-
 // Writes the 64 bytes of a key from `at` on, and returns the place after them.
 pub fn put_block(out: &mut [u8], at: usize, key: &[u8]) -> usize
     requires { ⌜ (at + 64 ≤ length (now out)) × (length (now key) ≤ 63) ⌝ }
@@ -39,7 +26,7 @@ pub fn put_block(out: &mut [u8], at: usize, key: &[u8]) -> usize
     let first = [n as u8];
     let start = buffers::copy_in(out, at, &first);
     let end = buffers::copy_in(out, start, key);
-    put_zeros(out, end, 63 - n)
+    buffers::put_zero_bytes(out, end, 63 - n)
 }
 
 // Whether byte j of the 64 is right behind a first byte n: zero after place n and nowhere else, or a byte of a key.

@@ -1,12 +1,13 @@
 -- Laws of the loops that move a list within its own length: what is done already holds what the move leaves, the rest is as it was.
 use Prim.Native.Nat.{ℕ, suc, _+_, _-_, _≤_, _<_}
 use mathlib.Core.Path.{_≡_, sym, ap, _∙_}
-use mathlib.Core.List.{List, _∷_, _++_, append-nil}
+use mathlib.Core.List.{List, [], _∷_, _++_, append-nil}
 use native.Mathlib.Omega.{arith}
 use native.Mathlib.Numerals.{add-one}
-use lib.ListN.{length, take, drop, getD, set, replicate, length-append, length-take, length-drop, length-replicate, take-append-drop, List·getD-append, getD-replicate}
+use lib.ListN.{length, take, drop, getD, set, replicate, length-append, length-take, length-drop, length-replicate, drop-of-length-le, take-append-drop, List·getD-append, getD-replicate}
 use lib.Seq.{length-take-le, take-length, drop-length, take-suc, drop-cons, append-snoc, set-at, take-at, drop-at, getD-take, getD-drop, getD-append-add}
-use Rattle.buffers.specs.Moves.{movedUp, movedDown, zeroedFrom}
+use Rattle.buffers.specs.Moves.{movedUp, movedDown}
+use Rattle.buffers.specs.Writes.{Wrote}
 
 -- the first i elements of the one list, and the other's after them
 abbrev pub joined : ℕ → List ℕ → List ℕ → List ℕ
@@ -78,39 +79,7 @@ MovingUp by l s i = (by ≤ i) × (i ≤ length l) × (length s ≡ length l) ×
 
 pub ruleset up-cases = (up-start, up-step, up-end)
 
--- ## Zeros, and a move down
-
-length-zeroed : (at : ℕ) (l : List ℕ) → at ≤ length l → length (zeroedFrom at l) ≡ length l
-unfolding zeroedFrom
-length-zeroed at l h = simp (length-append, length-take, length-replicate) (omega arith)
-
-zeroed-at : (at : ℕ) (l : List ℕ) (k : ℕ) → at + k < length l → getD (zeroedFrom at l) (at + k) 0 ≡ 0
-unfolding zeroedFrom
-zeroed-at at l k h =
-    ap (λ (n : ℕ). getD (zeroedFrom at l) (n + k) 0) (sym (length-take-le at l (omega arith)))
-    ∙ getD-append-add (take at l) (replicate (length l - at) 0) k 0 ∙ getD-replicate (length l - at) k 0 0 (omega arith)
-
-pub zeros-start : (at : ℕ) (l : List ℕ) → at ≤ length l → l ≡ joined at (zeroedFrom at l) l
-unfolding zeroedFrom
-zeros-start at l h = sym (ap (λ (r : List ℕ). r ++ drop at l) (take-at (take at l) (replicate (length l - at) 0) at (length-take-le at l h)) ∙ take-append-drop at l)
-
-pub zeros-step : (at : ℕ) (l s : List ℕ) (i : ℕ) → s ≡ joined i (zeroedFrom at l) l → length s ≡ length l → at ≤ i → i < length s → set s i 0 ≡ joined (i + 1) (zeroedFrom at l) l
-zeros-step at l s i e d h g =
-    let q : length (zeroedFrom at l) ≡ length l = length-zeroed at l (omega arith) in
-    let n : at + (i - at) ≡ i = omega arith in
-    let v : 0 ≡ getD (zeroedFrom at l) i 0 = sym (rw n at (zeroed-at at l (i - at) (omega arith))) in
-    rw (e, add-one i) (ap (λ (x : ℕ). set (joined i (zeroedFrom at l) l) i x) v ∙ fill-up (zeroedFrom at l) l q i (omega arith))
-
-pub zeros-end : (at : ℕ) (l s : List ℕ) (i : ℕ) → s ≡ joined i (zeroedFrom at l) l → length s ≡ length l → at ≤ length l → i ≤ length l → length s ≤ i → s ≡ zeroedFrom at l
-zeros-end at l s i e d f g h =
-    let q : length (zeroedFrom at l) ≡ length l = length-zeroed at l f in
-    let n : i ≡ length (zeroedFrom at l) = omega arith in
-    e ∙ rw n (all-first (zeroedFrom at l) l q)
-
-abbrev pub Zeroing : ℕ → List ℕ → List ℕ → ℕ → Type 0
-Zeroing at l s i = (at ≤ i) × (i ≤ length l) × (length s ≡ length l) × (s ≡ joined i (zeroedFrom at l) l)
-
-pub ruleset zero-cases = (zeros-start, zeros-step, zeros-end)
+-- ## A move down
 
 pub length-down : (by : ℕ) (l : List ℕ) → by ≤ length l → length (movedDown by l) ≡ length l
 unfolding movedDown
@@ -130,16 +99,18 @@ down-step by l s i e h g =
     rw v (rw (e, add-one i) (fill-up (movedDown by l) l q i (omega arith)))
 
 -- zeros behind what was moved are the move down
-pub down-end : (by : ℕ) (l s : List ℕ) (i : ℕ) (r : List ℕ) → s ≡ joined i (movedDown by l) l → by ≤ length l → i ≤ length l - by → length l - by ≤ i
-    → r ≡ zeroedFrom (length l - by) s → r ≡ movedDown by l
-unfolding zeroedFrom movedDown
-down-end by l s i r e h g k z =
+pub down-end : (by : ℕ) (l s : List ℕ) (i : ℕ) (r : List ℕ) (q : ℕ) → s ≡ joined i (movedDown by l) l → by ≤ length l → i ≤ length l - by → length l - by ≤ i
+    → Wrote s (length l - by) (replicate by 0) by r q → r ≡ movedDown by l
+unfolding movedDown
+down-end by l s i r q e h g k w =
     let n : i ≡ length l - by = omega arith in
     let f : s ≡ drop by l ++ drop (length l - by) l =
     e ∙ rw n (ap (λ (x : List ℕ). x ++ drop (length l - by) l) (take-at (drop by l) (replicate by 0) (length l - by) (length-drop by l))) in
     let t : take (length l - by) s ≡ drop by l = rw f (take-at (drop by l) (drop (length l - by) l) (length l - by) (length-drop by l)) in
-    let m : length s - (length l - by) ≡ by = rw f (simp (length-append, length-drop) (omega arith)) in
-    z ∙ rw (t, m)
+    let z : List ℕ = replicate by 0 in
+    let m : length s ≤ length l - by + length z = rw f (simp (length-append, length-drop, length-replicate) (omega arith)) in
+    let d : drop (length l - by + length z) s ≡ [] = drop-of-length-le s m in
+    w .holds ∙ rw (t, d) (append-nil (drop by l ++ z))
 
 abbrev pub MovingDown : ℕ → List ℕ → List ℕ → ℕ → Type 0
 MovingDown by l s i = (i ≤ length l - by) × (length s ≡ length l) × (s ≡ joined i (movedDown by l) l)

@@ -1,10 +1,10 @@
 -- Laws of writing into a buffer: a byte, a copy, and one piece after another.
 use Prim.Native.Nat.{ℕ, suc, _+_, _≤_, _<_}
 use mathlib.Core.Path.{_≡_, refl, sym, ap, _∙_}
-use mathlib.Core.List.{List, [], _∷_, _++_, append-assoc}
+use mathlib.Core.List.{List, [], _∷_, _++_, append-assoc, append-nil}
 use native.Mathlib.Omega.{arith}
 use native.Mathlib.Numerals.{add-one}
-use lib.ListN.{length, getD, take, drop, set, length-append, length-set}
+use lib.ListN.{length, getD, take, drop, set, replicate, length-append, length-set, length-replicate, take-append-drop, replicate-append-replicate}
 use lib.Seq.{take-at, drop-at, drop-drop, set-split, append-snoc, length-take-le, paste, paste-zero, paste-suc, take-length}
 use Rattle.buffers.specs.Writes.{placed, Wrote}
 
@@ -72,3 +72,25 @@ copy-end d at s i out e l h k =
     }
 
 pub ruleset copy-cases = (copy-start, copy-step, copy-end)
+
+-- ## Zeros
+
+module _ (out : List ℕ) (a : ℕ) where
+  pub zeros-start : Wrote out a (replicate 0 0) 0 out (a + 0)
+  zeros-start =
+      let q : a + 0 ≡ a = omega arith in
+      record { next = refl; holds = rw (q, append-nil) (sym (take-append-drop a out)); long = refl; most = omega arith }
+
+  pub zeros-step : (m : List ℕ) (i n : ℕ) → Wrote out a (replicate i 0) i m (a + i) → i < n → a + n ≤ length out
+      → Wrote out a (replicate (i + 1) 0) (i + 1) (set m (a + i) 0) (a + (i + 1))
+  zeros-step m i n w h l =
+      let d = w .long in
+      let q : a + i + 1 ≡ a + (i + 1) = omega arith in
+      rw q at (wrote-as out a (replicate i 0 ++ 0 ∷ []) (replicate (i + 1) 0) (i + 1) (i + 1) (set m (a + i) 0) (a + i + 1)
+      (wrote-both out a (replicate i 0) i m (a + i) (0 ∷ []) 1 (set m (a + i) 0) (a + i + 1) (omega arith) w (wrote-byte m (a + i) 0 (omega arith)))
+      (replicate-append-replicate i 1 0) (rw length-replicate (omega arith)))
+
+  pub zeros-end : (m : List ℕ) (i n : ℕ) → Wrote out a (replicate i 0) i m (a + i) → i ≤ n → n ≤ i → Wrote out a (replicate n 0) n m (a + i)
+  zeros-end m i n w h k = let q : i ≡ n = omega arith in rw q (rw q at w)
+
+pub ruleset zeros-cases = (zeros-start, zeros-step, zeros-end)

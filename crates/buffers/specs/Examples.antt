@@ -1,7 +1,7 @@
 -- The definitions at work on small lists.
 use mathlib.Core.Path.{_≡_, refl}
 use mathlib.Core.List.{[], _∷_}
-use Rattle.buffers.specs.Moves.{movedUp, movedDown, zeroedFrom}
+use Rattle.buffers.specs.Moves.{movedUp, movedDown}
 use Rattle.buffers.specs.Words.{number, spelled}
 use Rattle.buffers.specs.Writes.{placed}
 
@@ -13,7 +13,6 @@ pub record Examples : Type 0 where
   -- by two down: the first two are lost, two zeros come in
   pub down : movedDown 2 (1 ∷ 2 ∷ 3 ∷ 4 ∷ 5 ∷ []) ≡ 3 ∷ 4 ∷ 5 ∷ 0 ∷ 0 ∷ []
   pub down-none : movedDown 0 (1 ∷ 2 ∷ 3 ∷ []) ≡ 1 ∷ 2 ∷ 3 ∷ []
-  pub zeroed : zeroedFrom 1 (1 ∷ 2 ∷ 3 ∷ []) ≡ 1 ∷ 0 ∷ 0 ∷ []
   -- the low byte comes first
   pub low-first : number (1 ∷ 2 ∷ 0 ∷ []) ≡ 513
   pub greatest : number (255 ∷ 255 ∷ 255 ∷ 255 ∷ 255 ∷ 255 ∷ 255 ∷ 255 ∷ []) ≡ 18446744073709551615
@@ -23,14 +22,13 @@ pub record Examples : Type 0 where
   pub in-place : placed (1 ∷ 2 ∷ 3 ∷ 4 ∷ 5 ∷ []) 1 (8 ∷ 9 ∷ []) ≡ 1 ∷ 8 ∷ 9 ∷ 4 ∷ 5 ∷ []
 
 pub examples : Examples
-unfolding movedUp movedDown zeroedFrom number spelled
+unfolding movedUp movedDown number spelled
 examples =
     record {
       up = refl;
       up-all = refl;
       down = refl;
       down-none = refl;
-      zeroed = refl;
       low-first = refl;
       greatest = refl;
       bytes-of = refl;

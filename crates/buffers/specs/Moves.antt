@@ -10,7 +10,3 @@ movedUp by l = take by l ++ take (length l - by) l
 -- moved down: the first `by` are lost, zeros come in at the end
 unfoldable pub movedDown : ℕ → List ℕ → List ℕ
 movedDown by l = drop by l ++ replicate by 0
-
--- the elements from `at` on are zeros
-unfoldable pub zeroedFrom : ℕ → List ℕ → List ℕ
-zeroedFrom at l = take at l ++ replicate (length l - at) 0

@@ -1,8 +1,8 @@
 // Buffers that a caller lends: copying into them, moving a tail by one row, little-endian words. The definitions are in specs/.
 ghost use mathlib.Core.Path.{_≡_};
 ghost use Prim.Native.Nat.{_+_, _≤_};
-ghost use lib.ListN.{length, take, drop};
-ghost use Rattle.buffers.specs.Moves.{movedUp, movedDown, zeroedFrom};
+ghost use lib.ListN.{length, take, drop, replicate};
+ghost use Rattle.buffers.specs.Moves.{movedUp, movedDown};
 ghost use Rattle.buffers.specs.Ranges.{Within};
 ghost use Rattle.buffers.specs.Words.{number, spelled};
 ghost use Rattle.buffers.specs.Writes.{Wrote};
@@ -44,28 +44,30 @@ pub fn move_up_bytes(b: &mut [u8], by: usize)
     }
 }
 
-// Sets the numbers from `at` on to zero.
-fn zero_numbers_from(s: &mut [u64], at: usize)
-    requires { ⌜ at ≤ length (now s) ⌝ }
-    ensures { λ _. ⌜ now (s .exit) ≡ zeroedFrom at (now (s .entry)) ⌝ }
+// Writes n zeros from `at` on, and returns the place after them.
+pub fn put_zero_numbers(out: &mut [u64], at: usize, n: usize) -> usize
+    requires { ⌜ at + n ≤ length (now out) ⌝ }
+    ensures { λ r. ⌜ Wrote (now (out .entry)) at (replicate n 0) n (now (out .exit)) r ⌝ }
 {
-    let mut i = at;
-    while i < s.len() {
-        s[i] = 0;
+    let mut i = 0;
+    while i < n {
+        out[at + i] = 0;
         i += 1;
     }
+    at + i
 }
 
-// Sets the bytes from `at` on to zero.
-fn zero_bytes_from(b: &mut [u8], at: usize)
-    requires { ⌜ at ≤ length (now b) ⌝ }
-    ensures { λ _. ⌜ now (b .exit) ≡ zeroedFrom at (now (b .entry)) ⌝ }
+// Writes n zeros from `at` on, and returns the place after them.
+pub fn put_zero_bytes(out: &mut [u8], at: usize, n: usize) -> usize
+    requires { ⌜ at + n ≤ length (now out) ⌝ }
+    ensures { λ r. ⌜ Wrote (now (out .entry)) at (replicate n 0) n (now (out .exit)) r ⌝ }
 {
-    let mut i = at;
-    while i < b.len() {
-        b[i] = 0;
+    let mut i = 0;
+    while i < n {
+        out[at + i] = 0;
         i += 1;
     }
+    at + i
 }
 
 // Moves the numbers down by `by` places; zeros come in at the end.
@@ -79,7 +81,7 @@ pub fn move_down_numbers(s: &mut [u64], by: usize)
         s[i] = s[i + by];
         i += 1;
     }
-    zero_numbers_from(s, end);
+    put_zero_numbers(s, end, by);
 }
 
 // Moves the bytes down by `by` places; zeros come in at the end.
@@ -93,7 +95,7 @@ pub fn move_down_bytes(b: &mut [u8], by: usize)
         b[i] = b[i + by];
         i += 1;
     }
-    zero_bytes_from(b, end);
+    put_zero_bytes(b, end, by);
 }
 
 // Moves the bytes down by 64 places; zeros come in at the end. With the distance written out the loop is compiled to one move.
@@ -107,10 +109,11 @@ pub fn move_down_64_bytes(b: &mut [u8])
         b[i] = b[i + 64];
         i += 1;
     }
-    zero_bytes_from(b, end);
+    put_zero_bytes(b, end, 64);
 }
 
-fn wide(x: u8) -> u64
+// A byte as a number.
+pub fn wide(x: u8) -> u64
     ensures { λ r. ⌜ Within r x 255 ⌝ }
 {
     x as u64

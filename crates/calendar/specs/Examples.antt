@@ -1,43 +1,12 @@
--- The paper's examples, as theorems about the definitions.
+-- The ends of periods, as theorems about the definitions.
 use mathlib.Core.Path.{_≡_, refl}
-use mathlib.Core.Option.{some, none}
-use Rattle.buffers.specs.Texts.{bytes}
-use Rattle.text.specs.Numbers.{isDigit}
-use Rattle.calendar.specs.Calendar.{leap, yearsLength, monthStart, monthLength, validDay, daysOf, guessOf, yearOf, monthOf, dateIn, civilOf}
-use Rattle.calendar.specs.Reading.{digitOf, twoDigits, fourDigits, dayNumber, dayAt, secondOfDay, secondAt, placeOf, milliseconds, fractionOf, readDate}
-use Rattle.calendar.specs.Printing.{dateText, printDate}
 use Rattle.calendar.specs.Periods.{periodEnd, expiresAt}
 
--- the starred date examples
-pub record Starred : Type 0 where
-  pub epoch : readDate (bytes "1970-01-01T00:00:00Z") ≡ some 0
-  pub leapDay : readDate (bytes "2000-02-29T00:00:00Z") ≡ some 951782400000
-  pub document : readDate (bytes "2020-08-10T21:46:00Z") ≡ some 1597095960000
-  pub last : readDate (bytes "9999-12-31T23:59:59.999Z") ≡ some 253402300799999
-  pub noLeapDay : readDate (bytes "2100-02-29T00:00:00Z") ≡ none
-  pub second60 : readDate (bytes "2016-12-31T23:59:60Z") ≡ none
-  pub fraction : readDate (bytes "1970-01-01T00:00:00.1239Z") ≡ some 123
-
-pub starred : Starred
-unfolding isDigit leap yearsLength monthStart monthLength validDay daysOf digitOf twoDigits fourDigits dayNumber dayAt secondOfDay secondAt placeOf milliseconds fractionOf readDate
-starred =
-    record {
-      epoch = refl;
-      leapDay = refl;
-      document = refl;
-      last = refl;
-      noLeapDay = refl;
-      second60 = refl;
-      fraction = refl;
-    }
-
--- a printed date, and the ends of periods
 pub record Shown : Type 0 where
-  pub printed : printDate 1709337600000 ≡ bytes "2024-03-02T00:00:00.000Z"
   pub oneDay : periodEnd 1709251200000 1 1 ≡ 1709337600000
   pub hundredYears : periodEnd 0 100 2 ≡ 3153600000000
   pub threeDays : expiresAt 1709251200000 3 ≡ 1709510400000
 
 pub shown : Shown
-unfolding leap yearsLength monthStart guessOf yearOf monthOf dateIn civilOf dateText printDate periodEnd expiresAt
-shown = record { printed = refl; oneDay = refl; hundredYears = refl; threeDays = refl }
+unfolding periodEnd expiresAt
+shown = record { oneDay = refl; hundredYears = refl; threeDays = refl }

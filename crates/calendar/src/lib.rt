@@ -1,16 +1,8 @@
-// Dates: instants in milliseconds since 1970, civil dates, their texts, and periods. The definitions are in specs/.
-use text::Value;
+// Days, months and years of the Gregorian calendar since 1970-01-01, and periods. The definitions are in specs/.
 ghost use mathlib.Core.Path.{_≡_};
-ghost use mathlib.Core.Bool.{true};
 ghost use Prim.Native.Nat.{_+_, _-_, _*_, _≤_, _<_};
-ghost use lib.ListN.{length};
-ghost use Rattle.buffers.specs.Lists.{all};
 ghost use Rattle.buffers.specs.Ranges.{Within, Span};
-ghost use Rattle.buffers.specs.Writes.{Wrote};
-ghost use Rattle.text.specs.Numbers.{valueOf, isDigit};
 ghost use Rattle.calendar.specs.Calendar.{Bounded, latest, leap, yearLength, yearStart, monthStart, monthLength, validDay, daysOf, yearOf, monthOf, dateIn, civilOf};
-ghost use Rattle.calendar.specs.Reading.{instantOf, digitOf, twoDigits, fourDigits, dayNumber, dayAt, secondOfDay, secondAt, placeOf, milliseconds, fractionOf, readDate};
-ghost use Rattle.calendar.specs.Printing.{dateText, printDate};
 ghost use Rattle.calendar.specs.Periods.{periodEnd, expiresAt};
 
 // A date of the Gregorian calendar.
@@ -18,12 +10,6 @@ pub struct Civil {
     pub year: u64,
     pub month: u64,
     pub day: u64,
-}
-
-// What a date's text says.
-pub enum DateRead {
-    At(u64),
-    Unreadable,
 }
 
 // The days before each month in a common year.
@@ -89,7 +75,7 @@ fn month_length(leap_year: bool, month: u64) -> u64
 }
 
 // The calendar has this date, in the years 1970 to 9999.
-fn valid_day(date: Civil) -> bool
+pub fn valid_day(date: Civil) -> bool
     ensures { λ r. ⌜ r ≡ validDay date ⌝ }
 {
     let year = date.year;
@@ -123,212 +109,6 @@ pub fn days_of(date: Civil) -> u64
     let day = date.day;
     let in_year = month_start(is_leap(year), month);
     year_start(year) + in_year + (day - 1)
-}
-
-// The value of a byte that is a digit.
-fn value_of(b: u8) -> u64
-    requires { ⌜ isDigit b ≡ true ⌝ }
-    ensures { λ r. ⌜ Within r (b - 48) 9 ⌝ }
-{
-    (b - 48) as u64
-}
-
-// The value of a byte, where it is a digit.
-fn digit(b: u8) -> Value
-    ensures { λ r. ⌜ valueOf r ≡ digitOf b ⌝ }
-{
-    if text::is_digit(b) {
-        return Value::Is(value_of(b));
-    }
-    Value::Bad
-}
-
-// The number that two digits from `at` on spell.
-fn two_digits(text: &[u8], at: usize) -> Value
-    requires { ⌜ at + 1 < length (now text) ⌝ }
-    ensures { λ r. ⌜ valueOf r ≡ twoDigits (now (text .entry)) at ⌝ }
-{
-    let Value::Is(a) = digit(text[at]) else {
-        return Value::Bad;
-    };
-    let Value::Is(b) = digit(text[at + 1]) else {
-        return Value::Bad;
-    };
-    Value::Is(a * 10 + b)
-}
-
-// The number that four digits from `at` on spell.
-fn four_digits(text: &[u8], at: usize) -> Value
-    requires { ⌜ at + 3 < length (now text) ⌝ }
-    ensures { λ r. ⌜ valueOf r ≡ fourDigits (now (text .entry)) at ⌝ }
-{
-    let Value::Is(a) = two_digits(text, at) else {
-        return Value::Bad;
-    };
-    let Value::Is(b) = two_digits(text, at + 2) else {
-        return Value::Bad;
-    };
-    Value::Is(a * 100 + b)
-}
-
-// The days from 1970-01-01 to a date that the calendar has.
-fn day_number(date: Civil) -> Value
-    ensures { λ r. ⌜ valueOf r ≡ dayNumber date ⌝ }
-{
-    if valid_day(date) {
-        return Value::Is(days_of(date));
-    }
-    Value::Bad
-}
-
-// The day that a text's first ten bytes say.
-fn day_at(text: &[u8]) -> Value
-    requires { ⌜ 20 ≤ length (now text) ⌝ }
-    ensures { λ r. ⌜ valueOf r ≡ dayAt (now (text .entry)) ⌝ }
-{
-    if text[4] != b'-' {
-        return Value::Bad;
-    }
-    if text[7] != b'-' {
-        return Value::Bad;
-    }
-    let Value::Is(year) = four_digits(text, 0) else {
-        return Value::Bad;
-    };
-    let Value::Is(month) = two_digits(text, 5) else {
-        return Value::Bad;
-    };
-    let Value::Is(day) = two_digits(text, 8) else {
-        return Value::Bad;
-    };
-    day_number(Civil { year, month, day })
-}
-
-// The second of the day, where the clock has that time.
-fn second_of_day(hour: u64, minute: u64, second: u64) -> Value
-    ensures { λ r. ⌜ valueOf r ≡ secondOfDay hour minute second ⌝ }
-{
-    if 23 < hour {
-        return Value::Bad;
-    }
-    if 59 < minute {
-        return Value::Bad;
-    }
-    if 59 < second {
-        return Value::Bad;
-    }
-    Value::Is((hour * 60 + minute) * 60 + second)
-}
-
-// The second of the day that the eight bytes after a text's `T` say.
-fn second_at(text: &[u8]) -> Value
-    requires { ⌜ 20 ≤ length (now text) ⌝ }
-    ensures { λ r. ⌜ valueOf r ≡ secondAt (now (text .entry)) ⌝ }
-{
-    if text[13] != b':' {
-        return Value::Bad;
-    }
-    if text[16] != b':' {
-        return Value::Bad;
-    }
-    let Value::Is(hour) = two_digits(text, 11) else {
-        return Value::Bad;
-    };
-    let Value::Is(minute) = two_digits(text, 14) else {
-        return Value::Bad;
-    };
-    let Value::Is(second) = two_digits(text, 17) else {
-        return Value::Bad;
-    };
-    second_of_day(hour, minute, second)
-}
-
-// All the bytes are digits.
-fn all_digits(digits: &[u8]) -> bool
-    ensures { λ r. ⌜ r ≡ all isDigit (now (digits .entry)) ⌝ }
-{
-    let mut i = 0;
-    while i < digits.len() {
-        if !text::is_digit(digits[i]) {
-            return false;
-        }
-        i += 1;
-    }
-    true
-}
-
-// The value of the digit at a place, 0 where it is missing.
-fn place(digits: &[u8], at: usize) -> u64
-    requires { ⌜ all isDigit (now digits) ≡ true ⌝ }
-    ensures { λ r. ⌜ Within r (placeOf (now (digits .entry)) at) 9 ⌝ }
-{
-    if at < digits.len() {
-        return value_of(digits[at]);
-    }
-    0
-}
-
-// The milliseconds that the digits of a fraction say.
-fn milliseconds(digits: &[u8]) -> Value
-    ensures { λ r. ⌜ valueOf r ≡ milliseconds (now (digits .entry)) ⌝ }
-{
-    if digits.len() < 1 {
-        return Value::Bad;
-    }
-    if 9 < digits.len() {
-        return Value::Bad;
-    }
-    if all_digits(digits) {
-        return Value::Is(place(digits, 0) * 100 + place(digits, 1) * 10 + place(digits, 2));
-    }
-    Value::Bad
-}
-
-// The milliseconds that stand between a text's seconds and its `Z`.
-fn fraction(part: &[u8]) -> Value
-    ensures { λ r. ⌜ valueOf r ≡ fractionOf (now (part .entry)) ⌝ }
-{
-    if part.len() < 1 {
-        return Value::Is(0);
-    }
-    if part[0] != b'.' {
-        return Value::Bad;
-    }
-    milliseconds(&part[1..])
-}
-
-// The instant of a day, a second of it and a millisecond of that.
-fn instant(days: u64, seconds: u64, millis: u64) -> u64
-    requires { ⌜ (days ≤ 2932896) × (seconds ≤ 86399) × (millis ≤ 999) ⌝ }
-    ensures { λ r. ⌜ r ≡ days * 86400000 + seconds * 1000 + millis ⌝ }
-{
-    days * 86400000 + seconds * 1000 + millis
-}
-
-// The instant that a date's text says.
-pub fn read_date(text: &[u8]) -> DateRead
-    ensures { λ r. ⌜ instantOf r ≡ readDate (now (text .entry)) ⌝ }
-{
-    if text.len() < 20 {
-        return DateRead::Unreadable;
-    }
-    let last = text.len() - 1;
-    if text[10] != b'T' {
-        return DateRead::Unreadable;
-    }
-    if text[last] != b'Z' {
-        return DateRead::Unreadable;
-    }
-    let Value::Is(days) = day_at(text) else {
-        return DateRead::Unreadable;
-    };
-    let Value::Is(seconds) = second_at(text) else {
-        return DateRead::Unreadable;
-    };
-    let Value::Is(millis) = fraction(&text[19..last]) else {
-        return DateRead::Unreadable;
-    };
-    DateRead::At(instant(days, seconds, millis))
 }
 
 // The year of a day. The guess by the mean Julian year is right or one too low.
@@ -379,56 +159,6 @@ pub fn civil_from_days(days: u64) -> Civil
 {
     let year = year_of(days);
     date_in(year, days - year_start(year))
-}
-
-// The text of a date and a time of day.
-fn date_text(date: Civil, time: u64) -> [u8; 24]
-    ensures { λ r. ⌜ r ≡ dateText date time ⌝ }
-{
-    let year = date.year;
-    let month = date.month;
-    let day = date.day;
-    let seconds = time / 1000;
-    let minutes = seconds / 60;
-    let hour = minutes / 60;
-    let minute = minutes % 60;
-    let second = seconds % 60;
-    let milli = time % 1000;
-    [
-        (48 + year / 1000 % 10) as u8,
-        (48 + year / 100 % 10) as u8,
-        (48 + year / 10 % 10) as u8,
-        (48 + year % 10) as u8,
-        b'-',
-        (48 + month / 10 % 10) as u8,
-        (48 + month % 10) as u8,
-        b'-',
-        (48 + day / 10 % 10) as u8,
-        (48 + day % 10) as u8,
-        b'T',
-        (48 + hour / 10 % 10) as u8,
-        (48 + hour % 10) as u8,
-        b':',
-        (48 + minute / 10 % 10) as u8,
-        (48 + minute % 10) as u8,
-        b':',
-        (48 + second / 10 % 10) as u8,
-        (48 + second % 10) as u8,
-        b'.',
-        (48 + milli / 100 % 10) as u8,
-        (48 + milli / 10 % 10) as u8,
-        (48 + milli % 10) as u8,
-        b'Z',
-    ]
-}
-
-// Writes the text of an instant at `at`, 24 bytes, and returns the place after it.
-pub fn print_date(out: &mut [u8], at: usize, instant: u64) -> usize
-    requires { ⌜ (at + 24 ≤ length (now out)) × (instant ≤ latest) ⌝ }
-    ensures { λ r. ⌜ Wrote (now (out .entry)) at (printDate instant) 24 (now (out .exit)) r ⌝ }
-{
-    let printed = date_text(civil_from_days(instant / 86400000), instant % 86400000);
-    buffers::copy_in(out, at, &printed)
 }
 
 // The end of a period of days (unit 1) or years (unit 2).

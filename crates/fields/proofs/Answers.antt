@@ -10,9 +10,9 @@ use Rattle.text.specs.declared.Value.{Value}
 use Rattle.text.specs.declared.Value.the-variants as value
 use Rattle.text.specs.Numbers.{valueOf, numberOf}
 use Rattle.text.specs.Fields.{partOf}
-use Rattle.calendar.specs.declared.DateRead.{DateRead}
-use Rattle.calendar.specs.declared.DateRead.the-variants.{At, Unreadable}
-use Rattle.calendar.specs.Reading.{instantOf, readDate}
+use Rattle.dates.specs.declared.DateRead.{DateRead}
+use Rattle.dates.specs.declared.DateRead.the-variants.{At, Unreadable}
+use Rattle.dates.specs.Reading.{instantOf, readDate}
 use Rattle.model.specs.Requests as model
 use Rattle.fields.specs.declared.Mode.{Mode}
 use Rattle.fields.specs.declared.Until.{Until}

@@ -10,7 +10,7 @@ use Rattle.buffers.specs.Lists.{same}
 use Rattle.buffers.specs.Texts.{bytes}
 use Rattle.text.specs.Numbers.{positiveOf}
 use Rattle.text.specs.Keys.{isKey, isPrefix, has}
-use Rattle.calendar.specs.Reading.{readDate}
+use Rattle.dates.specs.Reading.{readDate}
 use Rattle.model.specs.Rows.{governance, compliance}
 use Rattle.model.specs.Settings.{days, years}
 use Rattle.model.specs.Requests.{Rights, Version, numbered, Period}

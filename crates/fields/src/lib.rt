@@ -1,12 +1,13 @@
 // The values of a request line's single fields. The definitions are in specs/.
-use calendar::DateRead;
+use dates::DateRead;
 use text::Place;
 use text::Value;
 ghost use mathlib.Core.Path.{_≡_};
 ghost use Prim.Native.Nat.{_<_};
+ghost use Rattle.buffers.specs.Choices.{orZero, thenSome};
 ghost use Rattle.text.specs.Fields.{fieldOf, Split};
 ghost use Rattle.fields.specs.Fields.{lettersOnce, rightsIn, rightsOf, keyOf, prefixOf, versionOf, modeOf, untilOf, switchOf, holdOf, bypassOf, periodOf};
-ghost use Rattle.fields.specs.Meaning.{rightsMeans, rightsFrom, versionFrom, modeFrom, untilFrom, flagFrom, holdFrom, periodFrom, KeyAt};
+ghost use Rattle.fields.specs.Meaning.{modeMeans, untilMeans, periodMeans, rightsMeans, rightsFrom, versionFrom, modeFrom, untilFrom, flagFrom, holdFrom, periodFrom, KeyAt};
 
 // A mode, `-` for missing.
 pub enum Mode {
@@ -205,7 +206,7 @@ pub fn read_until(text: &[u8]) -> UntilRead
     if text::is_word(text, b"-") {
         return UntilRead::Is(Until::Missing);
     }
-    let DateRead::At(t) = calendar::read_date(text) else {
+    let DateRead::At(t) = dates::read_date(text) else {
         return UntilRead::Bad;
     };
     UntilRead::Is(Until::Given(t))
@@ -277,4 +278,47 @@ pub fn read_period(text: &[u8]) -> PeriodRead
         return PeriodRead::Is(Period::Years(n));
     }
     PeriodRead::Bad
+}
+
+// The mode as a row has it, 0 where it is missing.
+pub fn mode_number(m: Mode) -> u64
+    ensures { λ r. ⌜ r ≡ orZero (modeMeans m) ⌝ }
+{
+    match m {
+        Mode::Missing => 0,
+        Mode::Governance => 1,
+        Mode::Compliance => 2,
+    }
+}
+
+// The date as a row has it, 0 where it is missing.
+pub fn date_number(d: Until) -> u64
+    ensures { λ r. ⌜ r ≡ orZero (untilMeans d) ⌝ }
+{
+    match d {
+        Until::Missing => 0,
+        Until::Given(t) => t,
+    }
+}
+
+// The days or years of a period, 0 where it is missing.
+pub fn period_count(p: Period) -> u64
+    ensures { λ r. ⌜ r ≡ thenSome (periodMeans p) 0 (λ q. q .count) ⌝ }
+{
+    match p {
+        Period::Missing => 0,
+        Period::Days(n) => n,
+        Period::Years(n) => n,
+    }
+}
+
+// The unit as the settings have it: 0 none, 1 days, 2 years.
+pub fn period_unit(p: Period) -> u64
+    ensures { λ r. ⌜ r ≡ thenSome (periodMeans p) 0 (λ q. q .unit) ⌝ }
+{
+    match p {
+        Period::Missing => 0,
+        Period::Days(_) => 1,
+        Period::Years(_) => 2,
+    }
 }

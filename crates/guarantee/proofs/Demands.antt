@@ -7,7 +7,7 @@ use mathlib.Core.Option.{Option, some, none}
 use borrow.Author.Tests.{not-true}
 use Rattle.buffers.specs.Lists.{all}
 use Rattle.buffers.proofs.Tests.{and-l, and-r}
-use Rattle.calendar.proofs.RoundTrip.{round-trip}
+use Rattle.dates.proofs.RoundTrip.{round-trip}
 use Rattle.model.specs.Refusals.{Check, check, firstOf}
 use Rattle.request.specs.Grammar.{Said, readLine}
 use Rattle.outcome.specs.Outcome.{refused, refusalOf}

@@ -1,4 +1,4 @@
--- 01's printed run on buffers: request lines as bytes on a fresh bucket, and what is printed of each call.
+-- 01's starred examples as one table, and its printed run on buffers: request lines as bytes on a fresh bucket, and what is printed of each call.
 use Prim.Native.Nat.{ℕ}
 use mathlib.Core.Path.{_≡_, refl}
 use mathlib.Core.List.{List, [], _∷_, _++_}
@@ -13,8 +13,10 @@ use Rattle.text.specs.Numbers.{isDigit, digitMore, leadingZero, numberOf, posit
 use Rattle.text.specs.Printing.{digits}
 use Rattle.calendar.specs.Calendar.{leap, yearsLength, monthStart, monthLength, validDay, daysOf, guessOf, yearOf, monthOf, dateIn, civilOf}
 use Rattle.calendar.specs.Periods.{periodEnd, expiresAt}
-use Rattle.calendar.specs.Printing.{dateText, printDate}
-use Rattle.calendar.specs.Reading.{digitOf, twoDigits, fourDigits, dayNumber, dayAt, secondOfDay, secondAt, placeOf, milliseconds, fractionOf, readDate}
+use Rattle.dates.specs.Examples.{Starred as Dates, starred as dates}
+use Rattle.dates.specs.Printing.{dateText, printDate}
+use Rattle.dates.specs.Reading.{digitOf, twoDigits, fourDigits, dayNumber, dayAt, secondOfDay, secondAt, placeOf, milliseconds, fractionOf, readDate}
+use Rattle.model.proofs.Examples.{Starred as Locks, starred as locks}
 use Rattle.model.specs.Answers.{reply}
 use Rattle.model.specs.Effects.{added, removed, rowsAfter, setConfig, configAfter}
 use Rattle.model.specs.Locks.{locked, admits}
@@ -31,6 +33,14 @@ use Rattle.answers.specs.Text.{fieldsText, okText, modeText, untilText, holdTex
 use Rattle.outcome.specs.Outcome.{Outcome, refusalOf, outcome}
 use Rattle.guarantee.specs.Calls.{Lent, freshLent, served, leaves}
 use Rattle.guarantee.specs.Lists.{call}
+
+-- The starred examples of 01: the dates, and the locks.
+pub record Starred : Type 0 where
+  pub dates : Dates
+  pub locks : Locks
+
+pub starred : Starred
+starred = record { dates = dates; locks = locks }
 
 -- What is printed of a call: the answer, or `no`, a tab, the number, a line feed.
 abbrev printedOf : Outcome → List ℕ

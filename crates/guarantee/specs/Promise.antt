@@ -7,8 +7,8 @@ use mathlib.Core.Option.{some}
 use lib.ListN.{length}
 use Rattle.buffers.specs.Lists.{all}
 use Rattle.calendar.specs.Calendar.{latest}
-use Rattle.calendar.specs.Reading.{readDate}
-use Rattle.calendar.specs.Printing.{printDate}
+use Rattle.dates.specs.Reading.{readDate}
+use Rattle.dates.specs.Printing.{printDate}
 use Rattle.model.specs.Rows.{Row}
 use Rattle.model.specs.Answers.{shown, answerTo}
 use Rattle.model.specs.Refusals.{Check, FirstHolds, checks}

@@ -2,8 +2,6 @@
 use answers::Answer;
 use answers::Shown;
 use fields::Hold;
-use fields::Mode;
-use fields::Until;
 use fields::Version;
 use request::Name;
 use request::Retention;
@@ -73,27 +71,6 @@ fn hold_number(hold: Hold) -> u64
     }
 }
 
-// The mode, 0 where it is missing.
-fn mode_number(mode: Mode) -> u64
-    ensures { λ r. ⌜ r ≡ orZero (modeMeans mode) ⌝ }
-{
-    match mode {
-        Mode::Missing => 0,
-        Mode::Governance => 1,
-        Mode::Compliance => 2,
-    }
-}
-
-// The date, 0 where it is missing.
-fn date_number(until: Until) -> u64
-    ensures { λ r. ⌜ r ≡ orZero (untilMeans until) ⌝ }
-{
-    match until {
-        Until::Missing => 0,
-        Until::Given(t) => t,
-    }
-}
-
 // The row with another mode and date.
 fn with_retention(n: Numbers, retention: Retention) -> Numbers
     ensures { λ r. ⌜ ((k : List ℕ) → rowFrom r k ≡ setRetention (orZero (modeMeans (retention .mode))) (orZero (untilMeans (retention .until))) (rowFrom n k)) ⌝ }
@@ -101,8 +78,8 @@ fn with_retention(n: Numbers, retention: Retention) -> Numbers
     let mode = retention.mode;
     let until = retention.until;
     let mut r = n;
-    r.mode = mode_number(mode);
-    r.until = date_number(until);
+    r.mode = fields::mode_number(mode);
+    r.until = fields::date_number(until);
     r
 }
 

@@ -8,7 +8,6 @@ use lib.Dec.{lit<}
 use Rattle.buffers.specs.Texts.{bytes}
 use Rattle.text.specs.Keys.{isKeyByte, isKey, isPrefix}
 use Rattle.calendar.specs.Periods.{periodEnd, expiresAt}
-use Rattle.calendar.specs.Examples.{Starred as Dates, starred as dates}
 use Rattle.model.specs.Rows.{Row, governance, compliance, soundRow}
 use Rattle.model.specs.Settings.{Rule, fresh, days, soundRules, soundConfig, fits, sound}
 use Rattle.model.specs.Requests.{
@@ -109,9 +108,8 @@ retainUntil d = Retain (name key first) (record { mode = some compliance; date =
 abbrev second : Line → Line → List Reply
 second l m = replies 4 fresh (l ∷ m ∷ [])
 
--- The starred examples of 01: the dates, and the locks.
+-- The starred examples of 01 that speak of locks.
 pub record Starred : Type 0 where
-  pub dates : Dates
   -- COMPLIANCE until D: DELETE at D less 1 ms with bypass is 9,
   pub before-date : second putUntil (line (D - 1) (DeleteVersion key (numbered 1) true)) ≡ ok (made (numbered 1)) ∷ no 9 ∷ []
   -- at D it is accepted.
@@ -125,7 +123,7 @@ pub record Starred : Type 0 where
 
 pub starred : Starred
 unfolding isKeyByte isKey isPrefix periodEnd expiresAt soundRow soundRules soundConfig fits sound inRange defaultEnd locked admits added rowsRemoved rowsAfter setConfig configAfter halfGiven needs granted lacksRight pastDate missing namesMarker barred tooLate spends full refusal reply
-starred = record { dates = dates; before-date = refl; at-date = refl; same-date = refl; earlier-date = refl; no-later-now = refl }
+starred = record { before-date = refl; at-date = refl; same-date = refl; earlier-date = refl; no-later-now = refl }
 
 -- ## SWEEP
 

@@ -61,7 +61,6 @@ use Rattle.model.proofs.SoundRows.{row-parts, row-later, row-data, mark
 -- ## The parts of a sound bucket
 
 pub record Whole (c : ℕ) (b : Bucket) : Type 0 where
-  pub rows-fit : fits c (b .settings .config) (b .rows) ≡ true
   pub time-fits : leb (b .settings .time) latest ≡ true
   pub from-one : 1 ≤ b .settings .next
   pub next-fits : b .settings .next ≤ spentNumber
@@ -73,7 +72,6 @@ pub whole : (c : ℕ) (b : Bucket) → sound c b ≡ true → Whole c b
 unfolding sound
 whole c b e =
     record {
-      rows-fit = search (and-l, and-r);
       time-fits = search (and-l, and-r);
       from-one = leb-true 1 (b .settings .next) (search (and-l, and-r));
       next-fits = leb-true (b .settings .next) spentNumber (search (and-l, and-r));

@@ -13,8 +13,8 @@ use Rattle.text.specs.Numbers.{numberOf, positiveOf}
 use Rattle.text.specs.Keys.{isKey, isPrefix}
 use Rattle.text.proofs.Reading.{number-most, positive-range}
 use Rattle.calendar.specs.Calendar.{latest}
-use Rattle.calendar.specs.Reading.{readDate}
-use Rattle.calendar.proofs.Reading.{read-most}
+use Rattle.dates.specs.Reading.{readDate}
+use Rattle.dates.proofs.Reading.{read-most}
 use Rattle.model.specs.Settings.{days, years, isPeriod}
 use Rattle.model.specs.Rows.{bodies}
 use Rattle.model.specs.Requests.{Version, numbered, Name, Retention, Terms, Verb, AddMarker, DeleteVersion, Period, isVersion, isName, isModeField, isDateField, isRetention, isPeriodField, inRange}

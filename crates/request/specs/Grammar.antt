@@ -10,7 +10,7 @@ use Rattle.buffers.specs.Lists.{same}
 use Rattle.buffers.specs.Texts.{bytes}
 use Rattle.text.specs.Numbers.{numberOf}
 use Rattle.text.specs.Fields.{fieldOf, tabsIn}
-use Rattle.calendar.specs.Reading.{readDate}
+use Rattle.dates.specs.Reading.{readDate}
 use Rattle.model.specs.Rows.{largestSize}
 use Rattle.model.specs.Requests.{
   Rights,

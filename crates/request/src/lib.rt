@@ -1,7 +1,7 @@
 // A request line, read whole: its clock, its rights, its verb with the verb's fields. The definitions are in specs/.
 mod verbs;
 
-use calendar::DateRead;
+use dates::DateRead;
 use fields::Hold;
 use fields::Mode;
 use fields::Period;
@@ -91,7 +91,7 @@ fn read_fields(line: &[u8], marks: &[usize]) -> LineRead
     requires { ⌜ length (now line) ≤ 512 ⌝ }
     ensures { λ r. ⌜ Read (now (line .entry)) r ⌝ }
 {
-    let DateRead::At(clock) = calendar::read_date(text::field(line, marks, 0)) else {
+    let DateRead::At(clock) = dates::read_date(text::field(line, marks, 0)) else {
         return LineRead::Unreadable;
     };
     let RightsRead::Is(rights) = fields::read_rights(text::field(line, marks, 1)) else {

@@ -100,39 +100,13 @@ fn copy_row_with_marker(
     put_two_rows(rows, keys, to, marker, numbers, block);
 }
 
-// Writes n zeros from `at` on, and returns the place after them.
-fn put_zero_numbers(out: &mut [u64], at: usize, n: usize) -> usize
-    requires { ⌜ at + n ≤ length (now out) ⌝ }
-    ensures { λ r. ⌜ Wrote (now (out .entry)) at (replicate n 0) n (now (out .exit)) r ⌝ }
-{
-    let mut i = 0;
-    while i < n {
-        out[at + i] = 0;
-        i += 1;
-    }
-    at + i
-}
-
-// Writes n zeros from `at` on, and returns the place after them.
-fn put_zero_bytes(out: &mut [u8], at: usize, n: usize) -> usize
-    requires { ⌜ at + n ≤ length (now out) ⌝ }
-    ensures { λ r. ⌜ Wrote (now (out .entry)) at (replicate n 0) n (now (out .exit)) r ⌝ }
-{
-    let mut i = 0;
-    while i < n {
-        out[at + i] = 0;
-        i += 1;
-    }
-    at + i
-}
-
 // Makes so many rows from a place on free.
 fn free_rows(rows: &mut [u64], keys: &mut [u8], at: usize, count: usize)
     requires { ⌜ (8 * at + 8 * count ≤ length (now rows)) × (64 * at + 64 * count ≤ length (now keys)) ⌝ }
     ensures { λ _. ⌜ Put at (replicate (8 * count) 0) (replicate (64 * count) 0) (now (rows .entry)) (now (keys .entry)) (now (rows .exit)) (now (keys .exit)) ⌝ }
 {
-    put_zero_numbers(rows, 8 * at, 8 * count);
-    put_zero_bytes(keys, 64 * at, 64 * count);
+    buffers::put_zero_numbers(rows, 8 * at, 8 * count);
+    buffers::put_zero_bytes(keys, 64 * at, 64 * count);
 }
 
 // Leaves out the rows that go, and returns how many are left. Each row is copied at most once.

@@ -39,10 +39,6 @@ numbers-read l at =
     let e : (j : ℕ) → j < 8 → getD (take 8 (drop (8 * at) l)) j 0 ≡ getD l (8 * at + j) 0 = λ j h. getD-take 8 (drop (8 * at) l) j 0 h ∙ getD-drop (8 * at) l j 0 in
     rw (e 0 (omega arith), z, e 1 (omega arith), e 2 (omega arith), e 3 (omega arith), e 4 (omega arith), e 5 (omega arith), e 6 (omega arith), e 7 (omega arith))
 
--- The numbers and the key of a row are the row.
-pub row-from : (n b : List ℕ) (i : ℕ) (r : Numbers) → r ≡ numbersIn (take 8 (drop (8 * i) n)) → rowFrom r (keyAt b i) ≡ rowAt n b i
-row-from n b i r e = ap (λ (x : Numbers). rowFrom x (keyAt b i)) e
-
 pub numbers-written : (l : List ℕ) (i x0 x1 x2 x3 x4 x5 x6 x7 : ℕ) → i + 8 ≤ length l
     → set (set (set (set (set (set (set (set l i x0) (i + 1) x1) (i + 2) x2) (i + 3) x3) (i + 4) x4) (i + 5) x5) (i + 6) x6) (i + 7) x7
     ≡ placed l i (x0 ∷ x1 ∷ x2 ∷ x3 ∷ x4 ∷ x5 ∷ x6 ∷ x7 ∷ [])

@@ -95,16 +95,6 @@ pub fn look(rows: &[u64], keys: &[u8], s: State, key: &[u8], version: Version) -
     }
 }
 
-// The date, 0 where it is missing.
-fn date_or_zero(d: Until) -> u64
-    ensures { λ r. ⌜ r ≡ orZero (untilMeans d) ⌝ }
-{
-    match d {
-        Until::Missing => 0,
-        Until::Given(t) => t,
-    }
-}
-
 // The lock of a new row with no mode given.
 fn default_lock(s: State, now: u64) -> NewLock
     requires { ⌜ (s .count ≤ 36500) × (now ≤ latest) ⌝ }
@@ -129,8 +119,8 @@ pub fn new_lock(s: State, r: Retention, now: u64) -> NewLock
     let until = r.until;
     match mode {
         Mode::Missing => default_lock(s, now),
-        Mode::Governance => NewLock::Lock(1, date_or_zero(until)),
-        Mode::Compliance => NewLock::Lock(2, date_or_zero(until)),
+        Mode::Governance => NewLock::Lock(1, fields::date_number(until)),
+        Mode::Compliance => NewLock::Lock(2, fields::date_number(until)),
     }
 }
 

@@ -1,6 +1,6 @@
 -- `read_until` meets its contract.
 use Rattle.buffers.proofs.Choices.{picks}
-use Rattle.calendar.proofs.Reading.{dates}
+use Rattle.dates.proofs.Reading.{dates}
 use Rattle.fields.specs.Fields.{untilOf}
 use borrow.Author.Needs.{needs}
 use Rattle.fields.proofs.read_until.Statement.{statement}

@@ -1,0 +1,28 @@
+-- `two_digits` meets its contract.
+use Rattle.buffers.proofs.Choices.{picks}
+use Rattle.dates.proofs.Reading.{digit-sums}
+use Rattle.dates.specs.Reading.{twoDigits}
+use Rattle.text.proofs.Values.{values}
+use borrow.Author.Needs.{needs}
+use Rattle.dates.proofs.two_digits.Statement.{statement}
+use Rattle.dates.proofs.two_digits.Tie as tie
+
+pub two-digits-spec : {M : Type 1} → statement M
+unfolding twoDigits
+two-digits-spec =
+    tie.close
+    (tie.spec
+    (λ c. search needs)
+    (λ c κs. search needs)
+    (λ c. search needs)
+    (λ c. search needs)
+    (λ c. search (needs, picks, values, digit-sums))
+    (λ c. search needs)
+    (λ c. search needs)
+    (λ c κs. search needs)
+    (λ c. search needs)
+    (λ c. search needs)
+    (λ c. search (needs, picks, values, digit-sums))
+    (λ c. search (needs, picks, values, digit-sums))
+    (λ c. search (needs, picks, values, digit-sums))
+    (λ c. search (needs, picks, values, digit-sums)))

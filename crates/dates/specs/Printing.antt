@@ -1,0 +1,33 @@
+-- The text of an instant, as `2020-08-10T21:46:00.000Z`: 24 bytes.
+use Prim.Native.Nat.{ℕ, _+_, _/_, _%_}
+use mathlib.Core.List.{List, [], _∷_, _++_}
+use Rattle.buffers.specs.Texts.{bytes}
+use Rattle.calendar.specs.declared.Civil.{Civil}
+use Rattle.calendar.specs.Calendar.{day, civilOf}
+
+-- the last digit of n, as a byte
+abbrev pub lastDigit : ℕ → ℕ
+lastDigit n = 48 + n % 10
+
+-- the last two digits of n
+abbrev pub lastTwo : ℕ → List ℕ
+lastTwo n = lastDigit (n / 10) ∷ lastDigit n ∷ []
+
+-- the last three digits of n
+abbrev pub lastThree : ℕ → List ℕ
+lastThree n = lastDigit (n / 100) ∷ lastTwo n
+
+-- the last four digits of n
+abbrev pub lastFour : ℕ → List ℕ
+lastFour n = lastDigit (n / 1000) ∷ lastThree n
+
+-- the text of a date and a time of day in milliseconds
+unfoldable pub dateText : Civil → ℕ → List ℕ
+dateText c t =
+    lastFour (c .year) ++ bytes "-" ++ lastTwo (c .month) ++ bytes "-" ++ lastTwo (c .day) ++ bytes "T"
+    ++ lastTwo (t / 1000 / 60 / 60) ++ bytes ":" ++ lastTwo (t / 1000 / 60 % 60) ++ bytes ":" ++ lastTwo (t / 1000 % 60)
+    ++ bytes "." ++ lastThree (t % 1000) ++ bytes "Z"
+
+-- the text of an instant
+unfoldable pub printDate : ℕ → List ℕ
+printDate t = dateText (civilOf (t / day)) (t % day)
