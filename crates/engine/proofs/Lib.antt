@@ -1,6 +1,4 @@
-pub mod Carrying
 pub mod Ready
-pub mod Configuring
-pub mod Acting
+pub mod Requests
 pub mod Settling
 pub mod Serving

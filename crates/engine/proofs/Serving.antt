@@ -2,43 +2,44 @@
 use Prim.Native.Nat.{ℕ, _≤_, _<_, max}
 use mathlib.Core.Path.{_≡_, refl, sym, _∙_, ap}
 use mathlib.Core.Bool.{Bool, true, false, _&&_}
-use mathlib.Core.List.{List, [], _∷_, _++_}
-use mathlib.Core.Option.{Option, some, none}
-use native.Mathlib.Omega.{arith}
+use mathlib.Core.List.{List}
+use mathlib.Core.Option.{some}
 use lib.Dec.{leb}
 use lib.ListN.{length}
-use borrow.Author.Tests.{leb-true}
-use Rattle.buffers.proofs.Tests.{and-l, and-r}
+use Rattle.buffers.proofs.Tests.{and-r}
 use Rattle.calendar.specs.Calendar.{latest}
-use Rattle.model.specs.Requests.{Verb, inRange}
+use Rattle.model.specs.Settings as model
+use Rattle.model.specs.Requests.{Verb, Sweep, inRange}
 use Rattle.settings.specs.declared.Settings.{Settings}
 use Rattle.settings.specs.Meaning.{rulesMean}
-use Rattle.settings.specs.Changes.{withProgress}
 use Rattle.table.specs.Layout.{capacity}
 use Rattle.bucket.specs.Whole.{bucketOf, whole}
 use Rattle.bucket.proofs.Whole.{whole-parts}
-use Rattle.request.specs.declared.Verb as code
 use Rattle.request.specs.declared.Request.{Request}
 use Rattle.request.specs.declared.LineRead.{LineRead}
 use Rattle.request.specs.declared.LineRead.the-variants.{Reads, Unreadable}
 use Rattle.request.specs.Grammar.{readLine}
+use Rattle.fields.specs.Meaning.{rightsMeans}
 use Rattle.request.proofs.Ranges.{read-in-range}
 use Rattle.request.specs.Meaning.{verbMeans, Read}
+use Rattle.screen.specs.Screen.{screened}
 use Rattle.verdict.specs.declared.State.{State}
-use Rattle.verdict.specs.Decision.{Decision, refuses, does, decision}
+use Rattle.verdict.specs.Decision.{Decision, refuses, does, tableDecision, decision}
 use Rattle.verdict.specs.State.{bucketBy, rowsIn}
+use Rattle.judge.specs.Premises.{both, Asked, isSweep}
 use Rattle.outcome.specs.Outcome.{Outcome, refused, asked, outcome}
 use Rattle.outcome.specs.Steps.{done}
 use Rattle.outcome.proofs.Deciding.{outcome-1, outcome-2, outcome-3, outcome-said}
-use Rattle.engine.specs.declared.Done.{Done}
+use Rattle.configure.specs.Configured.{isSetting, Settable}
+use Rattle.configure.proofs.Configuring.{unset}
+use Rattle.perform.specs.declared.Step.{Step}
+use Rattle.perform.specs.declared.Step.the-variants.{Refused, Accepted}
+use Rattle.perform.specs.Steps.{Left, left, stepOf, Actable, Acted, SoundRules}
 use Rattle.engine.specs.declared.Served.{Served}
-use Rattle.engine.specs.declared.Step.{Step}
-use Rattle.engine.specs.declared.Step.the-variants.{Refused, Accepted}
-use Rattle.engine.specs.Served.{served, stateOf, isSetting, said, Settable, Servable}
-use Rattle.engine.specs.Steps.{Left, left, stepOf, settled, Requested}
-use Rattle.engine.proofs.Configuring.{unset}
-use Rattle.engine.proofs.Ready.{requested}
-use Rattle.engine.proofs.Settling.{refused-is, accepted-is}
+use Rattle.engine.specs.Served.{served, stateOf, said, settled, Settles, Sets}
+use Rattle.engine.proofs.Ready.{rules-sound, Requested, requested}
+use Rattle.engine.proofs.Requests.{request-actable, request-sweeps, request-screened, request-done, request-swept}
+use Rattle.engine.proofs.Settling.{refused-is, setting-acted}
 
 -- ## Refusals 1 to 3
 
@@ -65,58 +66,62 @@ module _ (s : Settings) (n b line a : List ℕ) (o : LineRead) (q : Request) (w 
   ranges : (leb (q .clock) latest && inRange (verbMeans line (q .verb))) ≡ true
   ranges = read-in-range line (said line q) says
 
-  servable : Servable line s n b a q
-  servable =
-      record {
-        is-whole = w;
-        room = l;
-        instant = leb-true (q .clock) latest (and-l _ _ ranges);
-        in-range = and-r (leb (q .clock) latest) _ ranges;
-        inside = rw e at (d .within);
-      }
-
-  line-settled : (x : Outcome) (now : ℕ) → now ≡ max (s .time) (q .clock)
-      → x ≡ settled s now (verbMeans line (q .verb)) (stepOf (stateOf s) n b a (decision (capacity b) (bucketOf s n b) (asked (length a) (said line q)))) → x ≡ outcome s n b line a
-  line-settled x now t h =
-      (rw t at h)
-      ∙ settled-done s n b a (max (s .time) (q .clock)) (verbMeans line (q .verb)) (decision (capacity b) (bucketOf s n b) (asked (length a) (said line q)))
-      ∙ outcome-said s n b line a (said line q) w l says ranges
-
-  -- It sets something.
   pub line-settable : Settable line s (q .verb)
-  line-settable = record { prefixes = (whole-parts s n b w) .prefixes; in-range = servable .in-range; inside = servable .inside }
+  line-settable = record { prefixes = (whole-parts s n b w) .prefixes; in-range = and-r (leb (q .clock) latest) _ ranges; inside = rw e at (d .within) }
 
-  pub line-set : (r : Served) (a' : List ℕ) (now : ℕ) → now ≡ max (s .time) (q .clock)
-      → ((n' b' : List ℕ) → Servable line s n' b' a q → served r n' b' a' ≡ settled s now (verbMeans line (q .verb)) (stepOf (stateOf s) n' b' a (decision (capacity b') (bucketOf s n' b') (asked (length a) (said line q)))))
-      → served r n b a' ≡ outcome s n b line a
-  line-set r a' now t h = line-settled (served r n b a') now t (h n b servable)
+  module _ (now : ℕ) (t : now ≡ max (s .time) (q .clock)) where
+    requests : Requested line (stateOf s) (s .rules) n b a q now
+    requests = requested line s n b a q w now l ranges (rw e at (d .within)) t
 
-  -- It comes to a step.
-  module _ (st : State) (now : ℕ) (es : st ≡ stateOf s) (t : now ≡ max (s .time) (q .clock)) where
-    pub line-requested : Requested line st (s .rules) n b a q now
-    line-requested = rw es (requested line s n b a q servable now t)
+    line-settled : (x : Outcome) (y : Left) → x ≡ settled s now (verbMeans line (q .verb)) y
+        → y ≡ stepOf (stateOf s) n b a (decision (capacity b) (bucketOf s n b) (asked (length a) (said line q))) → x ≡ outcome s n b line a
+    line-settled x y g h =
+        g ∙ (rw t (ap (λ (z : Left). settled s (max (s .time) (q .clock)) (verbMeans line (q .verb)) z) h))
+        ∙ settled-done s n b a (max (s .time) (q .clock)) (verbMeans line (q .verb)) (decision (capacity b) (bucketOf s n b) (asked (length a) (said line q)))
+        ∙ outcome-said s n b line a (said line q) w l says ranges
 
-    module _ (step : Step) (n' b' a' : List ℕ)
-        (h : left step n' b' a' ≡ stepOf st n b a (decision (capacity b) (bucketBy st (rulesMean (s .rules)) (rowsIn st n b)) (asked (length a) (said line q)))) (r : Served) where
-      stepped : (x : Step) → step ≡ x → served r n' b' a' ≡ settled s now (verbMeans line (q .verb)) (left x n' b' a') → served r n' b' a' ≡ outcome s n b line a
-      stepped x g f =
-          line-settled (served r n' b' a') now t
-          (f ∙ ap (λ (y : Left). settled s now (verbMeans line (q .verb)) y) (ap (λ (y : Step). left y n' b' a') (sym g) ∙ (rw es at h)))
+    -- What a step asks.
+    module _ (st : State) (es : st ≡ stateOf s) (u : Bool) (eu : u ≡ isSweep (q .verb)) where
+      pub line-actable : u ≡ false → Actable line st n b a (q .verb) now
+      line-actable f = rw es (request-actable line (stateOf s) (s .rules) n b a q now requests u eu f)
 
-      pub line-refused : (k : ℕ) → step ≡ Refused k → r .number ≡ k → r .length ≡ 0 → r .settings ≡ s → served r n' b' a' ≡ outcome s n b line a
-      line-refused k g x y z = stepped (Refused k) g (refused-is r k s n' b' a' x y z)
+      pub line-sweeps : u ≡ true → Asked st n b now Sweep
+      line-sweeps f = rw es (request-sweeps line (stateOf s) (s .rules) n b a q now requests u eu f)
 
-      pub line-accepted : (v : code.Verb) (p : Bool) (m : Done) → v ≡ q .verb → p ≡ isSetting v → p ≡ false → step ≡ Accepted m
-          → r .number ≡ 0 → r .length ≡ m .length → r .settings ≡ withProgress s now (m .used) (m .next) → served r n' b' a' ≡ outcome s n b line a
-      line-accepted v p m ev ep f g x y z =
-          stepped (Accepted m) g
-          (accepted-is s s now (verbMeans line (q .verb)) (m .length) (m .used) (m .next) r n' b' a'
-          (unset s line (q .verb) ((whole-parts s n b w) .prefixes) (ap isSetting (sym ev) ∙ sym ep ∙ f)) x y z)
+    module _ (k : ℕ) (h : (g : model.Config) (l′ : List ℕ) → k ≡ screened g (rightsMeans (q .rights)) now (verbMeans l′ (q .verb))) where
+      -- It is refused by its own fields.
+      pub line-screened : (r : Served) → (k ≡ 0 → ⊥) → r .number ≡ k → r .length ≡ 0 → r .settings ≡ s → served r n b a ≡ outcome s n b line a
+      line-screened r z x y v =
+          line-settled (served r n b a) (left (Refused k) n b a) (refused-is r k s n b a x y v)
+          (request-screened line (stateOf s) (s .rules) n b a q now requests k h z)
 
-pub setting-at : (v : code.Verb) (p : Bool) → p ≡ isSetting v → p ≡ true → isSetting v ≡ true
-setting-at v p e f = sym e ∙ f
+      -- It sets something.
+      pub line-set : (p : Bool) (r : Served) (a′ : List ℕ) → k ≡ 0 → p ≡ isSetting (q .verb) → p ≡ true → Sets s now (verbMeans line (q .verb)) a r a′ → served r n b a′ ≡ outcome s n b line a
+      line-set p r a′ z ep f g =
+          let x = left (Accepted (record { length = r .length; used = s .used; next = s .next })) n b a′ in
+          line-settled (served r n b a′) x (rw (g .number-is, g .settings-are))
+          (request-done line (stateOf s) (s .rules) n b a q now requests k h z x
+          (setting-acted (stateOf s) n b line now a a′ (r .length) (q .verb) (sym ep ∙ f) (requests .judgeable) (g .wrote)))
+
+      -- It comes to a step.
+      module _ (z : k ≡ 0) (p : Bool) (ep : p ≡ isSetting (q .verb)) (f : p ≡ false) (st : State) (es : st ≡ stateOf s) (step : Step) (n′ b′ a′ : List ℕ) (r : Served) (g : Settles s now step r) where
+        stepped : left step n′ b′ a′ ≡ stepOf (stateOf s) n b a (decision (capacity b) (bucketOf s n b) (asked (length a) (said line q))) → served r n′ b′ a′ ≡ outcome s n b line a
+        stepped =
+            line-settled (served r n′ b′ a′) (left step n′ b′ a′)
+            (g .is (verbMeans line (q .verb)) n′ b′ a′ (unset s line (q .verb) ((whole-parts s n b w) .prefixes) (sym ep ∙ f)))
+
+        pub line-acted : Acted line st n b a (q .verb) now (left step n′ b′ a′) → served r n′ b′ a′ ≡ outcome s n b line a
+        line-acted i = stepped (request-done line (stateOf s) (s .rules) n b a q now requests k h z (left step n′ b′ a′) (rw es at i))
+
+        pub line-swept : (u : Bool) → u ≡ isSweep (q .verb) → u ≡ true
+            → left step n′ b′ a′ ≡ stepOf st n b a (tableDecision (capacity b) (bucketBy st (rulesMean (s .rules)) (rowsIn st n b)) (both now) Sweep) → served r n′ b′ a′ ≡ outcome s n b line a
+        line-swept u eu c i = stepped (request-swept line (stateOf s) (s .rules) n b a q now requests k h z (left step n′ b′ a′) u eu c (rw es at i))
+
+-- The rules of a whole bucket are sound.
+pub whole-rules : (s : Settings) (n b : List ℕ) → whole s n b ≡ true → SoundRules (s .rules)
+whole-rules s n b w = record { prefixes = (whole-parts s n b w) .prefixes; sound = rules-sound s n b w }
 
 pub whole-at : (s : Settings) (n b : List ℕ) (w : Bool) → w ≡ whole s n b → w ≡ true → whole s n b ≡ true
 whole-at s n b w e f = sym e ∙ f
 
-pub ruleset lines = (whole-at, setting-at, line-1, line-2, line-3, line-settable, line-set, line-requested, line-refused, line-accepted)
+pub ruleset lines = (whole-at, whole-rules, line-1, line-2, line-3, line-settable, line-actable, line-sweeps, line-screened, line-set, line-acted, line-swept)

@@ -1,23 +1,24 @@
--- What a call returned and left, as an outcome; the state that it judges by; and the settings that a verb has set.
-use Prim.Native.Nat.{ℕ, _≤_}
+-- What a call returned and left, as an outcome; the state that it judges by; and what a step comes to with the settings.
+use Prim.Native.Nat.{ℕ}
 use mathlib.Core.Path.{_≡_}
-use mathlib.Core.Bool.{Bool, true, false}
 use mathlib.Core.List.{List}
-use lib.ListN.{length}
-use Rattle.model.specs.Requests.{Verb, inRange}
+use Rattle.buffers.specs.Writes.{Wrote}
+use Rattle.model.specs.Requests.{Verb}
 use Rattle.model.specs.Effects.{configAfter}
 use Rattle.settings.specs.declared.Settings.{Settings}
-use Rattle.settings.specs.Meaning.{settingsMean, prefixesAre}
-use Rattle.calendar.specs.Calendar.{latest}
-use Rattle.bucket.specs.Whole.{whole}
-use Rattle.request.specs.declared.Verb as code
-use Rattle.request.specs.declared.Verb.the-variants as verb
+use Rattle.settings.specs.Meaning.{settingsMean}
 use Rattle.request.specs.declared.Request.{Request}
 use Rattle.request.specs.Grammar.{Said}
 use Rattle.fields.specs.Meaning.{rightsMeans}
-use Rattle.request.specs.Meaning.{verbMeans, VerbInside}
+use Rattle.request.specs.Meaning.{verbMeans}
+use Rattle.answers.specs.declared.Answer.the-variants.{Done}
+use Rattle.answers.specs.Meaning.{textOf}
 use Rattle.verdict.specs.declared.State.{State}
-use Rattle.outcome.specs.Outcome.{Outcome}
+use Rattle.outcome.specs.Outcome.{settingsFrom, Outcome, refused}
+use Rattle.configure.specs.Configured.{Configured}
+use Rattle.perform.specs.declared.Step.{Step}
+use Rattle.perform.specs.declared.Step.the-variants.{Refused, Accepted}
+use Rattle.perform.specs.Steps.{Left}
 use Rattle.engine.specs.declared.Served.{Served}
 
 abbrev pub served : Served → List ℕ → List ℕ → List ℕ → Outcome
@@ -28,38 +29,32 @@ served r numbers keys answer =
 abbrev pub stateOf : Settings → State
 stateOf s = record { time = s .time; used = s .used; next = s .next; mode = s .mode; count = s .count; unit = s .unit }
 
--- DEFAULT and RULE set something, every other verb nothing
-abbrev pub isSetting : code.Verb → Bool
-isSetting (verb.Put k body size t) = false
-isSetting (verb.Copy n k t) = false
-isSetting (verb.Retain n r y) = false
-isSetting (verb.SetHold n on) = false
-isSetting (verb.AddMarker k y) = false
-isSetting (verb.DeleteVersion k n y) = false
-isSetting (verb.SetDefault m p) = true
-isSetting (verb.SetRule i p current noncurrent) = true
-isSetting verb.Sweep = false
-isSetting (verb.Get n) = false
-
--- What setting asks: prefixes as they are written, and the verb's fields within their ranges and the line.
-pub record Settable (line : List ℕ) (s : Settings) (v : code.Verb) : Type 0 where
-  pub prefixes : prefixesAre (s .rules) ≡ true
-  pub in-range : inRange (verbMeans line v) ≡ true
-  pub inside : VerbInside line v
-
--- A request that was read from the line, on a whole bucket, with room for its answer.
-pub record Servable (line : List ℕ) (s : Settings) (numbers keys answer : List ℕ) (q : Request) : Type 0 where
-  pub is-whole : whole s numbers keys ≡ true
-  pub room : 256 ≤ length answer
-  pub instant : q .clock ≤ latest
-  pub in-range : inRange (verbMeans line (q .verb)) ≡ true
-  pub inside : VerbInside line (q .verb)
-
 -- what a request of the code says
 abbrev pub said : List ℕ → Request → Said
 said line q = record { clock = q .clock; who = rightsMeans (q .rights); verb = verbMeans line (q .verb) }
 
--- The settings r are s with what the verb sets.
-pub record Configured (s : Settings) (v : Verb) (r : Settings) : Type 0 where
-  pub config : settingsMean r .config ≡ configAfter (settingsMean s .config) v
-  pub prefixes : prefixesAre (r .rules) ≡ true
+-- what a call returns and leaves after a request came to a step; an accepted line makes now the bucket's time
+abbrev pub settle : Settings → ℕ → Verb → Step → List ℕ → List ℕ → List ℕ → Outcome
+settle s now v (Refused n) numbers keys answer = refused n s numbers keys answer
+settle s now v (Accepted d) numbers keys answer =
+    record {
+      number = 0;
+      length = d .length;
+      settings = settingsFrom (record { time = now; next = d .next; config = configAfter (settingsMean s .config) v }) (d .used);
+      numbers = numbers;
+      keys = keys;
+      answer = answer;
+    }
+
+abbrev pub settled : Settings → ℕ → Verb → Left → Outcome
+settled s now v l = settle s now v (l .step) (l .numbers) (l .keys) (l .answer)
+
+-- A step is settled, where the verb sets nothing.
+pub record Settles (s : Settings) (now : ℕ) (step : Step) (r : Served) : Type 0 where
+  pub is : (v : Verb) (numbers keys answer : List ℕ) → Configured s v s → served r numbers keys answer ≡ settle s now v step numbers keys answer
+
+-- The settings have what the verb sets, and the answer says so.
+pub record Sets (s : Settings) (now : ℕ) (v : Verb) (answer : List ℕ) (r : Served) (answer′ : List ℕ) : Type 0 where
+  pub number-is : r .number ≡ 0
+  pub wrote : Wrote answer 0 (textOf Done) 256 answer′ (r .length)
+  pub settings-are : r .settings ≡ settingsFrom (record { time = now; next = s .next; config = configAfter (settingsMean s .config) v }) (s .used)

@@ -1,8 +1,8 @@
 -- `carry_out` meets its contract: each way through it is one of the cited laws.
-use Rattle.engine.proofs.Carrying.{carrying}
+use Rattle.perform.proofs.Carrying.{carrying}
 use borrow.Author.Needs.{needs}
-use Rattle.engine.proofs.carry_out.Statement.{statement}
-use Rattle.engine.proofs.carry_out.Tie as tie
+use Rattle.perform.proofs.carry_out.Statement.{statement}
+use Rattle.perform.proofs.carry_out.Tie as tie
 
 enum-known-v : tie.Need-enum-known-v
 enum-known-v c = search needs

@@ -1,9 +1,8 @@
--- The ways through a request's step: screened, judged, carried out.
-use Prim.Native.Nat.{ℕ, _≤_, max}
+-- A request by the screen and then by the table.
+use Prim.Native.Nat.{ℕ, max}
 use mathlib.Core.Path.{_≡_, refl, sym, _∙_, ap}
 use mathlib.Core.Bool.{Bool, true, false, false≢true}
-use mathlib.Core.List.{List, [], _++_}
-use native.Mathlib.Omega.{arith}
+use mathlib.Core.List.{List, _++_}
 use lib.Dec.{eqb}
 use lib.ListN.{length}
 use borrow.Author.Tests.{eq-eqb, ne-eqb}
@@ -21,47 +20,15 @@ use Rattle.fields.specs.Meaning.{rightsMeans}
 use Rattle.request.specs.Meaning.{verbMeans}
 use Rattle.screen.specs.Screen.{screened}
 use Rattle.verdict.specs.declared.State.{State}
-use Rattle.verdict.specs.declared.Verdict.{Verdict}
 use Rattle.verdict.specs.Decision.{Effect, Decision, refuses, does, decide, effect, tableDecision, decision}
 use Rattle.verdict.specs.State.{bucketBy, rowsIn}
-use Rattle.verdict.specs.Meaning.{verdictMeans}
-use Rattle.judge.specs.Premises.{both, Asked, Sweepable, isSweep, JudgesBy, JudgesOn}
-use Rattle.apply.specs.Applied.{judged}
+use Rattle.judge.specs.Premises.{both, Asked, isSweep}
 use Rattle.outcome.specs.Outcome.{asked}
 use Rattle.outcome.proofs.Deciding.{numbered, act, act-parts}
-use Rattle.engine.specs.declared.Step.the-variants.{Refused, Accepted}
+use Rattle.perform.specs.declared.Step.the-variants.{Refused}
+use Rattle.perform.specs.Steps.{Left, left, performed, stepOf, Actable, Acted}
 use Rattle.engine.specs.Served.{said}
-use Rattle.engine.specs.Steps.{Left, left, performed, stepOf, Performable, Actable, Acted, SoundRules, Requested}
-
--- ## Any verb but SWEEP
-
-module _ (line : List ℕ) (s : State) (n b a : List ℕ) (v : Verb) (now : ℕ) (h : Actable line s n b a v now) (o : Verdict) (j : JudgesOn s n b line now (verbMeans line v) o) (fates : List ℕ) where
-  pub act-performable : Performable line s n b o now fates a
-  act-performable = record { ready = h .judgeable .ready; feasible = (j [] fates) .feasible; room = h .room }
-
-pub act-done : (line : List ℕ) (s : State) (n b a : List ℕ) (v : Verb) (now : ℕ) (o : Verdict) (fates : List ℕ) (x : Left) → JudgesOn s n b line now (verbMeans line v) o
-    → x ≡ stepOf s n b a (verdictMeans (judged line (s .next) now fates) (rowsIn s n b) o) → Acted line s n b a v now x
-act-done line s n b a v now o fates x j e = record { is = λ rules. e ∙ ap (λ (d : Decision). stepOf s n b a d) ((j rules fates) .is) }
-
-pub ruleset acting = (act-performable, act-done)
-
--- ## SWEEP
-
-pub sweep-judgeable : (s : State) (n b : List ℕ) (now : ℕ) (v : line-verb.Verb) (rules : List Rule) (fates : List ℕ) → Asked s n b now v → SoundRules rules → length fates ≡ 1024 → Sweepable s rules fates
-sweep-judgeable s n b now v rules fates h r l =
-    record { prefixes = r .prefixes; rules-sound = r .sound; long = omega (arith, h .ready .used-fits, h .ready .capacity-fits) }
-
-module _ (line : List ℕ) (s : State) (n b a : List ℕ) (now : ℕ) (rules : List Rule) (fates : List ℕ) (o : Verdict) where
-  pub sweep-performable : SoundRules rules → Asked s n b now line-verb.Sweep → ((l : List ℕ) → JudgesBy s n b l now (rulesMean rules) fates line-verb.Sweep o) → 256 ≤ length a → Performable line s n b o now fates a
-  sweep-performable r h j l = record { ready = h .ready; feasible = (j line) .feasible; room = l }
-
-  pub sweep-done : (x : Left) → ((l : List ℕ) → JudgesBy s n b l now (rulesMean rules) fates line-verb.Sweep o) → x ≡ stepOf s n b a (verdictMeans (judged line (s .next) now fates) (rowsIn s n b) o)
-      → x ≡ stepOf s n b a (tableDecision (capacity b) (bucketBy s (rulesMean rules) (rowsIn s n b)) (both now) line-verb.Sweep)
-  sweep-done x j e = e ∙ ap (λ (d : Decision). stepOf s n b a d) ((j line) .is)
-
-pub ruleset sweeping = (sweep-judgeable, sweep-performable, sweep-done)
-
--- ## A request
+use Rattle.engine.proofs.Ready.{Requested}
 
 -- A verb that is_sweep holds of is SWEEP.
 sweep-verb : (line : List ℕ) (v : Verb) → isSweep v ≡ true → verbMeans line v ≡ line-verb.Sweep
@@ -100,11 +67,11 @@ step-parts s n b a xs ys e h =
     ∙ sym (step-act s n b a (decide (xs ++ ys) e))
 
 module _ (line : List ℕ) (s : State) (rules : List Rule) (n b a : List ℕ) (q : Request) (now : ℕ) (p : Requested line s rules n b a q now) where
-  pub request-actable : (v : Verb) (t : Bool) → v ≡ q .verb → t ≡ isSweep v → t ≡ false → Actable line s n b a v now
-  request-actable v t g e f = record { judgeable = rw g (p .judgeable); inside = rw g (p .inside); no-sweep = sym e ∙ f; room = p .room }
+  pub request-actable : (t : Bool) → t ≡ isSweep (q .verb) → t ≡ false → Actable line s n b a (q .verb) now
+  request-actable t e f = record { judgeable = p .judgeable; inside = p .inside; no-sweep = sym e ∙ f; room = p .room }
 
-  pub request-sweeps : (v : Verb) (t : Bool) → v ≡ q .verb → t ≡ isSweep v → t ≡ true → Asked s n b now line-verb.Sweep
-  request-sweeps v t g e f = rw (sym (sweep-verb line v (sym e ∙ f)), g) (p .judgeable)
+  pub request-sweeps : (t : Bool) → t ≡ isSweep (q .verb) → t ≡ true → Asked s n b now line-verb.Sweep
+  request-sweeps t e f = rw (sym (sweep-verb line (q .verb) (sym e ∙ f))) (p .judgeable)
 
   module _ (k : ℕ) (h : (g : model.Config) (l : List ℕ) → k ≡ screened g (rightsMeans (q .rights)) now (verbMeans l (q .verb))) where
     -- The decision, by the screen and then by the table.
@@ -121,16 +88,14 @@ module _ (line : List ℕ) (s : State) (rules : List Rule) (n b a : List ℕ) (q
     pub request-screened : (k ≡ 0 → ⊥) → left (Refused k) n b a ≡ stepOf s n b a (decision (capacity b) (bucketBy s (rulesMean rules) (rowsIn s n b)) (asked (length a) (said line q)))
     request-screened z = chosen-stop k _ _ _ (λ m. left (Refused m) n b a) (h _ line) z parts
 
-    module _ (z : k ≡ 0) (v : Verb) (g : v ≡ q .verb) (x : Left) where
+    module _ (z : k ≡ 0) (x : Left) where
       table-done : x ≡ stepOf s n b a (tableDecision (capacity b) (bucketBy s (rulesMean rules) (rowsIn s n b)) (both now) (verbMeans line (q .verb)))
           → x ≡ stepOf s n b a (decision (capacity b) (bucketBy s (rulesMean rules) (rowsIn s n b)) (asked (length a) (said line q)))
       table-done e = e ∙ chosen-go k _ _ _ (λ m. left (Refused m) n b a) (h _ line) z parts
 
-      pub request-done : Acted line s n b a v now x → x ≡ stepOf s n b a (decision (capacity b) (bucketBy s (rulesMean rules) (rowsIn s n b)) (asked (length a) (said line q)))
-      request-done e = table-done (rw g at (e .is (rulesMean rules)))
+      pub request-done : Acted line s n b a (q .verb) now x → x ≡ stepOf s n b a (decision (capacity b) (bucketBy s (rulesMean rules) (rowsIn s n b)) (asked (length a) (said line q)))
+      request-done e = table-done (e .is (rulesMean rules))
 
-      pub request-swept : (t : Bool) → t ≡ isSweep v → t ≡ true → x ≡ stepOf s n b a (tableDecision (capacity b) (bucketBy s (rulesMean rules) (rowsIn s n b)) (both now) line-verb.Sweep)
+      pub request-swept : (t : Bool) → t ≡ isSweep (q .verb) → t ≡ true → x ≡ stepOf s n b a (tableDecision (capacity b) (bucketBy s (rulesMean rules) (rowsIn s n b)) (both now) line-verb.Sweep)
           → x ≡ stepOf s n b a (decision (capacity b) (bucketBy s (rulesMean rules) (rowsIn s n b)) (asked (length a) (said line q)))
-      request-swept t f u e = table-done (rw (sym (sweep-verb line v (sym f ∙ u)), g) at e)
-
-pub ruleset requests = (request-actable, request-sweeps, request-screened, request-done, request-swept)
+      request-swept t f u e = table-done (rw (sym (sweep-verb line (q .verb) (sym f ∙ u))) at e)

@@ -1,26 +1,25 @@
 -- A verdict carried out: table and answer are those of its effect.
-use Prim.Native.Nat.{ℕ, _+_, _≤_}
-use mathlib.Core.Path.{_≡_, refl, sym, _∙_, ap}
-use mathlib.Core.List.{List, [], _∷_, _++_}
+use Prim.Native.Nat.{ℕ, _+_}
+use mathlib.Core.Path.{_≡_, refl, _∙_, ap}
+use mathlib.Core.List.{List, _++_}
 use native.Mathlib.Omega.{arith}
 use lib.ListN.{length, drop}
 use Rattle.buffers.specs.Writes.{Wrote}
-use Rattle.table.specs.Layout.{rowsOf, capacity, Holds}
+use Rattle.table.specs.Layout.{rowsOf, capacity}
 use Rattle.verdict.specs.declared.State.{State}
 use Rattle.verdict.specs.declared.Change.{Change}
 use Rattle.verdict.specs.declared.Plan.{Plan}
 use Rattle.verdict.specs.declared.Verdict.{Verdict}
 use Rattle.verdict.specs.declared.Verdict.the-variants as verdict
-use Rattle.verdict.specs.State.{rowsIn, Ready}
+use Rattle.verdict.specs.State.{rowsIn}
 use Rattle.verdict.specs.Meaning.{verdictMeans, Feasible}
 use Rattle.answers.specs.declared.Answer.{Answer}
 use Rattle.answers.specs.Meaning.{textOf, Printable}
 use Rattle.apply.specs.declared.Progress.{Progress}
 use Rattle.apply.specs.Applied.{judged, Applicable, Applied}
 use Rattle.outcome.specs.Outcome.{written}
-use Rattle.engine.specs.declared.Step.{Step}
-use Rattle.engine.specs.declared.Step.the-variants.{Refused, Accepted}
-use Rattle.engine.specs.Steps.{Left, left, stepOf, Performable}
+use Rattle.perform.specs.declared.Step.the-variants.{Refused, Accepted}
+use Rattle.perform.specs.Steps.{left, stepOf, Performable}
 
 module _ (line : List ℕ) (s : State) (n b : List ℕ) (v : Verdict) (instant : ℕ) (fates a : List ℕ) where
   pub step-refused : (k : ℕ) → v ≡ verdict.Refused k → left (Refused k) n b a ≡ stepOf s n b a (verdictMeans (judged line (s .next) instant fates) (rowsIn s n b) v)

@@ -1,8 +1,8 @@
 -- `act` meets its contract: each way through it is one of the cited laws.
-use Rattle.engine.proofs.Acting.{acting}
+use Rattle.perform.proofs.Acting.{acting}
 use borrow.Author.Needs.{needs}
-use Rattle.engine.proofs.act.Statement.{statement}
-use Rattle.engine.proofs.act.Tie as tie
+use Rattle.perform.proofs.act.Statement.{statement}
+use Rattle.perform.proofs.act.Tie as tie
 
 judge-requires : tie.Need-judge-requires
 judge-requires c κs = search needs

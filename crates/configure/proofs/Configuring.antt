@@ -1,24 +1,22 @@
 -- The settings that DEFAULT and RULE set are those of the model.
 use Prim.Native.Nat.{ℕ, _+_, _≤_, _<_}
 use mathlib.Core.Path.{_≡_, refl, sym, _∙_, ap}
-use mathlib.Core.Logic.{_⊎_, inl, inr}
-use mathlib.Core.Bool.{Bool, true, false, _&&_, false≢true}
+use mathlib.Core.Bool.{true, false, _&&_, false≢true}
 use mathlib.Core.List.{List}
-use mathlib.Core.Option.{Option, some, none}
 use lib.ListN.{length, set}
 use lib.Dec.{ltb}
-use borrow.Author.Tests.{ltb-true, ltb-false}
-use Rattle.buffers.specs.Choices.{pick, thenSome, orZero}
+use borrow.Author.Tests.{ltb-true}
+use Rattle.buffers.specs.Choices.{thenSome, orZero}
 use Rattle.text.specs.declared.Place.{Place}
-use Rattle.buffers.proofs.Tests.{either, and-l, and-r}
+use Rattle.buffers.proofs.Tests.{and-l, and-r}
 use Rattle.text.specs.Fields.{partOf}
 use Rattle.text.specs.Keys.{isPrefix}
 use Rattle.model.specs.Settings as model
 use Rattle.model.specs.Settings.{isDays}
-use Rattle.model.specs.Requests.{Verb, Set, DefaultRetention, LifecycleRule, inRange}
+use Rattle.model.specs.Requests.{Verb, inRange}
 use Rattle.model.specs.Effects.{setConfig, configAfter}
 use Rattle.settings.specs.declared.Settings.{Settings}
-use Rattle.settings.specs.Meaning.{rulesMean, settingsMean, prefixesAre}
+use Rattle.settings.specs.Meaning.{rulesMean, prefixesAre}
 use Rattle.settings.specs.Changes.{withDefault, WithRule}
 use Rattle.fields.specs.declared.Mode.{Mode}
 use Rattle.fields.specs.declared.Period.{Period}
@@ -27,7 +25,7 @@ use Rattle.request.specs.declared.Verb.the-variants as verb
 use Rattle.fields.specs.Meaning.{modeMeans, periodMeans, Inside}
 use Rattle.request.specs.Meaning.{verbMeans}
 use Rattle.outcome.proofs.Kept.{prefix-short}
-use Rattle.engine.specs.Served.{isSetting, Settable, Configured}
+use Rattle.configure.specs.Configured.{isSetting, Settable, Configured}
 
 -- A verb that sets nothing.
 pub unset : (s : Settings) (line : List ℕ) (v : code.Verb) → prefixesAre (s .rules) ≡ true → isSetting v ≡ false → Configured s (verbMeans line v) s

@@ -1,8 +1,8 @@
 -- `configured` meets its contract: each way through it is one of the cited laws.
-use Rattle.engine.proofs.Configuring.{setting}
+use Rattle.configure.proofs.Configuring.{setting}
 use borrow.Author.Needs.{needs}
-use Rattle.engine.proofs.configured.Statement.{statement}
-use Rattle.engine.proofs.configured.Tie as tie
+use Rattle.configure.proofs.configured.Statement.{statement}
+use Rattle.configure.proofs.configured.Tie as tie
 
 enum-known-verb : tie.Need-enum-known-verb
 enum-known-verb c = search needs

@@ -1,19 +1,15 @@
 -- What a request does to all but the settings: `done` of outcome without them.
-use Prim.Native.Nat.{ℕ, _+_, _≤_, max}
+use Prim.Native.Nat.{ℕ, _+_, _≤_}
 use mathlib.Core.Path.{_≡_}
 use mathlib.Core.Bool.{true, false}
 use mathlib.Core.List.{List}
 use lib.ListN.{length}
 use Rattle.model.specs.Settings as model
 use Rattle.model.specs.Settings.{soundRules}
-use Rattle.model.specs.Requests.{Verb}
-use Rattle.model.specs.Effects.{configAfter}
 use Rattle.settings.specs.declared.Rule.{Rule}
-use Rattle.settings.specs.declared.Settings.{Settings}
-use Rattle.settings.specs.Meaning.{rulesMean, settingsMean, prefixesAre}
+use Rattle.settings.specs.Meaning.{rulesMean, prefixesAre}
 use Rattle.table.specs.Layout.{numbersOf, keysOf, capacity}
 use Rattle.request.specs.declared.Verb as code
-use Rattle.request.specs.declared.Request.{Request}
 use Rattle.request.specs.Meaning.{verbMeans, VerbInside}
 use Rattle.verdict.specs.declared.State.{State}
 use Rattle.verdict.specs.declared.Verdict.{Verdict}
@@ -22,9 +18,9 @@ use Rattle.verdict.specs.State.{bucketBy, rowsIn, Ready}
 use Rattle.verdict.specs.Meaning.{Feasible}
 use Rattle.judge.specs.Premises.{both, Asked, isSweep}
 use Rattle.apply.specs.Applied.{judged}
-use Rattle.outcome.specs.Outcome.{settingsFrom, Outcome, refused, written}
-use Rattle.engine.specs.declared.Step.{Step}
-use Rattle.engine.specs.declared.Step.the-variants.{Refused, Accepted}
+use Rattle.outcome.specs.Outcome.{written}
+use Rattle.perform.specs.declared.Step.{Step}
+use Rattle.perform.specs.declared.Step.the-variants.{Refused, Accepted}
 
 -- What a request came to, and what it left in table and answer buffer.
 pub record Left : Type 0 where
@@ -51,22 +47,6 @@ abbrev pub stepOf : State → List ℕ → List ℕ → List ℕ → Decision �
 stepOf s numbers keys answer (refuses n) = left (Refused n) numbers keys answer
 stepOf s numbers keys answer (does e) = performed s keys answer e
 
--- what a call returns and leaves after a request came to a step; an accepted line makes now the bucket's time
-abbrev pub settle : Settings → ℕ → Verb → Step → List ℕ → List ℕ → List ℕ → Outcome
-settle s now v (Refused n) numbers keys answer = refused n s numbers keys answer
-settle s now v (Accepted d) numbers keys answer =
-    record {
-      number = 0;
-      length = d .length;
-      settings = settingsFrom (record { time = now; next = d .next; config = configAfter (settingsMean s .config) v }) (d .used);
-      numbers = numbers;
-      keys = keys;
-      answer = answer;
-    }
-
-abbrev pub settled : Settings → ℕ → Verb → Left → Outcome
-settled s now v l = settle s now v (l .step) (l .numbers) (l .keys) (l .answer)
-
 -- ## Premises
 
 -- What carrying a verdict out asks.
@@ -90,11 +70,3 @@ pub record Acted (line : List ℕ) (s : State) (numbers keys answer : List ℕ) 
 pub record SoundRules (rules : List Rule) : Type 0 where
   pub prefixes : prefixesAre rules ≡ true
   pub sound : soundRules (rulesMean rules) ≡ true
-
--- A request that can be screened and judged, its now, and room for its answer.
-pub record Requested (line : List ℕ) (s : State) (rules : List Rule) (numbers keys answer : List ℕ) (q : Request) (instant : ℕ) : Type 0 where
-  pub judgeable : Asked s numbers keys instant (verbMeans line (q .verb))
-  pub inside : VerbInside line (q .verb)
-  pub rules-sound : SoundRules rules
-  pub room : 256 ≤ length answer
-  pub now-is : instant ≡ max (s .time) (q .clock)

@@ -1,8 +1,8 @@
 -- `act_sweep` meets its contract: each way through it is one of the cited laws.
-use Rattle.engine.proofs.Acting.{sweeping}
+use Rattle.perform.proofs.Acting.{sweeping}
 use borrow.Author.Needs.{needs}
-use Rattle.engine.proofs.act_sweep.Statement.{statement}
-use Rattle.engine.proofs.act_sweep.Tie as tie
+use Rattle.perform.proofs.act_sweep.Statement.{statement}
+use Rattle.perform.proofs.act_sweep.Tie as tie
 
 no-fates-requires : tie.Need-no-fates-requires
 no-fates-requires c κs = search needs
