@@ -2,16 +2,17 @@
 use Prim.Native.Nat.{ℕ, zero, suc, _+_, _*_, _-_, _≤_, _<_}
 use mathlib.Core.Path.{_≡_, refl, sym, ap, ap₂, _∙_}
 use mathlib.Core.Logic.{inl, inr}
-use mathlib.Core.Bool.{Bool, true, false, _&&_, _||_, and-true, and-assoc, or-false, false≢true}
+use mathlib.Core.Bool.{Bool, true, false, _&&_, _||_, and-true, and-false, and-assoc, or-false, false≢true}
 use mathlib.Core.List.{List, [], _∷_, _++_}
 use native.Mathlib.Omega.{arith}
 use native.Mathlib.Numerals.{add-one}
+use mir.Val.{Fits}
+use mir.Syntax.{w8}
 use lib.Dec.{eqb, ltb}
 use lib.ListN.{length, getD, take, drop, replicate, length-append, length-replicate, drop-of-length-le}
 use lib.Seq.{drop-cons, take-all, getD-take, getD-drop}
 use borrow.Author.Tests.{lt-ltb, le-ltb, ltb-false, ne-eqb}
 use Rattle.buffers.specs.Lists.{all, same}
-use Rattle.buffers.specs.Words.{number}
 use Rattle.buffers.proofs.Tests.{either, and-i, and-l, and-r, clash}
 use Rattle.buffers.proofs.Lists.{same-path, same-refl}
 use Rattle.text.specs.Keys.{isKeyByte, isKey, isPrefix}
@@ -19,17 +20,13 @@ use Rattle.blocks.specs.Blocks.{blockOf, keyIn, isBlock}
 use Rattle.blocks.proofs.Blocks.{block-is}
 use Rattle.model.specs.Rows.{before}
 use Rattle.model.proofs.Order.{before-irrefl}
+use Rattle.search.specs.Keys.{rank}
 use Rattle.bucket.specs.Steps.{allBelow, isKeyBlock, blockAt, keyedAt, aheadOf, aheadAt, soundKeys}
+use Rattle.bucket.specs.Differing.{Differ}
 use Rattle.bucket.proofs.Steps.{below-at, below-more, pick-and, cut}
+use Rattle.bucket.proofs.Differing.{tails-less, tails-more}
 
 -- ## The same bytes
-
-pub other-word : (a b : List ℕ) (x y : ℕ) → x ≡ number (take 8 (drop 0 a)) → y ≡ number (take 8 (drop 0 b)) → (x ≡ y → ⊥) → false ≡ same a b
-other-word a b x y p q h =
-    elim (either (same a b)) [
-      | inl e ↦ absurd (h (p ∙ ap (λ (l : List ℕ). number (take 8 l)) (same-path a b e) ∙ sym q))
-      | inr e ↦ sym e
-    ]
 
 module _ (w ok : Bool) (a b : List ℕ) (i : ℕ) (e : w ≡ ok && same (drop i a) (drop i b)) where
   pub same-more : i < length a → i < length b → w ≡ (ok && eqb (getD a i 0) (getD b i 0)) && same (drop (i + 1) a) (drop (i + 1) b)
@@ -43,7 +40,7 @@ module _ (w ok : Bool) (a b : List ℕ) (i : ℕ) (e : w ≡ ok && same (drop i 
       let k : length b ≤ i = omega arith in
       sym (e ∙ rw (drop-of-length-le a j, drop-of-length-le b k) (and-true ok))
 
-pub ruleset same-cases = (other-word, same-more, same-end)
+pub ruleset same-cases = (same-more, same-end)
 
 -- ## Keys by their 64 bytes
 
@@ -112,21 +109,28 @@ module _ (a b : List ℕ) (f : isKeyBlock a ≡ true) where
         | inr t ↦ t
       ]
 
-  module _ (x y : ℕ) (r : Bool) (e : r ≡ same a b) where
-    pub follows-same : r ≡ true → ltb y x ≡ isKeyBlock b && aheadOf (keyIn a) x (keyIn b) y
-    follows-same t = rw (← same-path a b (sym e ∙ t), f, before-irrefl (keyIn a), same-refl (keyIn a))
+  -- Two blocks of keys, by their order and by whether they are the same.
+  stand-apart : (x y : ℕ) (q : Bool) → same a b ≡ false → before (take 63 (drop 1 a)) (take 63 (drop 1 b)) ≡ q → isKeyBlock b && q ≡ isKeyBlock b && aheadOf (keyIn a) x (keyIn b) y
+  stand-apart x y q e d =
+      elim (either (isKeyBlock b)) [
+        | inl g ↦ rw (g, other-key g e, or-false (before (keyIn a) (keyIn b))) (sym d ∙ keys-stand g)
+        | inr g ↦ rw g
+      ]
 
-    pub follows-other : (t q : Bool) → r ≡ false → t ≡ isBlock b && isKey (keyIn b) → t ≡ true → q ≡ before (take 63 (drop 1 a)) (take 63 (drop 1 b))
-        → q ≡ isKeyBlock b && aheadOf (keyIn a) x (keyIn b) y
-    unfolding isKeyBlock
-    follows-other t q o g h d =
-        rw (sym g ∙ h, other-key (sym g ∙ h) (sym e ∙ o)) (d ∙ keys-stand (sym g ∙ h) ∙ sym (or-false (before (keyIn a) (keyIn b))))
+  module _ (x y n : ℕ) (w : Differ a b n) where
+    pub follows-same : 55 < n → ltb y x ≡ isKeyBlock b && aheadOf (keyIn a) x (keyIn b) y
+    follows-same t = rw (← same-path a b (w .alike t), f, before-irrefl (keyIn a), same-refl (keyIn a))
 
-pub follows-no : (b : List ℕ) (t u : Bool) → t ≡ isBlock b && isKey (keyIn b) → t ≡ false → false ≡ isKeyBlock b && u
-unfolding isKeyBlock
-follows-no b t u g h = rw (sym g ∙ h)
+    module _ (o : n ≤ 55) (u v : ℕ) (p : (j : ℕ) → Fits w8 (getD a j 0)) (q : (j : ℕ) → Fits w8 (getD b j 0)) (la : length a ≡ 64) (lb : length b ≡ 64)
+        (eu : u ≡ rank 8 (drop (n + 1) a)) (ev : v ≡ rank 8 (drop (n + 1) b)) where
+      pub follows-less : (t : Bool) → u < v → t ≡ isBlock b && isKey (keyIn b) → t ≡ isKeyBlock b && aheadOf (keyIn a) x (keyIn b) y
+      unfolding isKeyBlock
+      follows-less t d e = e ∙ sym (and-true (isBlock b && isKey (keyIn b))) ∙ stand-apart x y true (w .apart o) (tails-less a b n u v w o p q la lb eu ev d)
 
-pub ruleset follows-cases = (follows-same, follows-other, follows-no)
+      pub follows-more : v ≤ u → false ≡ isKeyBlock b && aheadOf (keyIn a) x (keyIn b) y
+      follows-more d = sym (and-false (isKeyBlock b)) ∙ stand-apart x y false (w .apart o) (tails-more a b n u v w o p q la lb eu ev d)
+
+pub ruleset follows-cases = (follows-same, follows-less, follows-more)
 
 -- ## The rows one after the other
 

@@ -1,4 +1,5 @@
 pub mod Steps
+pub mod Differing
 pub mod Following
 pub mod Laying
 pub mod Whole

@@ -1,5 +1,4 @@
 // Refusal 1: whether settings and buffers hold a sound bucket, and the key of a row of one. The definitions are in specs/.
-use search::Order;
 use settings::Settings;
 ghost use mathlib.Core.Path.{_≡_};
 ghost use mathlib.Core.Bool.{true, _&&_};
@@ -8,9 +7,10 @@ ghost use Prim.Native.Nat.{_+_, _*_, _≤_, _<_};
 ghost use lib.ListN.{length, drop};
 ghost use Rattle.buffers.specs.Lists.{same};
 ghost use Rattle.blocks.specs.Blocks.{keyIn};
-ghost use Rattle.model.specs.Rows.{before, soundRetention, soundData, soundMarker};
+ghost use Rattle.model.specs.Rows.{soundRetention, soundData, soundMarker};
 ghost use Rattle.table.specs.Layout.{rowIn};
 ghost use Rattle.bucket.specs.Steps.{allBelow, zeros, soundNumbers, numbersAt, isKeyBlock, keyedAt, aheadOf, aheadAt, soundKeys, soundTable};
+ghost use Rattle.bucket.specs.Differing.{Shared, Differ};
 ghost use Rattle.bucket.specs.Whole.{whole, keyOf};
 
 // Whether the retention's mode and date belong together.
@@ -80,14 +80,11 @@ fn rows_are_sound(rows: &[u64], used: usize, next: u64, time: u64) -> bool
     true
 }
 
-// Whether 64 bytes are the same in both. Most keys differ in the first eight; the loop is compiled to vector code.
+// Whether 64 bytes are the same in both. The loop is compiled to vector code.
 fn is_same(a: &[u8], b: &[u8]) -> bool
     requires { ⌜ (length (now a) ≡ 64) × (length (now b) ≡ 64) ⌝ }
     ensures { λ r. ⌜ r ≡ same (now (a .entry)) (now (b .entry)) ⌝ }
 {
-    if buffers::word_at(a, 0) != buffers::word_at(b, 0) {
-        return false;
-    }
     let mut ok = true;
     let mut i = 0;
     while i < 64 {
@@ -97,16 +94,39 @@ fn is_same(a: &[u8], b: &[u8]) -> bool
     ok
 }
 
-// Whether a stands before b, by unsigned bytes.
-fn is_before(a: &[u8], b: &[u8]) -> bool
-    ensures { λ r. ⌜ r ≡ before (now (a .entry)) (now (b .entry)) ⌝ }
+// How many bytes behind the first are the same in both, counted on from n by eights; less than `to` only where the next eight differ.
+fn shared_to(a: &[u8], b: &[u8], n: usize, to: usize) -> usize
+    requires { ⌜ (length (now a) ≡ 64) × (length (now b) ≡ 64) × (to ≤ 55) ⌝ }
+    requires { ⌜ Shared (now a) (now b) 0 n ⌝ }
+    ensures { λ r. ⌜ Shared (now (a .entry)) (now (b .entry)) to r ⌝ }
 {
-    let o = search::compare_keys(a, b);
-    match o {
-        Order::Before => true,
-        Order::Same => false,
-        Order::After => false,
+    let mut i = n;
+    while i < to {
+        if buffers::word_at(a, i + 1) != buffers::word_at(b, i + 1) {
+            return i;
+        }
+        i += 8;
     }
+    i
+}
+
+// How many bytes behind the first are the same in both, at most 55: then one of the next eight differs, or the first byte; 64 where all bytes are the same.
+fn differ_at(a: &[u8], b: &[u8]) -> usize
+    requires { ⌜ (length (now a) ≡ 64) × (length (now b) ≡ 64) ⌝ }
+    ensures { λ r. ⌜ Differ (now (a .entry)) (now (b .entry)) r ⌝ }
+{
+    let i = shared_to(a, b, 0, 24);
+    if i < 24 {
+        return i;
+    }
+    if is_same(a, b) {
+        return 64;
+    }
+    let j = shared_to(a, b, i, 55);
+    if j < 55 {
+        return j;
+    }
+    55
 }
 
 // Whether 64 bytes b are those of a key, and version x of the key in a stands before version y of that key.
@@ -114,14 +134,17 @@ fn follows(a: &[u8], x: u64, b: &[u8], y: u64) -> bool
     requires { ⌜ (length (now a) ≡ 64) × (length (now b) ≡ 64) × (isKeyBlock (now a) ≡ true) ⌝ }
     ensures { λ r. ⌜ r ≡ isKeyBlock (now (b .entry)) && aheadOf (keyIn (now (a .entry))) x (keyIn (now (b .entry))) y ⌝ }
 {
-    if is_same(a, b) {
+    let i = differ_at(a, b);
+    if 55 < i {
         return y < x;
     }
-    if !blocks::is_key_block(b) {
-        return false;
-    }
     // zeros stand before every byte of a key, so that all bytes behind the first are in the order of the keys
-    is_before(&a[1..64], &b[1..64])
+    let first = search::rank_at(a, i + 1);
+    let second = search::rank_at(b, i + 1);
+    if first < second {
+        return blocks::is_key_block(b);
+    }
+    false
 }
 
 // Whether the row behind the one at `at` has a key, and stands behind it.

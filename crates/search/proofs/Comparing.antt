@@ -118,7 +118,7 @@ rank-less (suc k) (x ∷ s) (y ∷ t) p q l =
     ]
 
 -- Equal numbers are those of equal bytes.
-rank-same : (k : ℕ) (s t : List ℕ) → AllBytes s → AllBytes t → k ≤ length s → k ≤ length t → rank k s ≡ rank k t → take k s ≡ take k t
+pub rank-same : (k : ℕ) (s t : List ℕ) → AllBytes s → AllBytes t → k ≤ length s → k ≤ length t → rank k s ≡ rank k t → take k s ≡ take k t
 unfolding rank
 rank-same zero s t p q h g l = refl
 rank-same (suc k) [] t p q h g l = absurd (omega arith)
@@ -145,10 +145,10 @@ alike-take (suc i) (x ∷ a) (y ∷ b) h g e =
     let r : take i a ≡ take i b = cc in
     record { alike = λ o. same-head o x y a b z ∙ alike-take i a b (omega arith) (omega arith) r .alike o }
 
-bytes-from : (i : ℕ) (s : List ℕ) → AllBytes s → AllBytes (drop i s)
+pub bytes-from : (i : ℕ) (s : List ℕ) → AllBytes s → AllBytes (drop i s)
 bytes-from i s h k = rw (getD-drop i s k 0) (h (i + k))
 
-all-bytes : (s : List ℕ) → ((j : ℕ) → Fits w8 (getD s j 0)) → AllBytes s
+pub all-bytes : (s : List ℕ) → ((j : ℕ) → Fits w8 (getD s j 0)) → AllBytes s
 all-bytes s h j = omega (arith, h j)
 
 module _ (a b : List ℕ) (i x y : ℕ) (p : (j : ℕ) → Fits w8 (getD a j 0)) (q : (j : ℕ) → Fits w8 (getD b j 0))
@@ -159,13 +159,13 @@ module _ (a b : List ℕ) (i x y : ℕ) (p : (j : ℕ) → Fits w8 (getD a j 0))
   right-bytes : AllBytes (drop i b)
   right-bytes = bytes-from i b (all-bytes b q)
 
-  eight-less : x < y → isOrder Before a b ≡ true
+  pub eight-less : x < y → isOrder Before a b ≡ true
   eight-less d = alike-take i a b (omega arith) (omega arith) e .alike Before ∙ rank-less 8 (drop i a) (drop i b) left-bytes right-bytes (omega arith)
 
-  eight-more : y < x → isOrder After a b ≡ true
+  pub eight-more : y < x → isOrder After a b ≡ true
   eight-more d = alike-take i a b (omega arith) (omega arith) e .alike After ∙ rank-less 8 (drop i b) (drop i a) right-bytes left-bytes (omega arith)
 
-  eight-same : y ≤ x → x ≤ y → take (i + 8) a ≡ take (i + 8) b
+  pub eight-same : y ≤ x → x ≤ y → take (i + 8) a ≡ take (i + 8) b
   eight-same d f =
       take-add i 8 a
       ∙ ap₂ (λ (s t : List ℕ). s ++ t) e (rank-same 8 (drop i a) (drop i b) left-bytes right-bytes (rw length-drop (omega arith)) (rw length-drop (omega arith)) (omega arith))
@@ -268,7 +268,7 @@ drop-take : (n : ℕ) (s : List ℕ) → drop 1 (take (suc n) s) ≡ take n (dro
 drop-take n [] = sym (take-nil n)
 drop-take n (x ∷ s) = refl
 
-bytes-to : (n : ℕ) (s : List ℕ) → AllBytes s → AllBytes (take n s)
+pub bytes-to : (n : ℕ) (s : List ℕ) → AllBytes s → AllBytes (take n s)
 bytes-to n s h k =
     elim (either (ltb k n)) [
       | inl e ↦ rw (getD-take n s k 0 (ltb-true k n e)) (h k)
@@ -323,7 +323,7 @@ before-one a b e =
 same-one : (a b : List ℕ) → same a b ≡ true → before a b ≡ false
 same-one a b e = rw (same-path a b e) (before-irrefl b)
 
-after-one : (a b : List ℕ) → before b a ≡ true → before a b ≡ false
+pub after-one : (a b : List ℕ) → before b a ≡ true → before a b ≡ false
 after-one a b e =
     elim (either (before a b)) [
       | inl s ↦ absurd (clash (before a a) (before-trans a b a s e) (before-irrefl a))

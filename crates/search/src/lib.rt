@@ -33,7 +33,7 @@ fn wide(x: u8) -> u64
 }
 
 // Eight bytes as a number, the first counting most. This sum, from the last byte on, is compiled to one load.
-fn rank_at(b: &[u8], at: usize) -> u64
+pub fn rank_at(b: &[u8], at: usize) -> u64
     requires { ⌜ at + 8 ≤ length (now b) ⌝ }
     ensures { λ r. ⌜ r ≡ rank 8 (drop at (now (b .entry))) ⌝ }
 {

@@ -1,5 +1,4 @@
 -- `follows` meets its contract.
-use borrow.Author.Tests.{not-true, not-false}
 use Rattle.bucket.proofs.Following.{follows-cases}
 use borrow.Author.Needs.{needs}
 use Rattle.bucket.proofs.follows.Statement.{statement}
@@ -11,13 +10,10 @@ follows-spec =
     (tie.spec
     (λ c κs. search needs)
     (λ c. search (needs, follows-cases))
-    (λ c κs. search needs)
-    (λ c. search (needs, follows-cases, not-true))
-    (λ c. search needs)
-    (λ c. search needs)
-    (λ c. search needs)
-    (λ c. search needs)
-    (λ c. search needs)
     (λ c. search needs)
     (λ c κs. search needs)
-    (λ c. search (needs, follows-cases, not-false)))
+    (λ c. search needs)
+    (λ c κs. search needs)
+    (λ c κs. search needs)
+    (λ c. search (needs, follows-cases))
+    (λ c. search (needs, follows-cases)))

@@ -21,9 +21,6 @@ is-same-spec =
     (tie.spec
     Inv-loop
     μ-loop
-    (λ c κs. search needs)
-    (λ c κs. search needs)
-    (λ c. search (needs, same-cases))
     (λ c. search needs)
     (λ c. search needs)
     (λ c. search needs)
