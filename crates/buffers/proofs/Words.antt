@@ -49,18 +49,28 @@ no-byte : (b : List ℕ) → number (take 0 b) ≡ 0
 unfolding number
 no-byte b = refl
 
-pub word-sum : (b : List ℕ) (i r0 r1 r2 r3 r4 r5 r6 r7 : ℕ) → i + 8 ≤ length b
+pub half-sum : (b : List ℕ) (i r0 r1 r2 r3 : ℕ) → i + 4 ≤ length b
     → Within r0 (getD b i 0) 255 → Within r1 (getD b (i + 1) 0) 255 → Within r2 (getD b (i + 2) 0) 255 → Within r3 (getD b (i + 3) 0) 255
-    → Within r4 (getD b (i + 4) 0) 255 → Within r5 (getD b (i + 5) 0) 255 → Within r6 (getD b (i + 6) 0) 255 → Within r7 (getD b (i + 7) 0) 255
-    → r0 + r1 * 256 + r2 * 65536 + r3 * 16777216 + r4 * 4294967296 + r5 * 1099511627776 + r6 * 281474976710656 + r7 * 72057594037927936 ≡ number (take 8 (drop i b))
-word-sum b i r0 r1 r2 r3 r4 r5 r6 r7 h w0 w1 w2 w3 w4 w5 w6 w7 =
+    → Within (r0 + r1 * 256 + r2 * 65536 + r3 * 16777216) (number (take 4 (drop i b))) 4294967295
+half-sum b i r0 r1 r2 r3 h w0 w1 w2 w3 =
+    let e0 = first-byte b i 3 (omega arith) in
+    let e1 = next-byte b i 1 2 (omega arith) in
+    let e2 = next-byte b i 2 1 (omega arith) in
+    let e3 = next-byte b i 3 0 (omega arith) in
+    let e4 = no-byte (drop (i + 4) b) in
+    record { is = omega arith; most = omega arith }
+
+pub word-halves : (b : List ℕ) (i low high : ℕ) → i + 8 ≤ length b
+    → Within low (number (take 4 (drop i b))) 4294967295 → Within high (number (take 4 (drop (i + 4) b))) 4294967295
+    → low + high * 4294967296 ≡ number (take 8 (drop i b))
+word-halves b i low high h w v =
     let e0 = first-byte b i 7 (omega arith) in
     let e1 = next-byte b i 1 6 (omega arith) in
     let e2 = next-byte b i 2 5 (omega arith) in
     let e3 = next-byte b i 3 4 (omega arith) in
-    let e4 = next-byte b i 4 3 (omega arith) in
-    let e5 = next-byte b i 5 2 (omega arith) in
-    let e6 = next-byte b i 6 1 (omega arith) in
-    let e7 = next-byte b i 7 0 (omega arith) in
-    let e8 = no-byte (drop (i + 8) b) in
+    let f0 = first-byte b i 3 (omega arith) in
+    let f1 = next-byte b i 1 2 (omega arith) in
+    let f2 = next-byte b i 2 1 (omega arith) in
+    let f3 = next-byte b i 3 0 (omega arith) in
+    let f4 = no-byte (drop (i + 4) b) in
     omega arith

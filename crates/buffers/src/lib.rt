@@ -119,19 +119,20 @@ pub fn wide(x: u8) -> u64
     x as u64
 }
 
+// The number that four bytes from `at` on spell.
+fn half_at(b: &[u8], at: usize) -> u64
+    requires { ⌜ at + 4 ≤ length (now b) ⌝ }
+    ensures { λ r. ⌜ Within r (number (take 4 (drop at (now (b .entry))))) 4294967295 ⌝ }
+{
+    wide(b[at]) + wide(b[at + 1]) * 256 + wide(b[at + 2]) * 65536 + wide(b[at + 3]) * 16777216
+}
+
 // The number that eight bytes from `at` on spell. This sum, from the least byte on, is compiled to one load.
 pub fn word_at(b: &[u8], at: usize) -> u64
     requires { ⌜ at + 8 ≤ length (now b) ⌝ }
     ensures { λ r. ⌜ r ≡ number (take 8 (drop at (now (b .entry)))) ⌝ }
 {
-    wide(b[at])
-        + wide(b[at + 1]) * 256
-        + wide(b[at + 2]) * 65536
-        + wide(b[at + 3]) * 16777216
-        + wide(b[at + 4]) * 4294967296
-        + wide(b[at + 5]) * 1099511627776
-        + wide(b[at + 6]) * 281474976710656
-        + wide(b[at + 7]) * 72057594037927936
+    half_at(b, at) + half_at(b, at + 4) * 4294967296
 }
 
 // Writes the eight bytes of `x` at `at`, and returns the place after them.

@@ -1,6 +1,6 @@
--- `word_at` meets its contract: the sum of its eight bytes, each at its place.
+-- `word_at` meets its contract: two halves.
 use borrow.Author.Needs.{needs}
-use Rattle.buffers.proofs.Words.{word-sum}
+use Rattle.buffers.proofs.Words.{word-halves}
 use Rattle.buffers.proofs.word_at.Statement.{statement}
 use Rattle.buffers.proofs.word_at.Tie as tie
 
@@ -8,41 +8,9 @@ pub word-at-spec : {M : Type 1} → statement M
 word-at-spec =
     tie.close
     (tie.spec
+    (λ c κs. search needs)
     (λ c. search needs)
     (λ c κs. search needs)
     (λ c. search needs)
     (λ c. search needs)
-    (λ c κs. search needs)
-    (λ c. search needs)
-    (λ c. search needs)
-    (λ c. search needs)
-    (λ c. search needs)
-    (λ c κs. search needs)
-    (λ c. search needs)
-    (λ c. search needs)
-    (λ c. search needs)
-    (λ c. search needs)
-    (λ c κs. search needs)
-    (λ c. search needs)
-    (λ c. search needs)
-    (λ c. search needs)
-    (λ c. search needs)
-    (λ c κs. search needs)
-    (λ c. search needs)
-    (λ c. search needs)
-    (λ c. search needs)
-    (λ c. search needs)
-    (λ c κs. search needs)
-    (λ c. search needs)
-    (λ c. search needs)
-    (λ c. search needs)
-    (λ c. search needs)
-    (λ c κs. search needs)
-    (λ c. search needs)
-    (λ c. search needs)
-    (λ c. search needs)
-    (λ c. search needs)
-    (λ c κs. search needs)
-    (λ c. search needs)
-    (λ c. search needs)
-    (λ c. search (needs, word-sum)))
+    (λ c. search (needs, word-halves)))
