@@ -3,14 +3,14 @@ use Prim.Native.Nat.{ℕ, zero, suc, _+_, _-_, _*_, _≤_, _<_}
 use mathlib.Core.Path.{_≡_, refl, sym, ap, _∙_}
 use mathlib.Core.Bool.{Bool, true, false, not, _&&_, false≢true}
 use mathlib.Core.List.{List, [], _∷_, _++_, append-assoc, append-nil}
-use mathlib.Core.Option.{Option, some, none}
+use mathlib.Core.Option.{none}
 use native.Mathlib.Omega.{arith}
 use native.Mathlib.Numerals.{add-one}
 use lib.ListN.{length, getD, take, drop, set, length-set, drop-of-length-le}
-use lib.Seq.{drop-cons, take-suc-set}
-use borrow.Author.Tests.{ne-eqb}
+use lib.Seq.{drop-cons, take-suc, take-suc-set}
+use borrow.Author.Tests.{eq-eqb, ne-eqb}
 use Rattle.buffers.specs.Choices.{pick}
-use Rattle.buffers.specs.Lists.{all, same}
+use Rattle.buffers.specs.Lists.{all, keep, same}
 use Rattle.buffers.specs.Ranges.{Within}
 use Rattle.buffers.proofs.Lists.{same-path}
 use Rattle.calendar.specs.Calendar.{latest}
@@ -24,16 +24,14 @@ use Rattle.table.specs.Places.{rowFrom, numbersIn, keyAt}
 use Rattle.table.specs.declared.Numbers.{Numbers}
 use Rattle.table.proofs.Held.{rows-length, row-at}
 use Rattle.lifecycle.specs.declared.Limits.{Limits}
-use Rattle.lifecycle.specs.declared.Judged.{Judged}
-use Rattle.lifecycle.specs.declared.Chosen.{Chosen}
 use Rattle.lifecycle.specs.declared.Counts.{Counts}
-use Rattle.lifecycle.specs.declared.Next.{Next}
+use Rattle.lifecycle.specs.declared.KeyRules.{KeyRules}
 use Rattle.lifecycle.specs.Days.{limitsOf, over, fewDays}
-use Rattle.lifecycle.specs.Rules.{rulesIn, Laid, ChosenBy}
+use Rattle.lifecycle.specs.Rules.{rulesIn, mayBegin, Laid, Applied}
 use Rattle.lifecycle.specs.Fates.{fateOf, fatesIn, fates, total}
-use Rattle.lifecycle.specs.Judging.{currentBy, noncurrentBy, rowBefore, sameKey, Known, KnownHere, Keys, Readable, JudgedRow, JudgedNext, JudgedRows}
+use Rattle.lifecycle.specs.Judging.{currentBy, noncurrentBy, rowBefore, sameKey, Known, Keys, Readable, Dated, Left, JudgedRow, JudgedAll, Counted, JudgedRows}
 use Rattle.lifecycle.proofs.Days.{due-least, current-most, noncurrent-most}
-use Rattle.lifecycle.proofs.Rules.{block-short, part-first, applying-near, chosen-again, chosen-rules, chosen-few}
+use Rattle.lifecycle.proofs.Rules.{block-short, part-first, chosen-now}
 use Rattle.lifecycle.proofs.Fates.{total-counted, fates-append, total-append}
 
 -- ## A row's fate by the least days
@@ -55,6 +53,53 @@ noncurrent-is : (us : List model.Rule) (t : ℕ) (y x : Row)
     → noncurrentBy (limitsOf us (x .key) .noncurrent) (y .created) t x ≡ noncurrentFate (applying us (x .key)) t y x
 unfolding noncurrentBy limitsOf
 noncurrent-is us t y x = rw (due-least (y .created) t (λ u. u .noncurrentDays) (applying us (x .key))) (but-picks (over (limitsOf us (x .key) .noncurrent) (y .created) t) (locked t false x) goes stays)
+
+-- ## The ways through current_fate and noncurrent_fate
+
+module _ (n : List ℕ) (i : ℕ) (m : Numbers) (e : m ≡ numbersIn (take 8 (drop (8 * i) n))) where
+  pub dated : Dated n i → m .created ≤ latest
+  dated h = rw e (h .instant)
+
+  module _ (d t : ℕ) (b : List ℕ) where
+    current-at : currentBy d t (rowFrom m (keyAt b i)) ≡ currentBy d t (rowAt n b i)
+    current-at = rw e
+
+    pub current-marker : (m .kind ≡ 1 → ⊥) → stays ≡ currentBy d t (rowAt n b i)
+    unfolding currentBy
+    current-marker h = sym (rw (ne-eqb _ _ h)) ∙ current-at
+
+    module _ (r : Bool) (h : m .kind ≡ 1) (o : r ≡ over d (m .created) t) where
+      pub current-over : r ≡ true → gains ≡ currentBy d t (rowAt n b i)
+      unfolding currentBy
+      current-over q = sym (simp (eq-eqb _ _ h, sym o ∙ q)) ∙ current-at
+
+      pub current-early : r ≡ false → stays ≡ currentBy d t (rowAt n b i)
+      unfolding currentBy
+      current-early q = sym (simp (eq-eqb _ _ h, sym o ∙ q)) ∙ current-at
+
+pub ruleset current-cases = (dated, current-marker, current-over, current-early)
+
+module _ (n : List ℕ) (i : ℕ) (p : Numbers) (f : p ≡ numbersIn (take 8 (drop (8 * (i - 1)) n))) (d t : ℕ) (b : List ℕ) (r : Bool) (o : r ≡ over d (p .created) t) where
+  over-at : over d (rowAt n b (i - 1) .created) t ≡ r
+  over-at = sym (o ∙ rw f)
+
+  pub noncurrent-early : r ≡ false → stays ≡ noncurrentBy d (rowAt n b (i - 1) .created) t (rowAt n b i)
+  unfolding noncurrentBy
+  noncurrent-early q = sym (rw (over-at ∙ q))
+
+  module _ (m : Numbers) (e : m ≡ numbersIn (take 8 (drop (8 * i) n))) (s : Bool) (g : (k : List ℕ) → s ≡ locked t false (rowFrom m k)) (q : r ≡ true) where
+    locked-at : locked t false (rowAt n b i) ≡ s
+    locked-at = sym (g (keyAt b i) ∙ rw e)
+
+    pub noncurrent-locked : s ≡ true → stays ≡ noncurrentBy d (rowAt n b (i - 1) .created) t (rowAt n b i)
+    unfolding noncurrentBy
+    noncurrent-locked z = sym (simp (over-at ∙ q, locked-at ∙ z))
+
+    pub noncurrent-gone : s ≡ false → goes ≡ noncurrentBy d (rowAt n b (i - 1) .created) t (rowAt n b i)
+    unfolding noncurrentBy
+    noncurrent-gone z = sym (simp (over-at ∙ q, locked-at ∙ z))
+
+pub ruleset noncurrent-cases = (dated, noncurrent-early, noncurrent-locked, noncurrent-gone)
 
 -- ## The key of the row before
 
@@ -104,41 +149,65 @@ module _ (n b : List ℕ) (i : ℕ) (h : Readable n b (i + 1)) where
   pub keys-ready : Keys b i
   keys-ready = record { blocks = omega (arith, h .blocks); own = h .whole i (omega arith); before = h .whole (i - 1) (omega arith) }
 
-  pub own-created : (m : Numbers) → m ≡ numbersIn (take 8 (drop (8 * i) n)) → m .created ≤ latest
-  own-created m e = rw e (h .instants i (omega arith))
+  pub own-dated : Dated n i
+  own-dated = record { within = omega (arith, h .numbers); instant = h .instants i (omega arith) }
 
-  pub newer-created : (m : Numbers) → m ≡ numbersIn (take 8 (drop (8 * (i - 1)) n)) → m .created ≤ latest
-  newer-created m e = rw e (h .instants (i - 1) (omega arith))
+  pub newer-dated : 1 ≤ i → Dated n (i - 1)
+  newer-dated g = record { within = omega (arith, h .numbers); instant = h .instants (i - 1) (omega arith) }
 
-pub known-most : (us : List model.Rule) (b : List ℕ) (i : ℕ) (l : Limits) (r : Bool) → all fewDays us ≡ true → KnownHere us b i l → r ≡ sameKey b i → r ≡ true → l .noncurrent ≤ 36500
-known-most us b i l r h k e t = noncurrent-most us (keyAt b i) l h (k .here (sym e ∙ t))
+known-here : (us : List model.Rule) (n b : List ℕ) (i : ℕ) (l : Limits) → Known us (rowBefore n b i) l → sameKey b i ≡ true → l ≡ limitsOf us (keyAt b i)
+known-here us n b zero l k e = absurd (false≢true (sym (same-none b) ∙ e))
+known-here us n b (suc i) l k e = k ∙ ap (limitsOf us) (same-path (keyAt b i) (keyAt b (suc i)) (sym (same-some b i) ∙ e))
 
-module _ (us : List model.Rule) (t : ℕ) (n b : List ℕ) (m : Numbers) (f : ℕ) (r : Bool) where
-  pub judged-later : (i : ℕ) (p : Numbers) (l : Limits) → m ≡ numbersIn (take 8 (drop (8 * i) n)) → r ≡ sameKey b i → r ≡ true
-      → p ≡ numbersIn (take 8 (drop (8 * (i - 1)) n)) → KnownHere us b i l → ((k : List ℕ) → fateOf f ≡ noncurrentBy (l .noncurrent) (p .created) t (rowFrom m k))
-      → JudgedRow us t (rowBefore n b i) (rowAt n b i) (record { limits = l; fate = f })
-  judged-later zero p l em er et ep k g = absurd (false≢true (sym (same-none b) ∙ sym er ∙ et))
-  judged-later (suc i) p l em er et ep k g =
-      let s : same (keyAt b i) (keyAt b (suc i)) ≡ true = sym (same-some b i) ∙ sym er ∙ et in
-      let o : suc i - 1 ≡ i = omega arith in
-      let q : l ≡ limitsOf us (keyAt b (suc i)) = k .here (sym er ∙ et) in
+module _ (us : List model.Rule) (n b : List ℕ) (i : ℕ) (near periods : List ℕ) (r : Bool) (e : r ≡ sameKey b i) where
+  module _ (l : KeyRules) (k : Left us (rowBefore n b i) near periods l) where
+    pub known-most : all fewDays us ≡ true → r ≡ true → l .limits .noncurrent ≤ 36500
+    known-most h t = noncurrent-most us (keyAt b i) (l .limits) h (known-here us n b i (l .limits) (k .known) (sym e ∙ t))
+
+    pub judged-later : (t : ℕ) (m : List ℕ) (f : ℕ) → r ≡ true → ((z : List ℕ) → fateOf f ≡ noncurrentBy (l .limits .noncurrent) (rowAt n z (i - 1) .created) t (rowAt n z i))
+        → JudgedRow us t n b i near periods m (set m i f) l
+    judged-later t m f q g =
+        let o = known-here us n b i (l .limits) (k .known) (sym e ∙ q) in
+        record {
+          number = f;
+          stored = refl;
+          fate-is = g b ∙ later-fate i (sym e ∙ q) o;
+          left = record { known = o; chosen-by = k .chosen-by };
+          long = k .chosen-by .laid .long;
+          periods-long = k .chosen-by .laid .days-long;
+        }
+      where
+        later-fate : (j : ℕ) → sameKey b j ≡ true → l .limits ≡ limitsOf us (keyAt b j)
+            → noncurrentBy (l .limits .noncurrent) (rowAt n b (j - 1) .created) t (rowAt n b j) ≡ fate us t (rowBefore n b j) (rowAt n b j)
+        later-fate zero q o = absurd (false≢true (sym (same-none b) ∙ q))
+        later-fate (suc j) q o =
+            let s : same (keyAt b j) (keyAt b (suc j)) ≡ true = sym (same-some b j) ∙ q in
+            let p : suc j - 1 ≡ j = omega arith in
+            rw (p, o, s) (noncurrent-is us t (rowAt n b j) (rowAt n b (suc j)))
+
+module _ (us : List model.Rule) (n b : List ℕ) (i : ℕ) (near periods : List ℕ) (l : KeyRules) (k : Applied us (keyAt b i) near periods l) where
+  pub first-most : all fewDays us ≡ true → l .limits .current ≤ 36500
+  first-most h = current-most us (keyAt b i) (l .limits) h (k .limits-are)
+
+  pub judged-first : (r : Bool) (t : ℕ) (m : List ℕ) (f : ℕ) → r ≡ sameKey b i → r ≡ false → ((z : List ℕ) → fateOf f ≡ currentBy (l .limits .current) t (rowAt n z i))
+      → JudgedRow us t n b i near periods m (set m i f) l
+  judged-first r t m f e q g =
       record {
-        fate-is = g (keyAt b (suc i)) ∙ rw (em, ep, o, q, s) (noncurrent-is us t (rowAt n b i) (rowAt n b (suc i)));
-        limits-are = q;
+        number = f;
+        stored = refl;
+        fate-is = g b ∙ first-fate i (sym e ∙ q) (k .limits-are);
+        left = record { known = k .limits-are; chosen-by = k .chosen-by };
+        long = k .long;
+        periods-long = k .periods-long;
       }
+    where
+      first-fate : (j : ℕ) → sameKey b j ≡ false → l .limits ≡ limitsOf us (keyAt b j) → currentBy (l .limits .current) t (rowAt n b j) ≡ fate us t (rowBefore n b j) (rowAt n b j)
+      first-fate zero e x = rw x (current-is us t (rowAt n b 0))
+      first-fate (suc j) e x =
+          let s : same (keyAt b j) (keyAt b (suc j)) ≡ false = sym (same-some b j) ∙ e in
+          rw (x, s) (current-is us t (rowAt n b (suc j)))
 
-  pub judged-first : (i : ℕ) (key : List ℕ) (l : Limits) → m ≡ numbersIn (take 8 (drop (8 * i) n)) → r ≡ sameKey b i → r ≡ false
-      → key ≡ keyAt b i → l ≡ limitsOf us key → ((k : List ℕ) → fateOf f ≡ currentBy (l .current) t (rowFrom m k))
-      → JudgedRow us t (rowBefore n b i) (rowAt n b i) (record { limits = l; fate = f })
-  judged-first zero key l em er et ek el g =
-      let q : l ≡ limitsOf us (keyAt b 0) = el ∙ rw ek in
-      record { fate-is = g (keyAt b 0) ∙ rw (em, q) (current-is us t (rowAt n b 0)); limits-are = q }
-  judged-first (suc i) key l em er et ek el g =
-      let s : same (keyAt b i) (keyAt b (suc i)) ≡ false = sym (same-some b i) ∙ sym er ∙ et in
-      let q : l ≡ limitsOf us (keyAt b (suc i)) = el ∙ rw ek in
-      record { fate-is = g (keyAt b (suc i)) ∙ rw (em, q, s) (current-is us t (rowAt n b (suc i))); limits-are = q }
-
-pub ruleset row-cases = (later, own-length, keys-ready, own-created, newer-created, current-most, known-most, judged-later, judged-first)
+pub ruleset row-cases = (later, own-length, keys-ready, own-dated, newer-dated, known-most, first-most, judged-later, judged-first)
 
 -- ## The rows of the buffers
 
@@ -152,108 +221,39 @@ rows-end n b u = let e = rows-length n b u in drop-of-length-le (rowsOf n b u) {
 
 -- ## The loop over the rows
 
--- what holds at each turn: the fates so far and those of the rest are all, and the counts are those so far
-pub record Judging (us : List model.Rule) (t : ℕ) (n b : List ℕ) (u : ℕ) (entry m : List ℕ) (l : Limits) (removed added i : ℕ) : Type 0 where
+-- what holds at each turn: the fates so far and those of the rest are all
+pub record Judging (us : List model.Rule) (t : ℕ) (n b : List ℕ) (u : ℕ) (near periods entry m : List ℕ) (l : KeyRules) (i : ℕ) : Type 0 where
   pub low : i ≤ u
   pub long : length m ≡ length entry
   pub done : fatesIn (take i m) ++ fates us t (rowBefore n b i) (drop i (rowsOf n b u)) ≡ fates us t none (rowsOf n b u)
-  pub known : Known us (rowBefore n b i) l
-  pub gone : Within removed (total removes (fatesIn (take i m))) i
-  pub come : Within added (total marks (fatesIn (take i m))) i
+  pub left : Left us (rowBefore n b i) near periods l
 
-fate-by : (vs us : List model.Rule) (t : ℕ) (y : Option Row) (x : Row) → applying vs (x .key) ≡ applying us (x .key) → fate vs t y x ≡ fate us t y x
-fate-by vs us t none x e = rw e
-fate-by vs us t (some y) x e = rw e
-
-limits-by : (vs us : List model.Rule) (k : List ℕ) → applying vs k ≡ applying us k → limitsOf vs k ≡ limitsOf us k
-unfolding limitsOf
-limits-by vs us k e = rw e
-
-known-here : (us : List model.Rule) (n b : List ℕ) (i : ℕ) (l : Limits) → Known us (rowBefore n b i) l → sameKey b i ≡ true → l ≡ limitsOf us (keyAt b i)
-known-here us n b zero l k e = absurd (false≢true (sym (same-none b) ∙ e))
-known-here us n b (suc i) l k e = k ∙ ap (limitsOf us) (same-path (keyAt b i) (keyAt b (suc i)) (sym (same-some b i) ∙ e))
-
--- ## The ways through judge_next
-
-module _ (us : List model.Rule) (n b : List ℕ) (i : ℕ) (near periods : List ℕ) (o : Chosen) (c : ChosenBy us near periods (getD b (64 * i + 1) 0) o) where
-  applying-chosen : applying (rulesIn near periods (o .count)) (keyAt b i) ≡ applying us (keyAt b i)
-  applying-chosen = ap (λ (vs : List model.Rule). applying vs (keyAt b i)) (c .laid .are) ∙ applying-near us b i
-
-  -- the limits of the row before are those by the rules that were chosen, where the keys are the same
-  pub known-near : (l : Limits) → Readable n b (i + 1) → Known us (rowBefore n b i) l → KnownHere (rulesIn near periods (o .count)) b i l
-  known-near l g k =
-      record { here = λ e. known-here us n b i l k e ∙ sym (limits-by (rulesIn near periods (o .count)) us (keyAt b i) applying-chosen) }
-
-  -- the row was judged by the rules that were chosen
-  pub judged-near : (t : ℕ) (j : Judged) → JudgedRow (rulesIn near periods (o .count)) t (rowBefore n b i) (rowAt n b i) j
-      → JudgedNext us t (rowBefore n b i) (rowAt n b i) near periods (record { limits = j .limits; fate = j .fate; chosen = o })
-  judged-near t j d =
-      record {
-        row =
-            record {
-              fate-is = d .fate-is ∙ fate-by (rulesIn near periods (o .count)) us t (rowBefore n b i) (rowAt n b i) applying-chosen;
-              limits-are = d .limits-are ∙ limits-by (rulesIn near periods (o .count)) us (keyAt b i) applying-chosen;
-            };
-        chosen-by = chosen-again us near periods (getD b (64 * i + 1) 0) o c;
-        long = c .laid .long;
-        periods-long = c .laid .days-long;
-      }
-
-pub ruleset next-cases = (known-near, judged-near, chosen-rules, chosen-few)
-
-count-more : (of : Fate → ℕ) (m : List ℕ) (i f c r : ℕ) → i < length m → Within c (total of (fatesIn (take i m))) i → Within r (of (fateOf f)) 1
-    → Within (c + r) (total of (fatesIn (take (suc i) (set m i f)))) (suc i)
-count-more of m i f c r h x y =
-    record {
-      is = let e = total-append of (fatesIn (take i m)) (fateOf f ∷ []) in rw (take-suc-set m i f h, fates-append) (omega (arith, x .is, y .is));
-      most = omega (arith, x .most, y .most);
-    }
-
-module _ (us : List model.Rule) (t : ℕ) (n b : List ℕ) (u : ℕ) (entry m : List ℕ) (l : Limits) (removed added i : ℕ) where
-  judging-step : (j : Judged) (r s : ℕ) → Judging us t n b u entry m l removed added i → i < u → u ≤ length entry
-      → JudgedRow us t (rowBefore n b i) (rowAt n b i) j → Within r (removes (fateOf (j .fate))) 1 → Within s (marks (fateOf (j .fate))) 1
-      → Judging us t n b u entry (set m i (j .fate)) (j .limits) (removed + r) (added + s) (i + 1)
-  judging-step j r s h g k d x y =
+module _ (us : List model.Rule) (t : ℕ) (n b : List ℕ) (u : ℕ) (near periods entry m : List ℕ) (l : KeyRules) (i : ℕ) where
+  pub judging-step : (near′ periods′ m′ : List ℕ) (r : KeyRules) → Judging us t n b u near periods entry m l i → i < u → u ≤ length entry
+      → JudgedRow us t n b i near′ periods′ m m′ r → Judging us t n b u near′ periods′ entry m′ r (i + 1)
+  judging-step near′ periods′ m′ r h g k d =
       let q : i < length m = omega (arith, h .long) in
-      rw (add-one i)
+      rw (add-one i, d .stored)
       (record {
         low = omega arith;
-        long = length-set m i (j .fate) ∙ h .long;
+        long = length-set m i (d .number) ∙ h .long;
         done =
-            rw (take-suc-set m i (j .fate) q, fates-append, append-assoc, d .fate-is)
+            rw (take-suc-set m i (d .number) q, fates-append, append-assoc, d .fate-is)
             (sym (rw (rows-next n b u i g)) ∙ h .done);
-        known = d .limits-are;
-        gone = count-more removes m i (j .fate) removed r q (h .gone) x;
-        come = count-more marks m i (j .fate) added s q (h .come) y;
+        left = d .left;
       })
 
-  pub judging-next : (near periods : List ℕ) (o : Next) (r s : ℕ) → Judging us t n b u entry m l removed added i → i < u → u ≤ length entry
-      → JudgedNext us t (rowBefore n b i) (rowAt n b i) near periods o → Within r (removes (fateOf (o .fate))) 1 → Within s (marks (fateOf (o .fate))) 1
-      → Judging us t n b u entry (set m i (o .fate)) (o .limits) (removed + r) (added + s) (i + 1)
-  judging-next near periods o r s h g k d x y = judging-step (record { limits = o .limits; fate = o .fate }) r s h g k (d .row) x y
-
-  pub judging-end : Judging us t n b u entry m l removed added i → u ≤ i → JudgedRows us t (rowsOf n b u) u entry m (record { removed = removed; added = added })
-  judging-end h g =
+  pub judging-end : Judging us t n b u near periods entry m l i → u ≤ i → u ≤ length entry → JudgedAll us t (rowsOf n b u) u entry m
+  judging-end h g k =
       let e : i ≡ u = omega (arith, h .low) in
-      let d : fatesIn (take u m) ≡ fates us t none (rowsOf n b u) =
-      rw (e, rows-end n b u, append-nil) at (h .done) in
-      record {
-        fates-are = d;
-        long = h .long;
-        removed = record { is = h .gone .is ∙ rw (e, d) (total-counted removes us t none (rowsOf n b u)); most = omega (arith, h .gone .most) };
-        added = record { is = h .come .is ∙ rw (e, d) (total-counted marks us t none (rowsOf n b u)); most = omega (arith, h .come .most) };
-      }
+      record { fates-are = rw (e, rows-end n b u, append-nil) at (h .done); long = h .long; enough = omega (arith, h .long) }
 
-pub judging-start : (us : List model.Rule) (t : ℕ) (n b : List ℕ) (u : ℕ) (entry : List ℕ) (l : Limits) → Judging us t n b u entry entry l 0 0 0
-judging-start us t n b u entry l =
-    record {
-      low = omega arith;
-      long = refl;
-      done = refl;
-      known = tt;
-      gone = record { is = refl; most = omega arith };
-      come = record { is = refl; most = omega arith };
-    }
+pub judging-start : (us : List model.Rule) (t : ℕ) (n b : List ℕ) (u : ℕ) (near periods entry : List ℕ) (l : KeyRules) → Left us none near periods l → Judging us t n b u near periods entry entry l 0
+judging-start us t n b u near periods entry l h = record { low = omega arith; long = refl; done = refl; left = h }
+
+pub fates-long : (us : List model.Rule) (t : ℕ) (n b : List ℕ) (u : ℕ) (near periods entry m : List ℕ) (l : KeyRules) (i : ℕ) → Judging us t n b u near periods entry m l i
+    → i < u → u ≤ length entry → i < length m
+fates-long us t n b u near periods entry m l i h g k = omega (arith, h .long)
 
 pub readable-fewer : (n b : List ℕ) (u i : ℕ) → Readable n b u → i < u → Readable n b (i + 1)
 readable-fewer n b u i h g =
@@ -264,15 +264,49 @@ readable-fewer n b u i h g =
       instants = λ k q. h .instants k (omega arith);
     }
 
-pub ruleset judge-cases = (readable-fewer, judging-start, judging-next, judging-end)
+pub ruleset judge-cases = (readable-fewer, judging-start, judging-step, judging-end, fates-long)
+
+-- ## Counting the fates
+
+total-more : (of : Fate → ℕ) (m : List ℕ) (i c r : ℕ) → i < length m → Within c (total of (fatesIn (take i m))) i → Within r (of (fateOf (getD m i 0))) 1
+    → Within (c + r) (total of (fatesIn (take (i + 1) m))) (i + 1)
+total-more of m i c r h x y =
+    record {
+      is = let e = total-append of (fatesIn (take i m)) (fateOf (getD m i 0) ∷ []) in rw (add-one i, take-suc m i 0 h, fates-append) (omega (arith, x .is, y .is));
+      most = omega (arith, x .most, y .most);
+    }
+
+pub count-start : (m : List ℕ) → Counted m 0 0 0
+count-start m = record { gone = record { is = refl; most = omega arith }; come = record { is = refl; most = omega arith } }
+
+module _ (m : List ℕ) (i c d : ℕ) (h : Counted m i c d) where
+  pub count-step : (r s u : ℕ) → i < u → u ≤ length m → Within r (removes (fateOf (getD m i 0))) 1 → Within s (marks (fateOf (getD m i 0))) 1 → Counted m (i + 1) (c + r) (d + s)
+  count-step r s u g k x y =
+      let q : i < length m = omega arith in
+      record { gone = total-more removes m i c r q (h .gone) x; come = total-more marks m i d s q (h .come) y }
+
+  pub count-end : (u : ℕ) → i ≤ u → u ≤ i → Counted m u c d
+  count-end u g k = let e : i ≡ u = omega arith in rw e at h
+
+pub ruleset count-cases = (count-start, count-step, count-end)
 
 -- ## The rules by value
 
 pub laid-few : (p d : List ℕ) (us : List model.Rule) → Laid p d 8 us → all fewDays us ≡ true → all fewDays (rulesIn p d 8) ≡ true
 laid-few p d us l e = ap (all fewDays) (l .are) ∙ e
 
-pub judged-laid : (p d : List ℕ) (us : List model.Rule) (t : ℕ) (xs : List Row) (u : ℕ) (entry exit : List ℕ) (r : Counts) → Laid p d 8 us
-    → JudgedRows (rulesIn p d 8) t xs u entry exit r → JudgedRows us t xs u entry exit r
-judged-laid p d us t xs u entry exit r l h = rw (l .are) at h
+pub left-first : (us : List model.Rule) (near periods : List ℕ) (n : ℕ) (l : Limits) → Laid near periods n (keep (mayBegin 0) us) → Left us none near periods (record { limits = l; chosen = record { first = 0; count = n } })
+left-first us near periods n l h = record { known = tt; chosen-by = chosen-now us near periods 0 n h }
 
-pub ruleset laid-cases = (laid-few, judged-laid)
+pub judged-laid : (p d : List ℕ) (us : List model.Rule) (t : ℕ) (xs : List Row) (u : ℕ) (entry exit : List ℕ) (r : Counts) → Laid p d 8 us
+    → JudgedAll (rulesIn p d 8) t xs u entry exit → Counted exit u (r .removed) (r .added) → JudgedRows us t xs u entry exit r
+judged-laid p d us t xs u entry exit r l h c =
+    let e : fatesIn (take u exit) ≡ fates us t none xs = h .fates-are ∙ rw (l .are) in
+    record {
+      fates-are = e;
+      long = h .long;
+      removed = record { is = c .gone .is ∙ rw e (total-counted removes us t none xs); most = c .gone .most };
+      added = record { is = c .come .is ∙ rw e (total-counted marks us t none xs); most = c .come .most };
+    }
+
+pub ruleset laid-cases = (laid-few, left-first, judged-laid)

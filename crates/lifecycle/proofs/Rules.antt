@@ -1,6 +1,6 @@
 -- Laws of rules laid flat: writing one, reading them, and choosing those that may begin a key.
 use Prim.Native.Nat.{ℕ, zero, suc, _+_, _-_, _*_, _≤_, _<_}
-use mathlib.Core.Path.{_≡_, refl, sym, ap, ap₂, _∙_}
+use mathlib.Core.Path.{_≡_, refl, sym, ap, _∙_}
 use mathlib.Core.Logic.{inl, inr}
 use mathlib.Core.Bool.{Bool, true, false, not, _&&_, _||_, false≢true}
 use mathlib.Core.List.{List, [], _∷_, _++_, append-assoc}
@@ -12,9 +12,10 @@ use lib.ListN.{length, getD, take, drop, set, length-append, length-take, length
 use lib.Seq.{drop-cons, drop-length, drop-at, take-at, drop-append-le, take-append-le, length-take-le, getD-take, getD-drop, sets-eq}
 use borrow.Author.Tests.{eqb-true, eqb-false, ne-eqb}
 use Rattle.buffers.specs.Lists.{all, begins, keep}
+use Rattle.buffers.specs.Ranges.{Within}
 use Rattle.buffers.specs.Writes.{placed, Wrote}
 use Rattle.buffers.proofs.Tests.{either, clash, and-i, and-l, and-r}
-use Rattle.buffers.proofs.Lists.{same-path, keep-yes, keep-no, all-keep}
+use Rattle.buffers.proofs.Lists.{same-path, keep-yes, keep-no}
 use Rattle.blocks.specs.Blocks.{blockOf, keyIn, isBlock}
 use Rattle.blocks.proofs.Blocks.{block-length}
 use Rattle.model.specs.Settings as model
@@ -22,13 +23,13 @@ use Rattle.model.specs.Settings.{isSet}
 use Rattle.model.specs.Sweep.{applying}
 use Rattle.settings.specs.declared.Rule.{Rule}
 use Rattle.settings.proofs.Encoding.{no-rule}
-use Rattle.settings.specs.Meaning.{ruleMeans, rulesMean, prefixesAre}
+use Rattle.settings.specs.Meaning.{rulesMean, prefixesAre}
 use Rattle.table.specs.Places.{keyAt}
 use Rattle.table.proofs.Lists.{all-at}
 use Rattle.lifecycle.specs.declared.Limits.{Limits}
 use Rattle.lifecycle.specs.declared.Chosen.{Chosen}
-use Rattle.lifecycle.specs.Days.{limitsOf, tightened, fewDays}
-use Rattle.lifecycle.specs.Rules.{ruleIn, rulesIn, mayBegin, Rules, Laid, RulePut, ChosenBy}
+use Rattle.lifecycle.specs.Days.{limitsOf, tightened}
+use Rattle.lifecycle.specs.Rules.{ruleIn, rulesIn, mayBegin, Rules, Laid, RulePut, ChosenBy, Applied}
 use Rattle.lifecycle.proofs.Days.{limits-more}
 
 -- ## Blocks
@@ -183,16 +184,16 @@ first-of (x ∷ l) (suc m) b h =
 second-byte : (l : List ℕ) (i : ℕ) → getD l (64 * i + 1) 0 ≡ getD (drop 1 (take 64 (drop (64 * i) l))) 0 0
 second-byte l i = part-element l (64 * i) 1 64 (omega arith) ∙ sym (getD-drop 1 (take 64 (drop (64 * i) l)) 0 0)
 
-pub may-begin : (p d : List ℕ) (at b : ℕ) → Rules p d (at + 1)
-    → (not (eqb (getD d (2 * at) 0) 0 && eqb (getD d (2 * at + 1) 0) 0) && (eqb (getD p (64 * at) 0) 0 || eqb (getD p (64 * at + 1) 0) b)) ≡ mayBegin b (ruleIn p d at)
+pub may-begin : (p d : List ℕ) (at b w : ℕ) → Rules p d (at + 1) → Within w (getD p (64 * at + 1) 0) 255
+    → (not (eqb (getD d (2 * at) 0) 0 && eqb (getD d (2 * at + 1) 0) 0) && (eqb (getD p (64 * at) 0) 0 || eqb w b)) ≡ mayBegin b (ruleIn p d at)
 unfolding mayBegin
-may-begin p d at b h =
+may-begin p d at b w h q =
     let g = h .prefixes-fit in
     let t = length-drop (64 * at) p in
     let u = length-take-le 64 (drop (64 * at) p) (omega arith) in
     let v = length-drop 1 (take 64 (drop (64 * at) p)) in
     let e = first-of (drop 1 (take 64 (drop (64 * at) p))) (getD (take 64 (drop (64 * at) p)) 0 0) b (omega arith) in
-    rw (part-first p (64 * at) 64 (omega arith), second-byte p at) (ap (λ (z : Bool). isSet (ruleIn p d at) && z) e)
+    rw (q .is, part-first p (64 * at) 64 (omega arith), second-byte p at) (ap (λ (z : Bool). isSet (ruleIn p d at) && z) e)
 
 pub rules-fewer : (p d : List ℕ) (n i : ℕ) → Rules p d n → i < n → Rules p d (i + 1)
 rules-fewer p d n i h g =
@@ -292,9 +293,6 @@ module _ (us : List model.Rule) (near periods : List ℕ) (b : ℕ) where
     pub chosen-rules : Rules near periods (r .count)
     chosen-rules = h .laid .rules
 
-    pub chosen-few : all fewDays us ≡ true → all fewDays (rulesIn near periods (r .count)) ≡ true
-    chosen-few e = rw (h .laid .are) (all-keep fewDays (mayBegin b) us e)
-
 pub ruleset chosen-cases = (chosen-already, chosen-now, chosen-long, chosen-periods)
 
 keep-narrower : {A : Type 0} (p q : A → Bool) → ((x : A) → p x ≡ true → q x ≡ true) → (xs : List A) → keep p (keep q xs) ≡ keep p xs
@@ -329,6 +327,24 @@ applying-near us keys i = keep-narrower _ (mayBegin (getD keys (64 * i + 1) 0)) 
   where
     near : (u : model.Rule) → (isSet u && begins (u .prefix) (keyAt keys i)) ≡ true → mayBegin (getD keys (64 * i + 1) 0) u ≡ true
     near u e = may-near u keys i e
+
+limits-by : (vs us : List model.Rule) (k : List ℕ) → applying vs k ≡ applying us k → limitsOf vs k ≡ limitsOf us k
+unfolding limitsOf
+limits-by vs us k e = rw e
+
+pub applied : (us : List model.Rule) (b : List ℕ) (i : ℕ) (near periods : List ℕ) (w : ℕ) (o : Chosen) (key : List ℕ) (l : Limits) → Within w (getD b (64 * i + 1) 0) 255
+    → ChosenBy us near periods w o → key ≡ keyAt b i → l ≡ limitsOf (rulesIn near periods (o .count)) key → Applied us (keyAt b i) near periods (record { limits = l; chosen = o })
+applied us b i near periods w o key l h c ek el =
+    let d : ChosenBy us near periods (getD b (64 * i + 1) 0) o = rw (h .is) at c in
+    let q = ap (λ (vs : List model.Rule). applying vs (keyAt b i)) (d .laid .are) ∙ applying-near us b i in
+    record {
+      limits-are = el ∙ rw ek (limits-by (rulesIn near periods (o .count)) us (keyAt b i) q);
+      chosen-by = chosen-again us near periods w o c;
+      long = c .laid .long;
+      periods-long = c .laid .days-long;
+    }
+
+pub ruleset applied-cases = (chosen-rules, applied)
 
 -- ## The limits of a key
 

@@ -5,7 +5,7 @@ use mathlib.Core.Bool.{Bool, true, false}
 use mathlib.Core.List.{List}
 use mathlib.Core.Option.{Option, some, none}
 use lib.Dec.{eqb}
-use lib.ListN.{length, take, drop}
+use lib.ListN.{length, take, drop, set}
 use Rattle.buffers.specs.Choices.{pick}
 use Rattle.buffers.specs.Lists.{all, same}
 use Rattle.buffers.specs.Ranges.{Within}
@@ -18,14 +18,13 @@ use Rattle.model.specs.Sweep.{Fate, stays, goes, gains, fate, marks, removes, c
 use Rattle.settings.specs.declared.Rule.{Rule}
 use Rattle.settings.specs.Meaning.{rulesMean, prefixesAre}
 use Rattle.table.specs.Layout.{rowAt}
-use Rattle.table.specs.Places.{keyAt}
+use Rattle.table.specs.Places.{numbersIn, keyAt}
 use Rattle.lifecycle.specs.declared.Limits.{Limits}
-use Rattle.lifecycle.specs.declared.Judged.{Judged}
 use Rattle.lifecycle.specs.declared.Counts.{Counts}
-use Rattle.lifecycle.specs.declared.Next.{Next}
+use Rattle.lifecycle.specs.declared.KeyRules.{KeyRules}
 use Rattle.lifecycle.specs.Days.{limitsOf, over, fewDays}
 use Rattle.lifecycle.specs.Rules.{ChosenBy}
-use Rattle.lifecycle.specs.Fates.{fateOf, fatesIn, fates}
+use Rattle.lifecycle.specs.Fates.{fateOf, fatesIn, fates, total}
 
 -- ## A row's fate by its key's days
 
@@ -74,21 +73,35 @@ pub record Judgeable (rows keys : List ℕ) (used : ℕ) (rules : List Rule) : T
   pub prefixes : prefixesAre rules ≡ true
   pub days : all fewDays (rulesMean rules) ≡ true
 
--- The limits are those of the row's key, where the row before has that key.
-pub record KnownHere (us : List model.Rule) (keys : List ℕ) (at : ℕ) (l : Limits) : Type 0 where
-  pub here : sameKey keys at ≡ true → l ≡ limitsOf us (keyAt keys at)
+-- The row at a position has its numbers, and no sum of its creation and days is too large.
+pub record Dated (rows : List ℕ) (at : ℕ) : Type 0 where
+  pub within : 8 * at + 8 ≤ length rows
+  pub instant : numbersIn (take 8 (drop (8 * at) rows)) .created ≤ latest
 
--- A row's fate, and the limits of its key.
-pub record JudgedRow (us : List model.Rule) (now : ℕ) (y : Option Row) (x : Row) (r : Judged) : Type 0 where
-  pub fate-is : fateOf (r .fate) ≡ fate us now y x
-  pub limits-are : r .limits ≡ limitsOf us (x .key)
-
--- The same, and the rules that may begin the row's key are chosen.
-pub record JudgedNext (us : List model.Rule) (now : ℕ) (y : Option Row) (x : Row) (near periods : List ℕ) (r : Next) : Type 0 where
-  pub row : JudgedRow us now y x (record { limits = r .limits; fate = r .fate })
+-- What the rules set for a row's key, and those of them that may begin it, if there is a row.
+pub record Left (us : List model.Rule) (y : Option Row) (near periods : List ℕ) (r : KeyRules) : Type 0 where
+  pub known : Known us y (r .limits)
   pub chosen-by : ChosenBy us near periods (r .chosen .first) (r .chosen)
+
+-- A row's fate was stored as a number.
+pub record JudgedRow (us : List model.Rule) (now : ℕ) (rows keys : List ℕ) (at : ℕ) (near periods entry exit : List ℕ) (r : KeyRules) : Type 0 where
+  pub number : ℕ
+  pub stored : exit ≡ set entry at number
+  pub fate-is : fateOf number ≡ fate us now (rowBefore rows keys at) (rowAt rows keys at)
+  pub left : Left us (some (rowAt rows keys at)) near periods r
   pub long : length near ≡ 512
   pub periods-long : length periods ≡ 16
+
+-- The fates of all rows were stored.
+pub record JudgedAll (us : List model.Rule) (now : ℕ) (xs : List Row) (used : ℕ) (entry exit : List ℕ) : Type 0 where
+  pub fates-are : fatesIn (take used exit) ≡ fates us now none xs
+  pub long : length exit ≡ length entry
+  pub enough : used ≤ length exit
+
+-- How many rows the first n fates remove, and how many markers they add.
+pub record Counted (fs : List ℕ) (n removed added : ℕ) : Type 0 where
+  pub gone : Within removed (total removes (fatesIn (take n fs))) n
+  pub come : Within added (total marks (fatesIn (take n fs))) n
 
 -- The fates of all rows, and how many rows go and how many markers come.
 pub record JudgedRows (us : List model.Rule) (now : ℕ) (xs : List Row) (used : ℕ) (entry exit : List ℕ) (r : Counts) : Type 0 where

@@ -10,6 +10,8 @@ use Rattle.model.specs.Settings as model
 use Rattle.model.specs.Settings.{isSet}
 use Rattle.table.specs.Places.{keyAt}
 use Rattle.lifecycle.specs.declared.Chosen.{Chosen}
+use Rattle.lifecycle.specs.declared.KeyRules.{KeyRules}
+use Rattle.lifecycle.specs.Days.{limitsOf}
 
 -- the rule at a place
 abbrev pub ruleIn : List ℕ → List ℕ → ℕ → model.Rule
@@ -48,3 +50,10 @@ pub record RulePut (at : ℕ) (prefix : List ℕ) (current noncurrent : ℕ) (pr
 pub record ChosenBy (us : List model.Rule) (near periods : List ℕ) (b : ℕ) (r : Chosen) : Type 0 where
   pub first-is : r .first ≡ b
   pub laid : Laid near periods (r .count) (keep (mayBegin b) us)
+
+-- What the rules set for a key, and those of them that may begin it.
+pub record Applied (us : List model.Rule) (key near periods : List ℕ) (r : KeyRules) : Type 0 where
+  pub limits-are : r .limits ≡ limitsOf us key
+  pub chosen-by : ChosenBy us near periods (r .chosen .first) (r .chosen)
+  pub long : length near ≡ 512
+  pub periods-long : length periods ≡ 16

@@ -4,7 +4,8 @@ use table::Numbers;
 ghost use mathlib.Core.Path.{_≡_};
 ghost use mathlib.Core.Bool.{true};
 ghost use mathlib.Core.List.{List};
-ghost use Prim.Native.Nat.{ℕ, _+_, _*_, _≤_};
+ghost use mathlib.Core.Option.{none};
+ghost use Prim.Native.Nat.{ℕ, _+_, _-_, _*_, _≤_, _<_};
 ghost use lib.ListN.{length, getD, take, drop};
 ghost use Rattle.buffers.specs.Lists.{all, begins, keep, same};
 ghost use Rattle.buffers.specs.Ranges.{Within};
@@ -16,9 +17,9 @@ ghost use Rattle.settings.specs.Meaning.{rulesMean, prefixesAre};
 ghost use Rattle.table.specs.Layout.{rowAt, rowsOf};
 ghost use Rattle.table.specs.Places.{rowFrom, keyAt};
 ghost use Rattle.lifecycle.specs.Days.{lesser, limitsOf, tightened, over, fewDays};
-ghost use Rattle.lifecycle.specs.Rules.{ruleIn, rulesIn, mayBegin, Rules, Laid, RulePut, ChosenBy};
+ghost use Rattle.lifecycle.specs.Rules.{ruleIn, rulesIn, mayBegin, Rules, Laid, RulePut, ChosenBy, Applied};
 ghost use Rattle.lifecycle.specs.Fates.{fateOf};
-ghost use Rattle.lifecycle.specs.Judging.{Keys, currentBy, noncurrentBy, rowBefore, sameKey, Known, KnownHere, Readable, Judgeable, JudgedRow, JudgedNext, JudgedRows};
+ghost use Rattle.lifecycle.specs.Judging.{Keys, currentBy, noncurrentBy, rowBefore, sameKey, Readable, Judgeable, Dated, Left, JudgedRow, JudgedAll, Counted, JudgedRows};
 
 // The least days that the rules set for a key's rows, 0 for none.
 struct Limits {
@@ -26,22 +27,15 @@ struct Limits {
     noncurrent: u64,
 }
 
-// A row's fate, and the limits of its key.
-struct Judged {
-    limits: Limits,
-    fate: u8,
-}
-
-// The rules that may begin a key with this first byte, so many.
+// The rules that may begin a key with this first byte, so many. The byte is a whole word, so that no padding is copied with it.
 struct Chosen {
-    first: u8,
+    first: u64,
     count: usize,
 }
 
-// A row's fate, the limits of its key, and the rules that may begin it.
-struct Next {
+// What the rules set for a key, and those of them that may begin it.
+struct KeyRules {
     limits: Limits,
-    fate: u8,
     chosen: Chosen,
 }
 
@@ -99,12 +93,12 @@ fn lay_rules(rules: [Rule; 8], prefixes: &mut [u8], days: &mut [u64])
 }
 
 // The rule at a place is set, and its prefix may begin a key with this first byte.
-fn may_begin(prefixes: &[u8], days: &[u64], at: usize, first: u8) -> bool
+fn may_begin(prefixes: &[u8], days: &[u64], at: usize, first: u64) -> bool
     requires { ⌜ Rules (now prefixes) (now days) (at + 1) ⌝ }
     ensures { λ r. ⌜ r ≡ mayBegin first (ruleIn (now (prefixes .entry)) (now (days .entry)) at) ⌝ }
 {
     let set = !((days[2 * at] == 0) & (days[2 * at + 1] == 0));
-    set & ((prefixes[64 * at] == 0) | (prefixes[64 * at + 1] == first))
+    set & ((prefixes[64 * at] == 0) | (buffers::wide(prefixes[64 * at + 1]) == first))
 }
 
 // Copies the rule at a place of the flat rules to a place of others.
@@ -135,7 +129,7 @@ fn copy_rule(
 }
 
 // Chooses the rules that may begin a key with this first byte, and returns how many.
-fn choose(prefixes: &[u8], days: &[u64], first: u8, near: &mut [u8], periods: &mut [u64]) -> usize
+fn choose(prefixes: &[u8], days: &[u64], first: u64, near: &mut [u8], periods: &mut [u64]) -> usize
     requires { ⌜ Rules (now prefixes) (now days) 8 × (length (now near) ≡ 512) × (length (now periods) ≡ 16) ⌝ }
     ensures { λ r. ⌜ Laid (now (near .exit)) (now (periods .exit)) r (keep (mayBegin first) (rulesIn (now (prefixes .entry)) (now (days .entry)) 8)) ⌝ }
 {
@@ -156,7 +150,7 @@ fn choose(prefixes: &[u8], days: &[u64], first: u8, near: &mut [u8], periods: &m
 fn choose_for(
     prefixes: &[u8],
     days: &[u64],
-    first: u8,
+    first: u64,
     near: &mut [u8],
     periods: &mut [u64],
     chosen: Chosen,
@@ -211,6 +205,29 @@ fn limits_of(prefixes: &[u8], days: &[u64], n: usize, key: &[u8]) -> Limits
     limits
 }
 
+// What the rules set for the key at a position; `chosen` are those for another key's first byte, or for its own.
+fn rules_for(
+    prefixes: &[u8],
+    days: &[u64],
+    keys: &[u8],
+    at: usize,
+    near: &mut [u8],
+    periods: &mut [u64],
+    chosen: Chosen,
+) -> KeyRules
+    requires { ⌜ Rules (now prefixes) (now days) 8 × (64 * at + 64 ≤ length (now keys)) × (getD (now keys) (64 * at) 0 ≤ 63) ⌝ }
+    requires { ⌜ ChosenBy (rulesIn (now prefixes) (now days) 8) (now near) (now periods) (chosen .first) chosen ⌝ }
+    ensures { λ r. ⌜ Applied (rulesIn (now (prefixes .entry)) (now (days .entry)) 8) (keyAt (now (keys .entry)) at) (now (near .exit)) (now (periods .exit)) r ⌝ }
+{
+    let first = buffers::wide(keys[64 * at + 1]);
+    let own = choose_for(prefixes, days, first, near, periods, chosen);
+    let limits = limits_of(near, periods, own.count, table::key_at(keys, at));
+    KeyRules {
+        limits,
+        chosen: own,
+    }
+}
+
 // The days stand for an action, and they are over since an instant.
 fn is_over(days: u64, since: u64, instant: u64) -> bool
     requires { ⌜ (since ≤ latest) × (days ≤ 36500) ⌝ }
@@ -229,11 +246,12 @@ pub fn is_locked(n: Numbers, instant: u64, bypass: bool) -> bool
     (n.hold == 1) | ((instant < n.until) & ((n.mode == 2) | ((n.mode == 1) & !bypass)))
 }
 
-// A current row's fate by its key's days.
-fn current_fate(n: Numbers, days: u64, instant: u64) -> u8
-    requires { ⌜ (n .created ≤ latest) × (days ≤ 36500) ⌝ }
-    ensures { λ r. ⌜ ((k : List ℕ) → fateOf r ≡ currentBy days instant (rowFrom n k)) ⌝ }
+// The fate of the current row at a position, by its key's days.
+fn current_fate(rows: &[u64], at: usize, days: u64, instant: u64) -> u8
+    requires { ⌜ Dated (now rows) at × (days ≤ 36500) ⌝ }
+    ensures { λ r. ⌜ ((keys : List ℕ) → fateOf r ≡ currentBy days instant (rowAt (now (rows .entry)) keys at)) ⌝ }
 {
+    let n = table::numbers_at(rows, at);
     if n.kind != 1 {
         return 0;
     }
@@ -243,12 +261,14 @@ fn current_fate(n: Numbers, days: u64, instant: u64) -> u8
     0
 }
 
-// The fate of a row that isn't current; `since` is the creation of the next newer row.
-fn noncurrent_fate(n: Numbers, days: u64, since: u64, instant: u64) -> u8
-    requires { ⌜ (since ≤ latest) × (days ≤ 36500) ⌝ }
-    ensures { λ r. ⌜ ((k : List ℕ) → fateOf r ≡ noncurrentBy days since instant (rowFrom n k)) ⌝ }
+// The fate of a row that isn't current, by its key's days since the creation of the next newer row, the one before it.
+fn noncurrent_fate(rows: &[u64], at: usize, days: u64, instant: u64) -> u8
+    requires { ⌜ (1 ≤ at) × Dated (now rows) (at - 1) × Dated (now rows) at × (days ≤ 36500) ⌝ }
+    ensures { λ r. ⌜ ((keys : List ℕ) → fateOf r ≡ noncurrentBy days (rowAt (now (rows .entry)) keys (at - 1) .created) instant (rowAt (now (rows .entry)) keys at)) ⌝ }
 {
-    if is_over(days, since, instant) {
+    let n = table::numbers_at(rows, at);
+    let newer = table::numbers_at(rows, at - 1);
+    if is_over(days, newer.created, instant) {
         if is_locked(n, instant, false) {
             return 0;
         }
@@ -287,31 +307,69 @@ fn same_key(keys: &[u8], at: usize) -> bool
     same_block(&keys[before..own], &keys[own..end])
 }
 
-// Judges the row at a position by the first n rules; the limits are those of the row before it.
+// Judges the row at a position, and returns what the rules set for its key; `last` is that of the row before.
 fn judge_row(
     rows: &[u64],
     keys: &[u8],
     at: usize,
-    near: &[u8],
-    periods: &[u64],
-    n: usize,
-    limits: Limits,
+    prefixes: &[u8],
+    days: &[u64],
+    near: &mut [u8],
+    periods: &mut [u64],
+    last: KeyRules,
     instant: u64,
-) -> Judged
-    requires { ⌜ Readable (now rows) (now keys) (at + 1) × Rules (now near) (now periods) n ⌝ }
-    requires { ⌜ all fewDays (rulesIn (now near) (now periods) n) ≡ true ⌝ }
-    requires { ⌜ KnownHere (rulesIn (now near) (now periods) n) (now keys) at limits ⌝ }
-    ensures { λ r. ⌜ JudgedRow (rulesIn (now (near .entry)) (now (periods .entry)) n) instant (rowBefore (now (rows .entry)) (now (keys .entry)) at) (rowAt (now (rows .entry)) (now (keys .entry)) at) r ⌝ }
+    fates: &mut [u8],
+) -> KeyRules
+    requires { ⌜ Readable (now rows) (now keys) (at + 1) × Rules (now prefixes) (now days) 8 × (at < length (now fates)) ⌝ }
+    requires { ⌜ all fewDays (rulesIn (now prefixes) (now days) 8) ≡ true ⌝ }
+    requires { ⌜ Left (rulesIn (now prefixes) (now days) 8) (rowBefore (now rows) (now keys) at) (now near) (now periods) last ⌝ }
+    ensures { λ r. ⌜ JudgedRow (rulesIn (now (prefixes .entry)) (now (days .entry)) 8) instant (now (rows .entry)) (now (keys .entry)) at (now (near .exit)) (now (periods .exit)) (now (fates .entry)) (now (fates .exit)) r ⌝ }
 {
-    let numbers = table::numbers_at(rows, at);
     if same_key(keys, at) {
-        let newer = table::numbers_at(rows, at - 1);
-        let fate = noncurrent_fate(numbers, limits.noncurrent, newer.created, instant);
-        return Judged { limits, fate };
+        fates[at] = noncurrent_fate(rows, at, last.limits.noncurrent, instant);
+        return last;
     }
-    let own = limits_of(near, periods, n, table::key_at(keys, at));
-    let fate = current_fate(numbers, own.current, instant);
-    Judged { limits: own, fate }
+    let chosen = last.chosen;
+    let own = rules_for(prefixes, days, keys, at, near, periods, chosen);
+    fates[at] = current_fate(rows, at, own.limits.current, instant);
+    own
+}
+
+// Judges every row.
+fn judge_rows(
+    rows: &[u64],
+    keys: &[u8],
+    used: usize,
+    prefixes: &[u8],
+    days: &[u64],
+    near: &mut [u8],
+    periods: &mut [u64],
+    start: KeyRules,
+    instant: u64,
+    fates: &mut [u8],
+)
+    requires { ⌜ Readable (now rows) (now keys) used × Rules (now prefixes) (now days) 8 × (used ≤ length (now fates)) ⌝ }
+    requires { ⌜ all fewDays (rulesIn (now prefixes) (now days) 8) ≡ true ⌝ }
+    requires { ⌜ Left (rulesIn (now prefixes) (now days) 8) none (now near) (now periods) start ⌝ }
+    ensures { λ _. ⌜ JudgedAll (rulesIn (now (prefixes .entry)) (now (days .entry)) 8) instant (rowsOf (now (rows .entry)) (now (keys .entry)) used) used (now (fates .entry)) (now (fates .exit)) ⌝ }
+{
+    let mut last = start;
+    let mut i = 0;
+    while i < used {
+        last = judge_row(
+            rows,
+            keys,
+            i,
+            prefixes,
+            days,
+            near,
+            periods,
+            last,
+            instant,
+            fates,
+        );
+        i += 1;
+    }
 }
 
 // How many rows a fate removes.
@@ -334,81 +392,17 @@ fn marks(fate: u8) -> usize
     0
 }
 
-// Judges the row at a position by the rules that may begin its key.
-fn judge_next(
-    rows: &[u64],
-    keys: &[u8],
-    at: usize,
-    prefixes: &[u8],
-    days: &[u64],
-    near: &mut [u8],
-    periods: &mut [u64],
-    chosen: Chosen,
-    limits: Limits,
-    instant: u64,
-) -> Next
-    requires { ⌜ Readable (now rows) (now keys) (at + 1) × Rules (now prefixes) (now days) 8 ⌝ }
-    requires { ⌜ all fewDays (rulesIn (now prefixes) (now days) 8) ≡ true ⌝ }
-    requires { ⌜ ChosenBy (rulesIn (now prefixes) (now days) 8) (now near) (now periods) (chosen .first) chosen ⌝ }
-    requires { ⌜ Known (rulesIn (now prefixes) (now days) 8) (rowBefore (now rows) (now keys) at) limits ⌝ }
-    ensures { λ r. ⌜ JudgedNext (rulesIn (now (prefixes .entry)) (now (days .entry)) 8) instant (rowBefore (now (rows .entry)) (now (keys .entry)) at) (rowAt (now (rows .entry)) (now (keys .entry)) at) (now (near .exit)) (now (periods .exit)) r ⌝ }
+// Counts what the first `used` fates remove and add.
+fn count(fates: &[u8], used: usize) -> Counts
+    requires { ⌜ used ≤ length (now fates) ⌝ }
+    ensures { λ r. ⌜ Counted (now (fates .entry)) used (r .removed) (r .added) ⌝ }
 {
-    let own = choose_for(prefixes, days, keys[64 * at + 1], near, periods, chosen);
-    let judged = judge_row(rows, keys, at, near, periods, own.count, limits, instant);
-    let of = judged.limits;
-    Next {
-        limits: of,
-        fate: judged.fate,
-        chosen: own,
-    }
-}
-
-// Judges every row by the rules that may begin its key, and counts.
-fn judge_rows(
-    rows: &[u64],
-    keys: &[u8],
-    used: usize,
-    prefixes: &[u8],
-    days: &[u64],
-    near: &mut [u8],
-    periods: &mut [u64],
-    start: Chosen,
-    instant: u64,
-    fates: &mut [u8],
-) -> Counts
-    requires { ⌜ Readable (now rows) (now keys) used × Rules (now prefixes) (now days) 8 × (used ≤ length (now fates)) ⌝ }
-    requires { ⌜ all fewDays (rulesIn (now prefixes) (now days) 8) ≡ true ⌝ }
-    requires { ⌜ ChosenBy (rulesIn (now prefixes) (now days) 8) (now near) (now periods) (start .first) start ⌝ }
-    ensures { λ r. ⌜ JudgedRows (rulesIn (now (prefixes .entry)) (now (days .entry)) 8) instant (rowsOf (now (rows .entry)) (now (keys .entry)) used) used (now (fates .entry)) (now (fates .exit)) r ⌝ }
-{
-    let mut chosen = start;
-    let mut limits = Limits {
-        current: 0,
-        noncurrent: 0,
-    };
     let mut removed = 0;
     let mut added = 0;
     let mut i = 0;
     while i < used {
-        let next = judge_next(
-            rows,
-            keys,
-            i,
-            prefixes,
-            days,
-            near,
-            periods,
-            chosen,
-            limits,
-            instant,
-        );
-        fates[i] = next.fate;
-        removed += removes(next.fate);
-        added += marks(next.fate);
-        let own = next.limits;
-        limits = own;
-        let by = next.chosen;
-        chosen = by;
+        removed += removes(fates[i]);
+        added += marks(fates[i]);
         i += 1;
     }
     Counts { removed, added }
@@ -446,8 +440,14 @@ pub fn judge(
     lay_rules(rules, &mut prefixes, &mut days);
     let mut near = no_prefixes();
     let mut periods = no_days();
-    let count = choose(&prefixes, &days, 0, &mut near, &mut periods);
-    let start = Chosen { first: 0, count };
+    let n = choose(&prefixes, &days, 0, &mut near, &mut periods);
+    let start = KeyRules {
+        limits: Limits {
+            current: 0,
+            noncurrent: 0,
+        },
+        chosen: Chosen { first: 0, count: n },
+    };
     judge_rows(
         rows,
         keys,
@@ -459,5 +459,6 @@ pub fn judge(
         start,
         instant,
         fates,
-    )
+    );
+    count(fates, used)
 }

@@ -12,9 +12,7 @@ use Rattle.buffers.specs.Choices.{pick}
 use Rattle.buffers.specs.Lists.{all}
 use Rattle.buffers.proofs.Lists.{all-append}
 use Rattle.text.specs.Numbers.{isDigit, spelt, leadingZero, numberOf}
-use Rattle.text.specs.Keys.{has}
 use Rattle.text.specs.Printing.{digitsUp, digits}
-use Rattle.text.proofs.Scans.{all-has}
 
 digit-is : (d : ℕ) → d ≤ 9 → isDigit (48 + d) ≡ true
 unfolding isDigit
@@ -85,8 +83,3 @@ number-back k n h =
 pub digits-all : (n : ℕ) → all isDigit (digits n) ≡ true
 unfolding digits
 digits-all n = up-digits (suc n) n
-
--- No tab stands in a printed number.
-pub digits-no-tab : (n : ℕ) → has (digits n) 9 ≡ false
-unfolding isDigit
-digits-no-tab n = all-has isDigit 9 refl (digits n) (digits-all n)

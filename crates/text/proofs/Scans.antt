@@ -1,7 +1,6 @@
 -- Loops over a text: what holds of the whole equals what holds of the rest from where the loop stands.
 use Prim.Native.Nat.{ℕ, suc, _+_, _-_, _≤_, _<_}
 use mathlib.Core.Path.{_≡_, refl, sym, ap, _∙_}
-use mathlib.Core.Logic.{inl, inr}
 use mathlib.Core.Bool.{Bool, true, false}
 use mathlib.Core.List.{List, [], _∷_}
 use native.Mathlib.Omega.{arith}
@@ -10,10 +9,9 @@ use native.Mathlib.Numerals.{add-one}
 use lib.ListN.{length, getD, take, drop, length-drop, drop-of-length-le}
 use lib.Seq.{take-all, drop-cons}
 use lib.Dec.{eqb}
-use borrow.Author.Tests.{eq-eqb, ne-eqb, eqb-true}
+use borrow.Author.Tests.{eq-eqb, ne-eqb}
 use Rattle.buffers.specs.Choices.{pick}
 use Rattle.buffers.specs.Lists.{all, same, begins}
-use Rattle.buffers.proofs.Tests.{either, clash, and-l, and-r}
 use Rattle.text.specs.Keys.{has}
 
 -- ## The rest of a list
@@ -51,15 +49,6 @@ module _ (s : List ℕ) (b i : ℕ) where
   has-end h q = sym (q ∙ rw (drop-of-length-le s h))
 
 pub ruleset has-cases = (has-hit, has-step, has-end)
-
--- A byte that fails a test does not stand where every byte passes it.
-pub all-has : (p : ℕ → Bool) (b : ℕ) → p b ≡ false → (s : List ℕ) → all p s ≡ true → has s b ≡ false
-all-has p b f [] e = refl
-all-has p b f (a ∷ s) e =
-    elim (either (eqb a b)) [
-      | inl t ↦ absurd (clash (p a) (and-l (p a) _ e) (ap p (eqb-true a b t) ∙ f))
-      | inr t ↦ rw t (all-has p b f s (and-r (p a) _ e))
-    ]
 
 -- ## One text begins another
 

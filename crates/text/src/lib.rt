@@ -1,7 +1,7 @@
 // Parts of a text: lines, fields between tabs, whole numbers, words, keys and prefixes, and printed numbers. The definitions are in specs/.
 ghost use mathlib.Core.Path.{_≡_};
 ghost use Prim.Native.Nat.{_+_, _≤_, _<_};
-ghost use lib.ListN.{length};
+ghost use lib.ListN.{length, drop};
 ghost use Rattle.buffers.specs.Lists.{same, begins};
 ghost use Rattle.buffers.specs.Ranges.{Within};
 ghost use Rattle.buffers.specs.Writes.{Wrote};
@@ -70,11 +70,40 @@ fn find_start(line: &[u8], marks: &[usize], i: usize) -> usize
     end
 }
 
+// A line feed stands among the 16 bytes. With no way out of it the loop is compiled to vector code.
+fn has_feed(block: &[u8]) -> bool
+    requires { ⌜ length (now block) ≡ 16 ⌝ }
+    ensures { λ r. ⌜ r ≡ has (now (block .entry)) 10 ⌝ }
+{
+    let mut found = false;
+    let mut i = 0;
+    while i < 16 {
+        found = found | (block[i] == b'\n');
+        i += 1;
+    }
+    found
+}
+
+// Passes blocks of 16 bytes that have no line feed, and returns where they end.
+fn skip_blocks(rest: &[u8]) -> usize
+    ensures { λ r. ⌜ (r ≤ length (now (rest .entry))) × (feedAt (now (rest .entry)) ≡ r + feedAt (drop r (now (rest .entry)))) ⌝ }
+{
+    let mut i = 0;
+    while 16 <= rest.len() - i {
+        let end = i + 16;
+        if has_feed(&rest[i..end]) {
+            return i;
+        }
+        i = end;
+    }
+    i
+}
+
 // The bytes before the first line feed: how many.
 pub fn line_length(rest: &[u8]) -> usize
     ensures { λ r. ⌜ Within r (feedAt (now (rest .entry))) (length (now (rest .entry))) ⌝ }
 {
-    let mut i = 0;
+    let mut i = skip_blocks(rest);
     while i < rest.len() {
         if rest[i] == b'\n' {
             return i;

@@ -1,6 +1,5 @@
 -- `judge` meets its contract.
-use Rattle.lifecycle.proofs.Judging.{laid-cases, laid-few}
-use Rattle.lifecycle.proofs.Rules.{chosen-now}
+use Rattle.lifecycle.proofs.Judging.{laid-cases, laid-few, left-first}
 use borrow.Author.Needs.{needs}
 use Rattle.lifecycle.proofs.judge.Statement.{statement}
 use Rattle.lifecycle.proofs.judge.Tie as tie
@@ -25,6 +24,7 @@ judge-spec =
     (λ c. search needs)
     (λ c. search needs)
     (λ c. search needs)
-    (λ c κs. ((search needs, search needs, search needs), (search (needs, laid-few), search (needs, chosen-now))))
+    (λ c κs. ((search needs, search needs, search needs), (search (needs, laid-few), search (needs, left-first))))
+    (λ c κs. search needs)
     (λ c. search needs)
     (λ c. search (needs, laid-cases)))

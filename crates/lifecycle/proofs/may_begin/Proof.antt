@@ -20,4 +20,5 @@ may-begin-spec =
     (λ c. search needs)
     (λ c. search needs)
     (λ c. search needs)
+    (λ c κs. search needs)
     (λ c. search (needs, may-begin)))

@@ -20,6 +20,7 @@ line-length-spec =
     (tie.spec
     Inv-loop
     μ-loop
+    (λ c κs. search needs)
     (λ c. search (needs, feed-cases))
     (λ c. search (needs, feed-cases))
     (λ c. search (needs, feed-cases))
