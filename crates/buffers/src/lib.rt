@@ -110,7 +110,7 @@ pub fn move_down_64_bytes(b: &mut [u8])
     zero_bytes_from(b, end);
 }
 
-fn wide(x: u8) -> u64
+pub fn wide(x: u8) -> u64
     ensures { λ r. ⌜ Within r x 255 ⌝ }
 {
     x as u64
