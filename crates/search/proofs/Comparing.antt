@@ -2,7 +2,7 @@
 use Prim.Native.Nat.{ℕ, zero, suc, _+_, _-_, _*_, _^_, _≤_, _<_}
 use mathlib.Core.Path.{_≡_, refl, sym, ap, ap₂, _∙_}
 use mathlib.Core.Logic.{inl, inr}
-use mathlib.Core.Bool.{Bool, true, false, _&&_, _||_}
+use mathlib.Core.Bool.{true, false}
 use mathlib.Core.List.{List, [], _∷_, _++_}
 use native.Mathlib.Omega.{arith}
 use mir.Val.{Fits}
@@ -320,7 +320,7 @@ before-one a b e =
       | inr s ↦ s
     ]
 
-same-one : (a b : List ℕ) → same a b ≡ true → before a b ≡ false
+pub same-one : (a b : List ℕ) → same a b ≡ true → before a b ≡ false
 same-one a b e = rw (same-path a b e) (before-irrefl b)
 
 pub after-one : (a b : List ℕ) → before b a ≡ true → before a b ≡ false
@@ -330,36 +330,5 @@ after-one a b e =
       | inr s ↦ s
     ]
 
-module _ (o : Order) (a b : List ℕ) (e : isOrder o a b ≡ true) where
-  pub before-yes : o ≡ Before → true ≡ before a b
-  before-yes q = sym (rw q at e)
-
-  pub before-same : o ≡ Same → false ≡ before a b
-  before-same q = sym (same-one a b (rw q at e))
-
-  pub before-after : o ≡ After → false ≡ before a b
-  before-after q = sym (after-one a b (rw q at e))
-
-  pub same-before : o ≡ Before → false ≡ same a b
-  same-before q = sym (before-one a b (rw q at e))
-
-  pub same-yes : o ≡ Same → true ≡ same a b
-  same-yes q = sym (rw q at e)
-
-  pub same-after : o ≡ After → false ≡ same a b
-  same-after q = sym (same-sym a b ∙ before-one b a (rw q at e))
-
--- An order decides a test that starts with one of the three.
-pub and-false : (a t : Bool) → false ≡ a → false ≡ (a && t)
-and-false a t e = rw (sym e)
-
-pub and-true : (a t : Bool) → true ≡ a → t ≡ (a && t)
-and-true a t e = rw (sym e)
-
-pub or-true : (a t : Bool) → true ≡ a → true ≡ (a || t)
-or-true a t e = rw (sym e)
-
-pub or-false : (r a t : Bool) → false ≡ a → r ≡ t → r ≡ (a || t)
-or-false r a t e f = rw (sym e) f
-
-pub ruleset orders = (before-yes, before-same, before-after, same-before, same-yes, same-after, and-false, and-true, or-true, or-false)
+pub after-other : (a b : List ℕ) → before b a ≡ true → same a b ≡ false
+after-other a b e = same-sym a b ∙ before-one b a e

@@ -1,16 +1,17 @@
 -- Where the rows that pass a test end, and what one row of an ordered table says of that place.
 use Prim.Native.Nat.{ℕ, zero, suc, _+_, _-_, _*_, _/_, _≤_, _<_}
-use mathlib.Core.Path.{_≡_, sym, _∙_}
+use mathlib.Core.Path.{_≡_, sym, ap}
 use mathlib.Core.Logic.{inl, inr}
-use mathlib.Core.Bool.{Bool, true, false, _&&_, _||_}
+use mathlib.Core.Bool.{Bool, true, false, _&&_}
 use mathlib.Core.List.{List, [], _∷_}
 use mathlib.Core.Option.{some}
 use native.Mathlib.Omega.{arith}
 use lib.Dec.{eqb, ltb}
 use lib.ListN.{getD, drop-of-length-le}
+use borrow.Author.Tests.{eq-eqb, ne-eqb, lt-ltb, le-ltb}
+use Rattle.buffers.specs.Choices.{pick, thenSome}
 use Rattle.buffers.specs.Lists.{all, same}
-use Rattle.buffers.specs.Ranges.{Within}
-use Rattle.buffers.proofs.Tests.{either, and-l, and-r, or-one}
+use Rattle.buffers.proofs.Tests.{either, and-i, and-l, and-r, or-l, or-r, or-one}
 use Rattle.buffers.proofs.Lists.{same-path}
 use Rattle.table.specs.Layout.{rowAt, rowsOf}
 use Rattle.table.specs.Places.{keyAt}
@@ -18,8 +19,12 @@ use Rattle.table.proofs.Held.{rows-length}
 use Rattle.model.specs.Rows.{Row, before, ahead, ordered}
 use Rattle.model.proofs.Order.{before-trans, ahead-trans}
 use Rattle.search.specs.Places.{leading, rowFrom, foundIf, keyPlace, currentIn, versionPlace, versionIn}
-use Rattle.search.specs.Searching.{HasRow, Searchable}
+use Rattle.search.specs.Keys.{isOrder}
+use Rattle.search.specs.Searching.{Searchable}
+use Rattle.search.specs.declared.Order.{Order}
+use Rattle.search.specs.declared.Order.the-variants.{Before, Same, After}
 use Rattle.search.specs.declared.Found.the-variants.{At, Place}
+use Rattle.search.proofs.Comparing.{same-one, after-one, after-other}
 use Rattle.search.proofs.Positions.{no-row, all-row, rows-row, number-at, leading-most}
 
 -- ## The rows that pass a test
@@ -43,14 +48,15 @@ module _ (q : Row → Bool) where
       let t : q x ≡ true = m x y (all-row (ahead x) xs i y (and-l _ _ o) f) e in
       rw t (omega (arith, leading-passes m xs i y (and-r (all (ahead x) xs) _ o) f e))
 
+  -- All rows ahead of one that pass stand in front of it.
+  leading-reaches : (xs : List Row) (i : ℕ) (y : Row) → ordered xs ≡ true → rowFrom xs i ≡ some y → ((x : Row) → ahead x y ≡ true → q x ≡ true) → i ≤ leading q xs
+  leading-reaches [] i y o f m = absurd (no-row i y f)
+  leading-reaches (x ∷ xs) zero y o f m = omega arith
+  leading-reaches (x ∷ xs) (suc i) y o f m =
+      let t : q x ≡ true = m x (all-row (ahead x) xs i y (and-l _ _ o) f) in
+      rw t (omega (arith, leading-reaches xs i y (and-r (all (ahead x) xs) _ o) f m))
+
 -- ## Halving
-
-module _ (n b : List ℕ) (u i : ℕ) (s : Searchable n b u) (h : i < u) where
-  pub has-length : getD b (64 * i) 0 ≤ 63
-  has-length = s .lengths i h
-
-  pub has-row : HasRow n b i
-  has-row = record { has-numbers = omega arith; has-key = omega arith; key-fits = s .lengths i h }
 
 key-ahead : (k : List ℕ) (x y : Row) → ahead x y ≡ true → before (y .key) k ≡ true → before (x .key) k ≡ true
 key-ahead k x y d e =
@@ -77,12 +83,6 @@ module _ (n b : List ℕ) (u m low high : ℕ) (w : Between n b u m low high) wh
   pub middle-length : low < high → getD b (64 * middle low high) 0 ≤ 63
   middle-length h = w .searchable .lengths (middle low high) (omega arith)
 
-  pub middle-row : low < high → HasRow n b (middle low high)
-  middle-row h = has-row n b u (middle low high) (w .searchable) (omega arith)
-
-  pub halving-end : high ≤ low → Within low m u
-  halving-end h = record { is = omega arith; most = omega arith }
-
 -- A test that each row passes that is ahead of one that passes.
 module _ (q : Row → Bool) (falls : (x y : Row) → ahead x y ≡ true → q y ≡ true → q x ≡ true) (n b : List ℕ) (u : ℕ) where
   start : Searchable n b u → Between n b u (leading q (rowsOf n b u)) 0 u
@@ -102,75 +102,135 @@ module _ (q : Row → Bool) (falls : (x y : Row) → ahead x y ≡ true → q y 
       let p = leading-stops q (rowsOf n b u) (middle low high) _ (rows-row n b u (middle low high) below) t in
       record { searchable = w .searchable; top = omega arith; from = w .from; to = omega arith }
 
+-- ## What stands at the place
+
+-- whether the row at a position passes a test
+pub record Tells (p : Row → Bool) (n b : List ℕ) (u i : ℕ) (r : Bool) : Type 0 where
+  pub tells : r ≡ thenSome (rowFrom (rowsOf n b u) i) false p
+
+module _ (p : Row → Bool) (n b : List ℕ) (u i : ℕ) where
+  tells-behind : u ≤ i → Tells p n b u i false
+  tells-behind h = record { tells = rw (drop-of-length-le (rowsOf n b u) {i = i} (rw (rows-length n b u) h)) }
+
+  tells-row : (r : Bool) → i < u → p (rowAt n b i) ≡ r → Tells p n b u i r
+  tells-row r h e = record { tells = rw (rows-row n b u i h) (sym e) }
+
+  tells-found : (m : ℕ) (r : Bool) → Tells p n b u i r → m ≡ i → pick r (At i) (Place i) ≡ foundIf p (rowsOf n b u) m
+  tells-found m r w e = rw e (ap (λ (t : Bool). pick t (At i) (Place i)) (w .tells))
+
+-- ## A key's first row
+
+abbrev pub hasKey : List ℕ → Row → Bool
+hasKey k x = same (x .key) k
+
 module _ (n b : List ℕ) (u : ℕ) (k : List ℕ) where
   pub key-start : Searchable n b u → Between n b u (keyPlace k (rowsOf n b u)) 0 u
   unfolding keyPlace
   key-start s = start (λ x. before (x .key) k) (key-ahead k) n b u s
 
-  module _ (low high : ℕ) (r : Bool) (w : Between n b u (keyPlace k (rowsOf n b u)) low high) (h : low < high) (e : r ≡ before (keyAt b (middle low high)) k) where
-    pub key-passed : r ≡ true → Between n b u (keyPlace k (rowsOf n b u)) (middle low high + 1) high
-    unfolding keyPlace
-    key-passed t = passed (λ x. before (x .key) k) (key-ahead k) n b u low high w h (sym e ∙ t)
+  pub key-none : Tells (hasKey k) n b u u false
+  key-none = tells-behind (hasKey k) n b u u (omega arith)
 
-    pub key-stopped : r ≡ false → Between n b u (keyPlace k (rowsOf n b u)) low (middle low high)
-    unfolding keyPlace
-    key-stopped t = stopped (λ x. before (x .key) k) (key-ahead k) n b u low high w h (sym e ∙ t)
+  module _ (low high : ℕ) (w : Between n b u (keyPlace k (rowsOf n b u)) low high) where
+    module _ (h : low < high) (o : Order) (e : isOrder o (keyAt b (middle low high)) k ≡ true) where
+      pub key-passed : o ≡ Before → Between n b u (keyPlace k (rowsOf n b u)) (middle low high + 1) high
+      unfolding keyPlace
+      key-passed t = passed (λ x. before (x .key) k) (key-ahead k) n b u low high w h (rw t at e)
+
+      pub key-met : o ≡ Same → Between n b u (keyPlace k (rowsOf n b u)) low (middle low high)
+      unfolding keyPlace
+      key-met t = stopped (λ x. before (x .key) k) (key-ahead k) n b u low high w h (same-one (keyAt b (middle low high)) k (rw t at e))
+
+      pub key-stopped : o ≡ After → Between n b u (keyPlace k (rowsOf n b u)) low (middle low high)
+      unfolding keyPlace
+      key-stopped t = stopped (λ x. before (x .key) k) (key-ahead k) n b u low high w h (after-one (keyAt b (middle low high)) k (rw t at e))
+
+      pub key-there : o ≡ Same → Tells (hasKey k) n b u (middle low high) true
+      key-there t = tells-row (hasKey k) n b u (middle low high) true (omega (arith, w .top)) (rw t at e)
+
+      pub key-other : o ≡ After → Tells (hasKey k) n b u (middle low high) false
+      key-other t = tells-row (hasKey k) n b u (middle low high) false (omega (arith, w .top)) (after-other (keyAt b (middle low high)) k (rw t at e))
+
+    module _ (r : Bool) (v : Tells (hasKey k) n b u high r) (h : high ≤ low) where
+      ended : pick r (At low) (Place low) ≡ currentIn k (rowsOf n b u)
+      unfolding currentIn
+      ended =
+          let q : high ≡ low = omega (arith, w .from, w .to) in
+          rw q at (tells-found (hasKey k) n b u high (keyPlace k (rowsOf n b u)) r v (omega (arith, w .from, w .to)))
+
+      pub current-yes : r ≡ true → At low ≡ currentIn k (rowsOf n b u)
+      current-yes t = rw t at ended
+
+      pub current-no : r ≡ false → Place low ≡ currentIn k (rowsOf n b u)
+      current-no t = rw t at ended
+
+pub ruleset key-cases = (middle-length, key-start, key-none, current-yes, current-no)
+
+-- ## A key's version
+
+abbrev pub hasVersion : List ℕ → ℕ → Row → Bool
+hasVersion k v x = same (x .key) k && eqb (x .number) v
 
 module _ (n b : List ℕ) (u : ℕ) (k : List ℕ) (v : ℕ) where
   pub version-start : Searchable n b u → Between n b u (versionPlace k v (rowsOf n b u)) 0 u
   unfolding versionPlace
   version-start s = start (λ x. ahead x (versionRow k v)) (λ x y. ahead-trans x y (versionRow k v)) n b u s
 
-  module _ (low high : ℕ) (r : Bool) (w : Between n b u (versionPlace k v (rowsOf n b u)) low high) (h : low < high)
-      (e : r ≡ (before (keyAt b (middle low high)) k || (same (keyAt b (middle low high)) k && ltb v (getD n (8 * middle low high) 0)))) where
-    pub version-passed : r ≡ true → Between n b u (versionPlace k v (rowsOf n b u)) (middle low high + 1) high
-    unfolding versionPlace
-    version-passed t =
-        passed (λ x. ahead x (versionRow k v)) (λ x y. ahead-trans x y (versionRow k v)) n b u low high w h (rw (number-at n b (middle low high)) (sym e ∙ t))
+  pub version-none : Tells (hasVersion k v) n b u u false
+  version-none = tells-behind (hasVersion k v) n b u u (omega arith)
 
-    pub version-stopped : r ≡ false → Between n b u (versionPlace k v (rowsOf n b u)) low (middle low high)
-    unfolding versionPlace
-    version-stopped t =
-        stopped (λ x. ahead x (versionRow k v)) (λ x y. ahead-trans x y (versionRow k v)) n b u low high w h (rw (number-at n b (middle low high)) (sym e ∙ t))
+  module _ (low high : ℕ) (w : Between n b u (versionPlace k v (rowsOf n b u)) low high) where
+    module _ (h : low < high) (o : Order) (e : isOrder o (keyAt b (middle low high)) k ≡ true) where
+      pub version-passed : o ≡ Before → Between n b u (versionPlace k v (rowsOf n b u)) (middle low high + 1) high
+      unfolding versionPlace
+      version-passed t =
+          passed (λ x. ahead x (versionRow k v)) (λ x y. ahead-trans x y (versionRow k v)) n b u low high w h (or-l (before (keyAt b (middle low high)) k) _ (rw t at e))
 
-pub ruleset halving = (middle-length, middle-row, halving-end, key-start, key-passed, key-stopped, version-start, version-passed, version-stopped)
+      pub version-higher : o ≡ Same → v < getD n (8 * middle low high) 0 → Between n b u (versionPlace k v (rowsOf n b u)) (middle low high + 1) high
+      unfolding versionPlace
+      version-higher t d =
+          passed (λ x. ahead x (versionRow k v)) (λ x y. ahead-trans x y (versionRow k v)) n b u low high w h
+          (or-r (before (keyAt b (middle low high)) k) _ (and-i (same (keyAt b (middle low high)) k) _ (rw t at e) (rw (number-at n b (middle low high)) (lt-ltb _ _ d))))
 
--- ## What stands at the place
+      pub version-lower : o ≡ Same → getD n (8 * middle low high) 0 ≤ v → Between n b u (versionPlace k v (rowsOf n b u)) low (middle low high)
+      unfolding versionPlace
+      version-lower t d =
+          let s : same (keyAt b (middle low high)) k ≡ true = rw t at e in
+          stopped (λ x. ahead x (versionRow k v)) (λ x y. ahead-trans x y (versionRow k v)) n b u low high w h
+          (rw (same-one (keyAt b (middle low high)) k s, s, number-at n b (middle low high)) (le-ltb v _ d))
 
-module _ (n b : List ℕ) (u : ℕ) (p : Row → Bool) (i m : ℕ) (w : Within i m u) where
-  pub found-end : u ≤ i → Place i ≡ foundIf p (rowsOf n b u) m
-  found-end h = rw (sym (w .is), drop-of-length-le (rowsOf n b u) {i = i} (rw (rows-length n b u) h))
+      pub version-stopped : o ≡ After → Between n b u (versionPlace k v (rowsOf n b u)) low (middle low high)
+      unfolding versionPlace
+      version-stopped t =
+          let s : before k (keyAt b (middle low high)) ≡ true = rw t at e in
+          stopped (λ x. ahead x (versionRow k v)) (λ x y. ahead-trans x y (versionRow k v)) n b u low high w h
+          (rw (after-one (keyAt b (middle low high)) k s, after-other (keyAt b (middle low high)) k s))
 
-  pub found-yes : (r : Bool) → i < u → r ≡ p (rowAt n b i) → r ≡ true → At i ≡ foundIf p (rowsOf n b u) m
-  found-yes r h e t = rw (sym (w .is), rows-row n b u i h, sym e ∙ t)
+      pub version-other : o ≡ Same → (getD n (8 * middle low high) 0 ≡ v → ⊥) → Tells (hasVersion k v) n b u (middle low high) false
+      version-other t d =
+          let s : same (keyAt b (middle low high)) k ≡ true = rw t at e in
+          tells-row (hasVersion k v) n b u (middle low high) false (omega (arith, w .top)) (rw (s, number-at n b (middle low high)) (ne-eqb _ v d))
 
-  pub found-no : (r : Bool) → i < u → r ≡ p (rowAt n b i) → r ≡ false → Place i ≡ foundIf p (rowsOf n b u) m
-  found-no r h e t = rw (sym (w .is), rows-row n b u i h, sym e ∙ t)
+      pub version-behind : o ≡ After → Tells (hasVersion k v) n b u (middle low high) false
+      version-behind t =
+          tells-row (hasVersion k v) n b u (middle low high) false (omega (arith, w .top)) (rw (after-other (keyAt b (middle low high)) k (rw t at e)))
 
-module _ (n b : List ℕ) (u : ℕ) (k : List ℕ) (i : ℕ) (w : Within i (keyPlace k (rowsOf n b u)) u) where
-  pub current-end : u ≤ i → Place i ≡ currentIn k (rowsOf n b u)
-  unfolding currentIn
-  current-end h = found-end n b u (λ x. same (x .key) k) i _ w h
+      pub version-yes : o ≡ Same → getD n (8 * middle low high) 0 ≡ v → At (middle low high) ≡ versionIn k v (rowsOf n b u)
+      unfolding versionIn versionPlace
+      version-yes t d =
+          let i = middle low high in
+          let below : i < u = omega (arith, w .top) in
+          let s : same (keyAt b i) k ≡ true = rw t at e in
+          let reached : i ≤ leading (λ x. ahead x (versionRow k v)) (rowsOf n b u) =
+          leading-reaches (λ x. ahead x (versionRow k v)) (rowsOf n b u) i (rowAt n b i) (w .searchable .in-order) (rows-row n b u i below) (λ x g. rw (same-path (keyAt b i) k s, number-at n b i, d) at g) in
+          let most = version-lower t (omega arith) .to in
+          tells-found (hasVersion k v) n b u i (leading (λ x. ahead x (versionRow k v)) (rowsOf n b u)) true
+          (tells-row (hasVersion k v) n b u i true below (rw (s, number-at n b i) (eq-eqb _ v d))) (omega arith)
 
-  pub current-yes : (r : Bool) → i < u → r ≡ same (keyAt b i) k → r ≡ true → At i ≡ currentIn k (rowsOf n b u)
-  unfolding currentIn
-  current-yes r h e t = found-yes n b u (λ x. same (x .key) k) i _ w r h e t
+    pub version-no : Tells (hasVersion k v) n b u high false → high ≤ low → Place low ≡ versionIn k v (rowsOf n b u)
+    unfolding versionIn
+    version-no t h =
+        let q : high ≡ low = omega (arith, w .from, w .to) in
+        rw q at (tells-found (hasVersion k v) n b u high (versionPlace k v (rowsOf n b u)) false t (omega (arith, w .from, w .to)))
 
-  pub current-no : (r : Bool) → i < u → r ≡ same (keyAt b i) k → r ≡ false → Place i ≡ currentIn k (rowsOf n b u)
-  unfolding currentIn
-  current-no r h e t = found-no n b u (λ x. same (x .key) k) i _ w r h e t
-
-module _ (n b : List ℕ) (u : ℕ) (k : List ℕ) (v i : ℕ) (w : Within i (versionPlace k v (rowsOf n b u)) u) where
-  pub version-end : u ≤ i → Place i ≡ versionIn k v (rowsOf n b u)
-  unfolding versionIn
-  version-end h = found-end n b u (λ x. same (x .key) k && eqb (x .number) v) i _ w h
-
-  pub version-yes : (r : Bool) → i < u → r ≡ (same (keyAt b i) k && eqb (getD n (8 * i) 0) v) → r ≡ true → At i ≡ versionIn k v (rowsOf n b u)
-  unfolding versionIn
-  version-yes r h e t = found-yes n b u (λ x. same (x .key) k && eqb (x .number) v) i _ w r h (e ∙ rw (number-at n b i)) t
-
-  pub version-no : (r : Bool) → i < u → r ≡ (same (keyAt b i) k && eqb (getD n (8 * i) 0) v) → r ≡ false → Place i ≡ versionIn k v (rowsOf n b u)
-  unfolding versionIn
-  version-no r h e t = found-no n b u (λ x. same (x .key) k && eqb (x .number) v) i _ w r h (e ∙ rw (number-at n b i)) t
-
-pub ruleset finding = (has-length, has-row, current-end, current-yes, current-no, version-end, version-yes, version-no)
+pub ruleset version-cases = (middle-length, version-start, version-none, version-yes, version-no)

@@ -1,17 +1,11 @@
 -- What a search needs of the two buffers.
-use Prim.Native.Nat.{ℕ, _+_, _*_, _≤_, _<_}
+use Prim.Native.Nat.{ℕ, _*_, _≤_, _<_}
 use mathlib.Core.Path.{_≡_}
 use mathlib.Core.Bool.{true}
 use mathlib.Core.List.{List}
 use lib.ListN.{length, getD}
 use Rattle.table.specs.Layout.{rowsOf}
 use Rattle.model.specs.Rows.{ordered}
-
--- a row is there, and its key's length is at most 63
-pub record HasRow (rows keys : List ℕ) (i : ℕ) : Type 0 where
-  pub has-numbers : 8 * i + 8 ≤ length rows
-  pub has-key : 64 * i + 64 ≤ length keys
-  pub key-fits : getD keys (64 * i) 0 ≤ 63
 
 -- the used rows are there, and they are in order
 pub record Searchable (rows keys : List ℕ) (used : ℕ) : Type 0 where

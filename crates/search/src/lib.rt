@@ -1,17 +1,13 @@
 // Search by halving in an ordered table. The definitions are in specs/.
 ghost use mathlib.Core.Path.{_≡_};
-ghost use mathlib.Core.Bool.{true, _&&_, _||_};
+ghost use mathlib.Core.Bool.{true};
 ghost use Prim.Native.Nat.{_+_, _*_, _≤_};
-ghost use lib.Dec.{eqb, ltb};
 ghost use lib.ListN.{length, getD, drop};
-ghost use Rattle.buffers.specs.Lists.{same};
-ghost use Rattle.buffers.specs.Ranges.{Within};
-ghost use Rattle.model.specs.Rows.{before};
 ghost use Rattle.table.specs.Layout.{rowsOf};
 ghost use Rattle.table.specs.Places.{keyAt};
 ghost use Rattle.search.specs.Keys.{isOrder, rank, Shorter, LastEight};
-ghost use Rattle.search.specs.Places.{keyPlace, versionPlace, currentIn, versionIn};
-ghost use Rattle.search.specs.Searching.{HasRow, Searchable};
+ghost use Rattle.search.specs.Places.{currentIn, versionIn};
+ghost use Rattle.search.specs.Searching.{Searchable};
 
 // How one key stands to another.
 pub enum Order {
@@ -26,25 +22,19 @@ pub enum Found {
     Place(usize),
 }
 
-fn wide(x: u8) -> u64
-    ensures { λ r. ⌜ Within r x 255 ⌝ }
-{
-    x as u64
-}
-
 // Eight bytes as a number, the first counting most. This sum, from the last byte on, is compiled to one load.
 pub fn rank_at(b: &[u8], at: usize) -> u64
     requires { ⌜ at + 8 ≤ length (now b) ⌝ }
     ensures { λ r. ⌜ r ≡ rank 8 (drop at (now (b .entry))) ⌝ }
 {
-    wide(b[at + 7])
-        + wide(b[at + 6]) * 256
-        + wide(b[at + 5]) * 65536
-        + wide(b[at + 4]) * 16777216
-        + wide(b[at + 3]) * 4294967296
-        + wide(b[at + 2]) * 1099511627776
-        + wide(b[at + 1]) * 281474976710656
-        + wide(b[at]) * 72057594037927936
+    buffers::wide(b[at + 7])
+        + buffers::wide(b[at + 6]) * 256
+        + buffers::wide(b[at + 5]) * 65536
+        + buffers::wide(b[at + 4]) * 16777216
+        + buffers::wide(b[at + 3]) * 4294967296
+        + buffers::wide(b[at + 2]) * 1099511627776
+        + buffers::wide(b[at + 1]) * 281474976710656
+        + buffers::wide(b[at]) * 72057594037927936
 }
 
 // Compares what stands from `at` on, byte by byte.
@@ -103,7 +93,7 @@ fn shorter(m: usize, n: usize) -> usize
 }
 
 // Two keys by unsigned bytes, a prefix before the longer key: eight bytes at once, the last eight from where they fit.
-pub fn compare_keys(a: &[u8], b: &[u8]) -> Order
+fn compare_keys(a: &[u8], b: &[u8]) -> Order
     ensures { λ r. ⌜ isOrder r (now (a .entry)) (now (b .entry)) ≡ true ⌝ }
 {
     let n = shorter(a.len(), b.len());
@@ -146,115 +136,22 @@ fn first_rank(key: &[u8]) -> u64
     rank_at(&eight, 0)
 }
 
-// The key of the row at a position, against a key with its first rank: where the ranks differ they decide.
+// The key of the row at a position, against a key with its first rank: where the stored key has eight bytes and the ranks differ, they decide.
 fn order_by_rank(keys: &[u8], at: usize, key: &[u8], first: u64) -> Order
     requires { ⌜ (64 * at + 64 ≤ length (now keys)) × (getD (now keys) (64 * at) 0 ≤ 63) × (first ≡ rank 8 (now key)) ⌝ }
     ensures { λ r. ⌜ isOrder r (keyAt (now (keys .entry)) at) (now (key .entry)) ≡ true ⌝ }
 {
     let start = 64 * at;
-    if keys[start] < 8 {
-        return order_at(keys, at, key);
-    }
-    let stored = rank_at(keys, start + 1);
-    if stored < first {
-        return Order::Before;
-    }
-    if first < stored {
-        return Order::After;
+    if 8 <= keys[start] {
+        let stored = rank_at(keys, start + 1);
+        if stored < first {
+            return Order::Before;
+        }
+        if first < stored {
+            return Order::After;
+        }
     }
     order_at(keys, at, key)
-}
-
-// The key of the row at a position is before the key.
-fn key_before(keys: &[u8], at: usize, key: &[u8], first: u64) -> bool
-    requires { ⌜ (64 * at + 64 ≤ length (now keys)) × (getD (now keys) (64 * at) 0 ≤ 63) × (first ≡ rank 8 (now key)) ⌝ }
-    ensures { λ r. ⌜ r ≡ before (keyAt (now (keys .entry)) at) (now (key .entry)) ⌝ }
-{
-    let o = order_by_rank(keys, at, key, first);
-    match o {
-        Order::Before => true,
-        Order::Same => false,
-        Order::After => false,
-    }
-}
-
-// The row at a position is ahead of the key's version.
-fn row_ahead(rows: &[u64], keys: &[u8], at: usize, key: &[u8], first: u64, version: u64) -> bool
-    requires { ⌜ HasRow (now rows) (now keys) at × (first ≡ rank 8 (now key)) ⌝ }
-    ensures { λ r. ⌜ r ≡ (before (keyAt (now (keys .entry)) at) (now (key .entry)) || (same (keyAt (now (keys .entry)) at) (now (key .entry)) && ltb version (getD (now (rows .entry)) (8 * at) 0))) ⌝ }
-{
-    let o = order_by_rank(keys, at, key, first);
-    let number = 8 * at;
-    match o {
-        Order::Before => true,
-        Order::Same => version < rows[number],
-        Order::After => false,
-    }
-}
-
-// The row at a position has the key.
-fn has_key(keys: &[u8], at: usize, key: &[u8]) -> bool
-    requires { ⌜ (64 * at + 64 ≤ length (now keys)) × (getD (now keys) (64 * at) 0 ≤ 63) ⌝ }
-    ensures { λ r. ⌜ r ≡ same (keyAt (now (keys .entry)) at) (now (key .entry)) ⌝ }
-{
-    let o = order_at(keys, at, key);
-    match o {
-        Order::Before => false,
-        Order::Same => true,
-        Order::After => false,
-    }
-}
-
-// The row at a position is the key's version.
-fn has_version(rows: &[u64], keys: &[u8], at: usize, key: &[u8], version: u64) -> bool
-    requires { ⌜ HasRow (now rows) (now keys) at ⌝ }
-    ensures { λ r. ⌜ r ≡ (same (keyAt (now (keys .entry)) at) (now (key .entry)) && eqb (getD (now (rows .entry)) (8 * at) 0) version) ⌝ }
-{
-    let o = order_at(keys, at, key);
-    let first = 8 * at;
-    match o {
-        Order::Before => false,
-        Order::Same => rows[first] == version,
-        Order::After => false,
-    }
-}
-
-// Where the key's rows start or would start.
-fn key_place(rows: &[u64], keys: &[u8], used: usize, key: &[u8]) -> usize
-    requires { ⌜ Searchable (now rows) (now keys) used ⌝ }
-    ensures { λ r. ⌜ Within r (keyPlace (now (key .entry)) (rowsOf (now (rows .entry)) (now (keys .entry)) used)) used ⌝ }
-{
-    let first = first_rank(key);
-    let mut low = 0;
-    let mut high = used;
-    while low < high {
-        let middle = low + (high - low) / 2;
-        if key_before(keys, middle, key, first) {
-            low = middle + 1;
-        } else {
-            high = middle;
-        }
-    }
-    low
-}
-
-// Where the key's version stands or would stand.
-fn version_place(rows: &[u64], keys: &[u8], used: usize, key: &[u8], version: u64) -> usize
-    requires { ⌜ Searchable (now rows) (now keys) used ⌝ }
-    ensures { λ r. ⌜ Within r (versionPlace (now (key .entry)) version (rowsOf (now (rows .entry)) (now (keys .entry)) used)) used ⌝ }
-{
-    let first = first_rank(key);
-    let mut low = 0;
-    let mut high = used;
-    while low < high {
-        let middle = low + (high - low) / 2;
-        if row_ahead(rows, keys, middle, key, first, version) {
-            low = middle + 1;
-        } else {
-            high = middle;
-        }
-    }
-    low
 }
 
 // A key's current version, which is its first row, or the place where the key belongs.
@@ -262,14 +159,31 @@ pub fn find_current(rows: &[u64], keys: &[u8], used: usize, key: &[u8]) -> Found
     requires { ⌜ Searchable (now rows) (now keys) used ⌝ }
     ensures { λ r. ⌜ r ≡ currentIn (now (key .entry)) (rowsOf (now (rows .entry)) (now (keys .entry)) used) ⌝ }
 {
-    let at = key_place(rows, keys, used, key);
-    if used <= at {
-        return Found::Place(at);
+    let first = first_rank(key);
+    let mut low = 0;
+    let mut high = used;
+    let mut found = false;
+    while low < high {
+        let middle = low + (high - low) / 2;
+        let o = order_by_rank(keys, middle, key, first);
+        match o {
+            Order::Before => {
+                low = middle + 1;
+            }
+            Order::Same => {
+                high = middle;
+                found = true;
+            }
+            Order::After => {
+                high = middle;
+                found = false;
+            }
+        }
     }
-    if has_key(keys, at, key) {
-        return Found::At(at);
+    if found {
+        return Found::At(low);
     }
-    Found::Place(at)
+    Found::Place(low)
 }
 
 // A key's version, or the place where it belongs.
@@ -277,12 +191,32 @@ pub fn find_version(rows: &[u64], keys: &[u8], used: usize, key: &[u8], version:
     requires { ⌜ Searchable (now rows) (now keys) used ⌝ }
     ensures { λ r. ⌜ r ≡ versionIn (now (key .entry)) version (rowsOf (now (rows .entry)) (now (keys .entry)) used) ⌝ }
 {
-    let at = version_place(rows, keys, used, key, version);
-    if used <= at {
-        return Found::Place(at);
+    let first = first_rank(key);
+    let mut low = 0;
+    let mut high = used;
+    while low < high {
+        let middle = low + (high - low) / 2;
+        let o = order_by_rank(keys, middle, key, first);
+        match o {
+            Order::Before => {
+                low = middle + 1;
+            }
+            Order::Same => {
+                let at = 8 * middle;
+                let number = rows[at];
+                if number == version {
+                    return Found::At(middle);
+                }
+                if version < number {
+                    low = middle + 1;
+                } else {
+                    high = middle;
+                }
+            }
+            Order::After => {
+                high = middle;
+            }
+        }
     }
-    if has_version(rows, keys, at, key, version) {
-        return Found::At(at);
-    }
-    Found::Place(at)
+    Found::Place(low)
 }
