@@ -1,4 +1,3 @@
 pub mod Fates
 pub mod Days
-pub mod Rules
 pub mod Judging

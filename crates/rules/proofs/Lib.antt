@@ -1,0 +1,4 @@
+pub mod Parts
+pub mod Laying
+pub mod Choosing
+pub mod Tightening
