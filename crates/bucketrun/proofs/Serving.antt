@@ -67,7 +67,7 @@ module _ (n₀ b₀ out₀ block : List ℕ) where
     -- A line is served with the part of the output from `at` on.
     module _ (k : ℕ) (r : Served) (n′ b′ p : List ℕ) (h : at ≤ 65536) (q : served r n′ b′ p ≡ outcome s n b (take (i + k - i) (drop i block)) (midOf at (at + 65536 - at) out))
         (lp : length p ≡ length (midOf at (at + 65536 - at) out)) where
-      pub next-line : (vs out′ : List ℕ) (j w : ℕ) → Within k (feedAt (take (length block - i) (drop i block))) (length (take (length block - i) (drop i block))) → (i + k ≡ length block → ⊥)
+      pub next-line : (vs out′ : List ℕ) (j w : ℕ) → Within k (feedAt (take (length block - i) (drop i block))) (length (take (length block - i) (drop i block))) → i + k < length block
           → Wrote (putMid at (at + 65536 - at) out p) at vs 65536 out′ j → w ≤ j → length n′ ≡ length n → length b′ ≡ length b
           → Serving a end n₀ b₀ out₀ block (r .settings) n′ b′ out′ w (i + k + 1)
       next-line vs out′ j w e z v m ln lb =
@@ -94,11 +94,13 @@ module _ (n₀ b₀ out₀ block : List ℕ) where
 
 module _ (a : List ℕ) (h : Held) (n₀ b₀ out₀ block : List ℕ) (s : Settings) (n b out : List ℕ) (at i : ℕ) (g : Serving a (leave a h (linesOf block)) n₀ b₀ out₀ block s n b out at i) where
   -- No line feed is left.
-  pub lines-done : (k : ℕ) → Within k (feedAt (take (length block - i) (drop i block))) (length (take (length block - i) (drop i block))) → i + k ≡ length block
+  pub lines-done : (k : ℕ) → Within k (feedAt (take (length block - i) (drop i block))) (length (take (length block - i) (drop i block))) → length block ≤ i + k
       → Goes a h block (record { settings = s; at = at; served = i }) n b
   lines-done k e q =
+      let x = end-inside k (feedAt (take (length block - i) (drop i block))) i block (length block - i) e in
+      let z : i + k ≡ length block = omega (arith, g .inside) in
       let f : k ≡ feedAt (drop i block) = rw (rest-all i block) at (e .is) in
-      record { is-whole = g .is-whole; fits = g .fits; inside = g .inside; leads = g .leads; no-feed = λ x. ap (λ (j : ℕ). i + j) (sym f) ∙ q }
+      record { is-whole = g .is-whole; fits = g .fits; inside = g .inside; leads = g .leads; no-feed = λ x. ap (λ (j : ℕ). i + j) (sym f) ∙ z }
 
   -- Nobody takes the output.
   pub lines-stopped : 65536 < at → Goes a h block (record { settings = s; at = at; served = i }) n b

@@ -75,7 +75,7 @@ fn serve_lines(
     let mut i = 0;
     while waits <= ROOM {
         let end = i + text::line_length(&block[i..]);
-        if end == block.len() {
+        if block.len() <= end {
             break;
         }
         let next = end + 1;

@@ -3,7 +3,7 @@ use Prim.Native.Nat.{_+_, _-_}
 use lib.ListN.{length, take, drop}
 use Rattle.text.specs.Lines.{linesOf}
 use Rattle.bucketrun.specs.Course.{Serving, held, leave}
-use Rattle.bucketrun.proofs.Serving.{block-cases, line-room, part-most}
+use Rattle.bucketrun.proofs.Serving.{block-cases, line-room, next-line, part-most}
 use Rattle.engine.proofs.Serving.{answer-fits}
 use borrow.Author.Needs.{needs}
 use Rattle.bucketrun.proofs.serve_lines.Statement.{statement}
@@ -44,7 +44,7 @@ serve-lines-spec =
     print-requires
     (λ c κs. search (needs, block-cases))
     (λ c. search (needs, block-cases))
-    (λ c. search (needs, block-cases))
+    (λ c. search (needs, next-line))
     (λ c. search (needs, block-cases))
     (λ c. search (needs, block-cases))
     (λ c. search (needs, block-cases))
