@@ -10,7 +10,7 @@ use Rattle.buffers.specs.Choices.{pick, thenSome}
 use Rattle.settings.specs.declared.Settings.{Settings}
 use Rattle.request.specs.Grammar.{Said, readLine}
 use Rattle.outcome.specs.Outcome.{Outcome, refused, accepted, asked, refusalOf, outcome}
-use Rattle.bucketrun.specs.Course.{Held, holds}
+use Rattle.bucketrun.specs.Course.{holds}
 
 module _ (s : Settings) (n b line : List ℕ) where
   -- The outcome where the refusal is k and the buffer has m bytes.

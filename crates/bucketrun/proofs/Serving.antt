@@ -1,13 +1,16 @@
 -- Laws of the loops: what holds between two lines, and between two blocks.
 use Prim.Native.Nat.{ℕ, _+_, _*_, _-_, _≤_, _<_}
-use mathlib.Core.Path.{_≡_, refl, sym, _∙_, ap}
+use mathlib.Core.Path.{_≡_, refl, sym, _∙_, ap, subst⁻¹}
 use mathlib.Core.Bool.{true}
 use mathlib.Core.List.{List, _++_}
+use mathlib.Core.Option.{none}
 use native.Mathlib.Omega.{arith}
-use lib.ListN.{length, take, drop, replicate, length-take, length-drop}
-use lib.Seq.{length-take-le}
-use borrow.Rule.Slice.PartMut.{midOf, putMid}
-use Rattle.buffers.specs.Ranges.{Within}
+use lib.ListN.{length, take, drop, replicate, length-append, length-take, length-drop}
+use lib.Seq.{length-take-le, take-take}
+use borrow.Author.Tests.{lt-ltb}
+use borrow.Rule.Slice.PartMut.{midOf, putMid, same-len-mid}
+use Rattle.buffers.specs.Ranges.{Within, Span}
+use Rattle.buffers.specs.Writes.{Wrote}
 use Rattle.buffers.specs.Moves.{movedDown}
 use Rattle.text.specs.Lines.{linesOf, feedAt}
 use Rattle.text.proofs.Lines.{lines-at}
@@ -16,31 +19,27 @@ use Rattle.settings.specs.declared.Settings.{Settings}
 use Rattle.settings.specs.Changes.{Fresh}
 use Rattle.bucket.specs.Whole.{whole}
 use Rattle.bucket.proofs.Whole.{fresh-whole}
-use Rattle.outcome.specs.Outcome.{outcome}
+use Rattle.request.specs.Grammar.{readLine}
+use Rattle.outcome.specs.Outcome.{Outcome, outcome}
+use Rattle.outcome.proofs.Room.{end-inside}
 use Rattle.outcome.proofs.Kept.{outcome-whole}
-use Rattle.bucketrun.specs.declared.Answered.{Answered}
+use Rattle.engine.specs.declared.Served.{Served}
+use Rattle.engine.specs.Served.{served}
 use Rattle.bucketrun.specs.declared.Block.{Block}
-use Rattle.bucketrun.specs.Printed.{Answers}
 use Rattle.bucketrun.specs.Course.{Ready, Held, held, holds, leave, Goes, Kept, Left, Runs, Serving, Running}
 use Rattle.bucketrun.proofs.Room.{same-left}
 
--- A line leaves a whole bucket.
-still-whole : (s : Settings) (n b line out : List ℕ) (at : ℕ) (r : Answered) (n′ b′ out′ : List ℕ) → whole s n b ≡ true → Answers s n b line out at r n′ b′ out′ → whole (r .settings) n′ b′ ≡ true
-still-whole s n b line out at r n′ b′ out′ w a = rw (a .settings-are, a .numbers-are, a .keys-are) (outcome-whole s n b line (take 65536 (drop at out)) w)
-
 -- ## The lines of a block
-
--- A line's end lies within the block.
-pub end-inside : (k v i : ℕ) (l : List ℕ) (m : ℕ) → Within k v (length (take m (drop i l))) → k ≤ m
-end-inside k v i l m w = let e = length-take m (drop i l) in omega (arith, w .most)
 
 part-wide : (out : List ℕ) (at : ℕ) → at ≤ 65536 → length out ≡ 131072 → length (take 65536 (drop at out)) ≡ 65536
 part-wide out at h l = length-take-le 65536 (drop at out) (rw length-drop (omega arith))
 
--- What a line left, with any answer buffer of that length.
-left-as : (s : Settings) (n b line out a : List ℕ) (at : ℕ) (r : Answered) (n′ b′ out′ : List ℕ) → length a ≡ length (take 65536 (drop at out)) → Answers s n b line out at r n′ b′ out′
-    → holds (outcome s n b line a) ≡ held (r .settings) n′ b′
-left-as s n b line out a at r n′ b′ out′ e w = same-left s n b line a (take 65536 (drop at out)) e ∙ rw (w .settings-are, w .numbers-are, w .keys-are)
+-- The part of the output that a line is lent.
+room-part : (out : List ℕ) (at : ℕ) → midOf at (at + 65536 - at) out ≡ take 65536 (drop at out)
+room-part out at = let w : at + 65536 - at ≡ 65536 = omega arith in rw w
+
+pub part-most : (a l : List ℕ) (k : ℕ) → length a ≡ length (take k l) → length a ≤ k
+part-most a l k e = let q : length a ≡ _ = e ∙ length-take k l in omega arith
 
 module _ (n₀ b₀ out₀ block : List ℕ) where
   pub first-line : (s : Settings) (at : ℕ) → Ready s n₀ b₀ out₀ at
@@ -59,41 +58,49 @@ module _ (n₀ b₀ out₀ block : List ℕ) where
       }
 
   module _ (a : List ℕ) (end : Held) (s : Settings) (n b out : List ℕ) (at i : ℕ) (g : Serving a end n₀ b₀ out₀ block s n b out at i) where
-    pub line-ready : at ≤ 65536 → Ready s n b out at
-    line-ready h = record { is-whole = g .is-whole; fits = h; long = g .long }
+    pub line-room : at ≤ 65536 → at + 65536 ≤ length out
+    line-room h = omega (arith, g .long)
 
-    pub next-line : (k : ℕ) (r : Answered) (n′ b′ out′ : List ℕ) (w : ℕ) → at ≤ 65536
-        → Within k (feedAt (take (length block - i) (drop i block))) (length (take (length block - i) (drop i block))) → (i + k ≡ length block → ⊥)
-        → Answers s n b (take (i + k - i) (drop i block)) out at r n′ b′ out′ → w ≤ r .at → length n′ ≡ length n → length b′ ≡ length b → length out′ ≡ length out
-        → Serving a end n₀ b₀ out₀ block (r .settings) n′ b′ out′ w (i + k + 1)
-    next-line k r n′ b′ out′ w h e z q m ln lb lo =
-        let x = end-inside k (feedAt (take (length block - i) (drop i block))) i block (length block - i) e in
-        let y = g .inside in
-        let f : k ≡ feedAt (drop i block) = rw (rest-all i block) at (e .is) in
-        let p : i + k - i ≡ k = omega arith in
-        let v : Answers s n b (take k (drop i block)) out at r n′ b′ out′ = rw p at q in
-        let u : length a ≡ length (take 65536 (drop at out)) = g .wide ∙ sym (part-wide out at h (g .long)) in
-        record {
-          leads =
-              g .leads ∙ ap (leave a (held s n b)) (lines-at block i k (omega arith) f)
-              ∙ ap (λ (o : Held). leave a o (linesOf (drop (i + k + 1) block))) (left-as s n b (take k (drop i block)) out a at r n′ b′ out′ u v);
-          wide = g .wide;
-          is-whole = still-whole s n b (take k (drop i block)) out at r n′ b′ out′ (g .is-whole) v;
-          fits = omega (arith, v .prints .most);
-          inside = omega arith;
-          long = lo ∙ g .long;
-          numbers-same = ln ∙ g .numbers-same;
-          keys-same = lb ∙ g .keys-same;
-          out-same = lo ∙ g .out-same;
-        }
+    pub line-whole : whole s n b ≡ true
+    line-whole = g .is-whole
+
+    -- A line is served with the part of the output from `at` on.
+    module _ (k : ℕ) (r : Served) (n′ b′ p : List ℕ) (h : at ≤ 65536) (q : served r n′ b′ p ≡ outcome s n b (take (i + k - i) (drop i block)) (midOf at (at + 65536 - at) out))
+        (lp : length p ≡ length (midOf at (at + 65536 - at) out)) where
+      pub next-line : (vs out′ : List ℕ) (j w : ℕ) → Within k (feedAt (take (length block - i) (drop i block))) (length (take (length block - i) (drop i block))) → i + k < length block
+          → Wrote (putMid at (at + 65536 - at) out p) at vs 65536 out′ j → w ≤ j → length n′ ≡ length n → length b′ ≡ length b
+          → Serving a end n₀ b₀ out₀ block (r .settings) n′ b′ out′ w (i + k + 1)
+      next-line vs out′ j w e z v m ln lb =
+          let x = end-inside k (feedAt (take (length block - i) (drop i block))) i block (length block - i) e in
+          let y = g .inside in
+          let f : k ≡ feedAt (drop i block) = rw (rest-all i block) at (e .is) in
+          let d : i + k - i ≡ k = omega arith in
+          let o : served r n′ b′ p ≡ outcome s n b (take k (drop i block)) (take 65536 (drop at out)) = rw (d, room-part out at) at q in
+          let u : length a ≡ length (take 65536 (drop at out)) = g .wide ∙ sym (part-wide out at h (g .long)) in
+          let lo : length out′ ≡ length out = v .long ∙ same-len-mid at (at + 65536 - at) out p lp in
+          record {
+            leads =
+                g .leads ∙ ap (leave a (held s n b)) (lines-at block i k (omega arith) f)
+                ∙ ap (λ (y : Held). leave a y (linesOf (drop (i + k + 1) block))) (same-left s n b (take k (drop i block)) a (take 65536 (drop at out)) u ∙ sym (ap holds o));
+            wide = g .wide;
+            is-whole = subst⁻¹ (λ (y : Outcome). whole (y .settings) (y .numbers) (y .keys) ≡ true) o (outcome-whole s n b (take k (drop i block)) (take 65536 (drop at out)) (g .is-whole));
+            fits = omega (arith, v .most);
+            inside = omega arith;
+            long = lo ∙ g .long;
+            numbers-same = ln ∙ g .numbers-same;
+            keys-same = lb ∙ g .keys-same;
+            out-same = lo ∙ g .out-same;
+          }
 
 module _ (a : List ℕ) (h : Held) (n₀ b₀ out₀ block : List ℕ) (s : Settings) (n b out : List ℕ) (at i : ℕ) (g : Serving a (leave a h (linesOf block)) n₀ b₀ out₀ block s n b out at i) where
   -- No line feed is left.
-  pub lines-done : (k : ℕ) → Within k (feedAt (take (length block - i) (drop i block))) (length (take (length block - i) (drop i block))) → i + k ≡ length block
+  pub lines-done : (k : ℕ) → Within k (feedAt (take (length block - i) (drop i block))) (length (take (length block - i) (drop i block))) → length block ≤ i + k
       → Goes a h block (record { settings = s; at = at; served = i }) n b
   lines-done k e q =
+      let x = end-inside k (feedAt (take (length block - i) (drop i block))) i block (length block - i) e in
+      let z : i + k ≡ length block = omega (arith, g .inside) in
       let f : k ≡ feedAt (drop i block) = rw (rest-all i block) at (e .is) in
-      record { is-whole = g .is-whole; fits = g .fits; inside = g .inside; leads = g .leads; no-feed = λ x. ap (λ (j : ℕ). i + j) (sym f) ∙ q }
+      record { is-whole = g .is-whole; fits = g .fits; inside = g .inside; leads = g .leads; no-feed = λ x. ap (λ (j : ℕ). i + j) (sym f) ∙ z }
 
   -- Nobody takes the output.
   pub lines-stopped : 65536 < at → Goes a h block (record { settings = s; at = at; served = i }) n b
@@ -104,16 +111,39 @@ module _ (a : List ℕ) (h : Held) (n₀ b₀ out₀ block : List ℕ) (s : Sett
 kept-moved : (input : List ℕ) (from to : ℕ) (ys : List ℕ) → ys ≡ movedDown from (midOf 0 (to - 0) input) → putMid 0 (to - 0) input ys ≡ movedDown from (take to input) ++ drop to input
 kept-moved input from to ys e = let z : to - 0 ≡ to = omega arith in rw (e, z)
 
-module _ (input : List ℕ) (from to : ℕ) (ys : List ℕ) (e : ys ≡ movedDown from (midOf 0 (to - 0) input)) where
+-- A line of more than 512 bytes reads as nothing.
+long-unread : (l : List ℕ) → 512 < length l → readLine l ≡ none
+unfolding readLine
+long-unread l h = simp (lt-ltb _ _ h)
+
+cut-reads : (l rest : List ℕ) → 513 ≤ length l → readLine (take 513 l ++ rest) ≡ readLine (l ++ rest)
+cut-reads l rest h =
+    let n : length (take 513 l) ≡ 513 = length-take-le 513 l h in
+    long-unread (take 513 l ++ rest) (rw length-append (omega arith)) ∙ sym (long-unread (l ++ rest) (rw length-append (omega arith)))
+
+module _ (input : List ℕ) (from to : ℕ) (ys : List ℕ) (h : Span from to (length input)) (e : ys ≡ movedDown from (midOf 0 (to - 0) input)) where
+  long : length (take (to - from) (drop from input)) ≡ to - from
+  long = length-take-le (to - from) (drop from input) (rw length-drop (omega (arith, h .from, h .to)))
+
   pub kept-all : to - from < 513 → Kept input from to (putMid 0 (to - 0) input ys) (to - from)
-  kept-all h = record { moved = kept-moved input from to ys e; count = record { is = omega arith; most = omega arith } }
+  kept-all l =
+      record {
+        moved = kept-moved input from to ys e;
+        count = record { is = omega arith; most = omega arith };
+        reads = λ rest. ap (λ (x : List ℕ). readLine (x ++ rest)) (take-take (to - from) (to - from) (drop from input) (omega arith));
+      }
 
   pub kept-cut : 513 ≤ to - from → Kept input from to (putMid 0 (to - 0) input ys) 513
-  kept-cut h = record { moved = kept-moved input from to ys e; count = record { is = omega arith; most = omega arith } }
+  kept-cut l =
+      record {
+        moved = kept-moved input from to ys e;
+        count = record { is = omega arith; most = omega arith };
+        reads = λ rest. cut-reads (take (to - from) (drop from input)) rest (omega (arith, long));
+      }
 
 pub ruleset keep-cases = (kept-all, kept-cut)
 
-pub ruleset block-cases = (end-inside, first-line, line-ready, next-line, lines-done, lines-stopped)
+pub ruleset block-cases = (end-inside, first-line, line-whole, line-room, next-line, lines-done, lines-stopped)
 
 -- ## The run
 

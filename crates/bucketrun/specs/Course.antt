@@ -9,6 +9,7 @@ use Rattle.buffers.specs.Moves.{movedDown}
 use Rattle.text.specs.Lines.{linesOf, feedAt}
 use Rattle.settings.specs.declared.Settings.{Settings}
 use Rattle.bucket.specs.Whole.{whole}
+use Rattle.request.specs.Grammar.{readLine}
 use Rattle.outcome.specs.Outcome.{Outcome, outcome}
 use Rattle.bucketrun.specs.declared.Course.{Course as After}
 use Rattle.bucketrun.specs.declared.Block.{Block}
@@ -45,10 +46,11 @@ pub record Goes (a : List ℕ) (h : Held) (block : List ℕ) (r : After) (number
   pub leads : leave a h (linesOf block) ≡ leave a (held (r .settings) numbers keys) (linesOf (drop (r .served) block))
   pub no-feed : r .at ≤ 65536 → r .served + feedAt (drop (r .served) block) ≡ length block
 
--- The bytes between two places are at the front, and r of them are a line's: a line of more than 512 bytes is refusal 3 whatever it holds.
+-- The bytes between two places are at the front, and r of them are kept: whatever comes behind them, the line reads the same.
 pub record Kept (input : List ℕ) (from to : ℕ) (exit : List ℕ) (r : ℕ) : Type 0 where
   pub moved : exit ≡ movedDown from (take to input) ++ drop to input
   pub count : Within r (min (to - from) 513) 513
+  pub reads : (rest : List ℕ) → readLine (take r (take (to - from) (drop from input)) ++ rest) ≡ readLine (take (to - from) (drop from input) ++ rest)
 
 -- A block is served, and the start of a line may be kept.
 pub record Left (r : Block) (numbers keys : List ℕ) : Type 0 where

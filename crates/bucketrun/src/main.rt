@@ -3,11 +3,11 @@ use libc::STDIN_FILENO;
 use libc::STDOUT_FILENO;
 use settings::Settings;
 ghost use mathlib.Core.Path.{_≡_};
-ghost use Prim.Native.Nat.{_+_, _≤_};
+ghost use Prim.Native.Nat.{_+_, _≤_, _<_};
 ghost use lib.ListN.{length, take, drop, replicate};
 ghost use Rattle.buffers.specs.Ranges.{Span};
 ghost use Rattle.buffers.specs.Writes.{Wrote};
-ghost use Rattle.bucketrun.specs.Printed.{refusalText, Answers};
+ghost use Rattle.bucketrun.specs.Printed.{printed};
 ghost use Rattle.bucketrun.specs.Course.{Ready, held, Goes, Kept, Left, Runs};
 
 // The length of the answer buffer; no more output than that waits when a line comes.
@@ -15,12 +15,6 @@ const ROOM: usize = 65536;
 
 // A line of more bytes than this is read as this many: it is refusal 3 whatever it holds.
 const LONGEST: usize = 513;
-
-// After a line: the settings, and how many bytes of output wait.
-pub struct Answered {
-    pub settings: Settings,
-    pub at: usize,
-}
 
 // After the lines of a block: the settings, how many bytes of output wait, and how many of the block are served.
 pub struct Course {
@@ -36,43 +30,18 @@ pub struct Block {
     pub kept: usize,
 }
 
-// Writes `no`, tab, number, line feed, and returns the place after it.
-fn refuse(out: &mut [u8], at: usize, number: u64) -> usize
-    requires { ⌜ at + 24 ≤ length (now out) ⌝ }
-    ensures { λ r. ⌜ Wrote (now (out .entry)) at (refusalText number) 24 (now (out .exit)) r ⌝ }
+// What a line prints stands where it goes out from: its answer does so already, a refusal is written there. Returns the place after it.
+fn print(out: &mut [u8], at: usize, number: u64, len: usize) -> usize
+    requires { ⌜ at + 65536 ≤ length (now out) ⌝ }
+    requires { ⌜ len ≤ 65536 ⌝ }
+    ensures { λ r. ⌜ Wrote (now (out .entry)) at (printed number (take len (drop at (now (out .entry))))) 65536 (now (out .exit)) r ⌝ }
 {
+    if number == 0 {
+        return at + len;
+    }
     let after_no = buffers::copy_in(out, at, b"no\t");
     let after_number = text::print_number(out, after_no, number);
     buffers::copy_in(out, after_number, b"\n")
-}
-
-// Serves a line; what it prints is written where it goes out from.
-fn answer_line(
-    s: Settings,
-    rows: &mut [u64],
-    keys: &mut [u8],
-    line: &[u8],
-    out: &mut [u8],
-    at: usize,
-) -> Answered
-    requires { ⌜ Ready s (now rows) (now keys) (now out) at ⌝ }
-    ensures { λ r. ⌜ Answers s (now (rows .entry)) (now (keys .entry)) (now (line .entry)) (now (out .entry)) at r (now (rows .exit)) (now (keys .exit)) (now (out .exit)) ⌝ }
-{
-    let end = at + ROOM;
-    let r = engine::serve_whole(s, rows, keys, line, &mut out[at..end]);
-    let accepted = at + r.length;
-    let settings = r.settings;
-    if r.number == 0 {
-        return Answered {
-            settings,
-            at: accepted,
-        };
-    }
-    let refused = refuse(out, at, r.number);
-    Answered {
-        settings,
-        at: refused,
-    }
 }
 
 // Writes the output that waits where a line's answer would not fit behind it; it stays where nobody takes it.
@@ -106,13 +75,15 @@ fn serve_lines(
     let mut i = 0;
     while waits <= ROOM {
         let end = i + text::line_length(&block[i..]);
-        if end == block.len() {
+        if block.len() <= end {
             break;
         }
         let next = end + 1;
-        let r = answer_line(after, rows, keys, &block[i..end], out, waits);
+        let room = waits + ROOM;
+        let r = engine::serve_whole(after, rows, keys, &block[i..end], &mut out[waits..room]);
         after = r.settings;
-        waits = make_room(out, r.at);
+        let behind = print(out, waits, r.number, r.length);
+        waits = make_room(out, behind);
         i = next;
     }
     Course {
@@ -122,13 +93,21 @@ fn serve_lines(
     }
 }
 
-// Reads behind the bytes that are kept, and returns the place after what came.
+// Reads behind the bytes that are kept, and returns the place after what came; at the input's end a line feed ends what is kept.
 fn read_behind(input: &mut [u8], kept: usize) -> usize
-    requires { ⌜ kept ≤ length (now input) ⌝ }
+    requires { ⌜ kept < length (now input) ⌝ }
     ensures { λ r. ⌜ Span kept r (length (now (input .entry))) ⌝ }
 {
     let got = libc::read(STDIN_FILENO, &mut input[kept..]);
-    kept + io::count(got, &input[kept..])
+    let count = io::count(got, &input[kept..]);
+    if count > 0 {
+        return kept + count;
+    }
+    if kept == 0 {
+        return 0;
+    }
+    input[kept] = b'\n';
+    kept + 1
 }
 
 // Moves the bytes from `from` to `to` to the front, and returns how many of them a line needs.
@@ -168,19 +147,6 @@ fn serve_block(
     }
 }
 
-// Serves what stands behind the last line feed, and writes the output that waits.
-fn finish(s: Settings, rows: &mut [u64], keys: &mut [u8], line: &[u8], out: &mut [u8], at: usize)
-    requires { ⌜ Ready s (now rows) (now keys) (now out) at ⌝ }
-{
-    if line.len() > 0 {
-        let r = answer_line(s, rows, keys, line, out, at);
-        let end = r.at;
-        io::write_all(STDOUT_FILENO, &out[0..end]);
-        return;
-    }
-    io::write_all(STDOUT_FILENO, &out[0..at]);
-}
-
 // Nothing says that the input ends, and a proved loop has to: it counts down from a number that no run uses up.
 fn run(s: Settings, input: &mut [u8], rows: &mut [u64], keys: &mut [u8], out: &mut [u8])
     requires { ⌜ Runs s (now input) (now rows) (now keys) (now out) ⌝ }
@@ -192,7 +158,7 @@ fn run(s: Settings, input: &mut [u8], rows: &mut [u64], keys: &mut [u8], out: &m
     while turns > 0 && at <= ROOM {
         let end = read_behind(input, kept);
         if end == kept {
-            finish(after, rows, keys, &input[0..kept], out, at);
+            io::write_all(STDOUT_FILENO, &out[0..at]);
             return;
         }
         let block = serve_block(after, input, rows, keys, out, at, end);

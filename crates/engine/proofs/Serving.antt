@@ -1,6 +1,6 @@
 -- A line served: refused, set, or a step and the settings after it.
 use Prim.Native.Nat.{ℕ, _≤_, _<_, max}
-use mathlib.Core.Path.{_≡_, refl, sym, _∙_, ap}
+use mathlib.Core.Path.{_≡_, refl, sym, _∙_, ap, subst⁻¹}
 use mathlib.Core.Bool.{Bool, true, false, _&&_}
 use mathlib.Core.List.{List}
 use mathlib.Core.Option.{some}
@@ -29,6 +29,7 @@ use Rattle.verdict.specs.State.{bucketBy, rowsIn}
 use Rattle.judge.specs.Premises.{both, Asked, isSweep}
 use Rattle.outcome.specs.Outcome.{Outcome, refused, asked, outcome}
 use Rattle.outcome.specs.Steps.{done}
+use Rattle.outcome.proofs.Room.{outcome-fits}
 use Rattle.outcome.proofs.Deciding.{outcome-1, outcome-2, outcome-3, outcome-said}
 use Rattle.configure.specs.Configured.{isSetting, Settable}
 use Rattle.configure.proofs.Configuring.{unset}
@@ -123,5 +124,9 @@ whole-rules s n b w = record { prefixes = (whole-parts s n b w) .prefixes; sound
 
 pub whole-at : (s : Settings) (n b : List ℕ) (w : Bool) → w ≡ whole s n b → w ≡ true → whole s n b ≡ true
 whole-at s n b w e f = sym e ∙ f
+
+-- For callers: the answer stands within its buffer.
+pub answer-fits : (s : Settings) (n b line a n′ b′ a′ : List ℕ) (r : Served) → served r n′ b′ a′ ≡ outcome s n b line a → r .length ≤ length a′
+answer-fits s n b line a n′ b′ a′ r q = subst⁻¹ (λ (o : Outcome). o .length ≤ length (o .answer)) q (outcome-fits s n b line a)
 
 pub ruleset lines = (whole-at, whole-rules, line-1, line-2, line-3, line-settable, line-actable, line-sweeps, line-screened, line-set, line-acted, line-swept)

@@ -1,6 +1,6 @@
 -- `run` meets its contract.
 use Rattle.bucketrun.specs.Course.{Running}
-use Rattle.bucketrun.proofs.Serving.{run-cases, next-block}
+use Rattle.bucketrun.proofs.Serving.{run-cases}
 use borrow.Author.Needs.{needs}
 use Rattle.bucketrun.proofs.run.Statement.{statement}
 use Rattle.bucketrun.proofs.run.Tie as tie
@@ -32,7 +32,7 @@ run-spec =
     (λ c κs. search (needs, run-cases))
     (λ c. search (needs, run-cases))
     (λ c. search (needs, run-cases))
-    (λ c. let g = c .before .before .before .before .before .before .before .before .before .before .before .before .before .before .before .before .before .before .before .before .before .loop .inv in search (needs, next-block, g))
+    (λ c. search (needs, run-cases))
     (λ c. search (needs, run-cases))
     (λ c. search (needs, run-cases))
     (λ c. search (needs, run-cases))

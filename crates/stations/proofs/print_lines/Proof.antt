@@ -2,7 +2,7 @@
 use Prim.Native.Nat.{_+_, _-_, _≤_}
 use mathlib.Core.Path.{_≡_}
 use lib.ListN.{length}
-use Rattle.stations.proofs.Printing.{end-inside}
+use Rattle.outcome.proofs.Room.{end-inside}
 use borrow.Author.Needs.{needs}
 use Rattle.stations.proofs.print_lines.Statement.{statement}
 use Rattle.stations.proofs.print_lines.Tie as tie
