@@ -1,5 +1,5 @@
 -- The fates carried out are the model's sweep, and what they count is what it counts.
-use Prim.Native.Nat.{ℕ, _+_, _≤_, _<_}
+use Prim.Native.Nat.{ℕ, _+_}
 use mathlib.Core.Path.{_≡_, refl, ap}
 use mathlib.Core.Logic.{inl, inr}
 use mathlib.Core.List.{List, [], _∷_, _++_}
@@ -12,11 +12,6 @@ use Rattle.model.specs.Rows.{Row}
 use Rattle.model.specs.Settings.{Rule}
 use Rattle.model.specs.Sweep.{Fate, fate, inPlace, marks, removes, swept, counted}
 use Rattle.lifecycle.specs.Fates.{fateOf, fatesIn, fates, total, carriedOut}
-use native.Mathlib.Numerals.{add-one}
-use lib.ListN.{length, getD, take}
-use lib.Seq.{take-suc}
-use Rattle.buffers.specs.Ranges.{Within}
-use Rattle.lifecycle.specs.Judging.{Counted}
 
 pub carried-out : (rules : List Rule) (judge stamp n : ℕ) (y : Option Row) (xs : List Row)
     → carriedOut stamp n (fates rules judge y xs) xs ≡ swept rules (record { judge = judge; stamp = stamp }) n y xs
@@ -54,27 +49,3 @@ fates-append (f ∷ fs) gs = ap (λ (l : List Fate). fateOf f ∷ l) (fates-appe
 pub total-append : (of : Fate → ℕ) (fs gs : List Fate) → total of (fs ++ gs) ≡ total of fs + total of gs
 total-append of [] gs = omega arith
 total-append of (f ∷ fs) gs = let e = total-append of fs gs in omega arith
-
--- ## Counting the fates
-
-total-more : (of : Fate → ℕ) (m : List ℕ) (i c r : ℕ) → i < length m → Within c (total of (fatesIn (take i m))) i → Within r (of (fateOf (getD m i 0))) 1
-    → Within (c + r) (total of (fatesIn (take (i + 1) m))) (i + 1)
-total-more of m i c r h x y =
-    record {
-      is = let e = total-append of (fatesIn (take i m)) (fateOf (getD m i 0) ∷ []) in rw (add-one i, take-suc m i 0 h, fates-append) (omega (arith, x .is, y .is));
-      most = omega (arith, x .most, y .most);
-    }
-
-pub count-start : (m : List ℕ) → Counted m 0 0 0
-count-start m = record { gone = record { is = refl; most = omega arith }; come = record { is = refl; most = omega arith } }
-
-module _ (m : List ℕ) (i c d : ℕ) (h : Counted m i c d) where
-  pub count-step : (r s u : ℕ) → i < u → u ≤ length m → Within r (removes (fateOf (getD m i 0))) 1 → Within s (marks (fateOf (getD m i 0))) 1 → Counted m (i + 1) (c + r) (d + s)
-  count-step r s u g k x y =
-      let q : i < length m = omega arith in
-      record { gone = total-more removes m i c r q (h .gone) x; come = total-more marks m i d s q (h .come) y }
-
-  pub count-end : (u : ℕ) → i ≤ u → u ≤ i → Counted m u c d
-  count-end u g k = let e : i ≡ u = omega arith in rw e at h
-
-pub ruleset count-cases = (count-start, count-step, count-end)

@@ -1,5 +1,5 @@
 pub mod Days
+pub mod Rules
 pub mod Words
 pub mod Fates
-pub mod RowFates
 pub mod Judging

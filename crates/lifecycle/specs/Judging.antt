@@ -19,12 +19,11 @@ use Rattle.settings.specs.declared.Rule.{Rule}
 use Rattle.settings.specs.Meaning.{rulesMean, prefixesAre}
 use Rattle.table.specs.Layout.{rowAt}
 use Rattle.table.specs.Places.{numbersIn, keyAt}
-use Rattle.rules.specs.declared.Limits.{Limits}
-use Rattle.rules.specs.declared.KeyRules.{KeyRules}
-use Rattle.rules.specs.Least.{limitsOf}
-use Rattle.rules.specs.Flat.{ChosenBy}
+use Rattle.lifecycle.specs.declared.Limits.{Limits}
 use Rattle.lifecycle.specs.declared.Counts.{Counts}
-use Rattle.lifecycle.specs.Days.{over, fewDays}
+use Rattle.lifecycle.specs.declared.KeyRules.{KeyRules}
+use Rattle.lifecycle.specs.Days.{limitsOf, over, fewDays}
+use Rattle.lifecycle.specs.Rules.{ChosenBy}
 use Rattle.lifecycle.specs.Fates.{fateOf, fatesIn, fates, total}
 
 -- ## A row's fate by its key's days

@@ -1,3 +1,4 @@
 pub mod Fates
 pub mod Days
+pub mod Rules
 pub mod Judging

@@ -2,7 +2,7 @@
 use Prim.Native.Nat.{_-_, _≤_, _<_}
 use lib.ListN.{length}
 use Rattle.lifecycle.specs.Judging.{Counted}
-use Rattle.lifecycle.proofs.Fates.{count-cases}
+use Rattle.lifecycle.proofs.Judging.{count-cases}
 use borrow.Author.Needs.{needs}
 use Rattle.lifecycle.proofs.count.Statement.{statement}
 use Rattle.lifecycle.proofs.count.Tie as tie

@@ -9,9 +9,9 @@ use Rattle.buffers.specs.Writes.{placed}
 use Rattle.model.specs.Settings as model
 use Rattle.model.specs.Settings.{isSet}
 use Rattle.table.specs.Places.{keyAt}
-use Rattle.rules.specs.declared.Chosen.{Chosen}
-use Rattle.rules.specs.declared.KeyRules.{KeyRules}
-use Rattle.rules.specs.Least.{limitsOf}
+use Rattle.lifecycle.specs.declared.Chosen.{Chosen}
+use Rattle.lifecycle.specs.declared.KeyRules.{KeyRules}
+use Rattle.lifecycle.specs.Days.{limitsOf}
 
 -- the rule at a place
 abbrev pub ruleIn : List ℕ → List ℕ → ℕ → model.Rule

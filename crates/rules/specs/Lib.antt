@@ -1,2 +1,0 @@
-pub mod Least
-pub mod Flat
