@@ -5,7 +5,7 @@ use mathlib.Core.Bool.{true}
 use mathlib.Core.List.{List, _++_}
 use mathlib.Core.Option.{none}
 use native.Mathlib.Omega.{arith}
-use lib.ListN.{length, take, drop, replicate, length-append, length-take, length-drop}
+use lib.ListN.{length, take, drop, replicate, length-append, length-take, length-drop, length-replicate}
 use lib.Seq.{length-take-le, take-take}
 use borrow.Author.Tests.{lt-ltb}
 use borrow.Rule.Slice.PartMut.{midOf, putMid, same-len-mid}
@@ -151,8 +151,12 @@ pub ruleset block-cases = (end-inside, first-line, line-whole, line-room, next-l
 zeros-whole : (s : Settings) (c x y : ℕ) (n b : List ℕ) → Fresh s → 1 ≤ c → c ≤ 1024 → x ≡ 8 * c → y ≡ 64 * c → n ≡ replicate x 0 → b ≡ replicate y 0 → whole s n b ≡ true
 zeros-whole s c x y n b f some most ex ey en eb = rw (en, eb, ex, ey) (fresh-whole s c f some most)
 
-pub may-run : (s : Settings) (input n b out : List ℕ) → Fresh s → length input ≡ 66560 → n ≡ replicate 8192 0 → b ≡ replicate 65536 0 → length out ≡ 131072 → Runs s input n b out
-may-run s input n b out f li en eb lo = record { is-whole = zeros-whole s 1024 8192 65536 n b f (omega arith) (omega arith) refl refl en eb; input-long = li; long = lo }
+zeros-long : (l : List ℕ) (k : ℕ) → l ≡ replicate k 0 → length l ≡ k
+zeros-long l k e = rw e (length-replicate k 0)
+
+pub may-run : (s : Settings) (input n b out : List ℕ) → Fresh s → input ≡ replicate 66560 0 → n ≡ replicate 8192 0 → b ≡ replicate 65536 0 → out ≡ replicate 131072 0 → Runs s input n b out
+may-run s input n b out f ei en eb eo =
+    record { is-whole = zeros-whole s 1024 8192 65536 n b f (omega arith) (omega arith) refl refl en eb; input-long = zeros-long input 66560 ei; long = zeros-long out 131072 eo }
 
 module _ (input₀ n₀ b₀ out₀ : List ℕ) where
   pub first-block : (s : Settings) → Runs s input₀ n₀ b₀ out₀ → Running input₀ n₀ b₀ out₀ s input₀ n₀ b₀ out₀ 0 0

@@ -185,14 +185,14 @@ fn no_keys() -> [u8; 65536]
 
 // A block of input, and a line that began before it.
 fn no_input() -> [u8; 66560]
-    ensures { λ r. ⌜ length r ≡ 66560 ⌝ }
+    ensures { λ r. ⌜ r ≡ replicate 66560 0 ⌝ }
 {
     [0; 66560]
 }
 
 // The output that waits, and a line's answer behind it.
 fn no_output() -> [u8; 131072]
-    ensures { λ r. ⌜ length r ≡ 131072 ⌝ }
+    ensures { λ r. ⌜ r ≡ replicate 131072 0 ⌝ }
 {
     [0; 131072]
 }

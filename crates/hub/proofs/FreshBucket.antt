@@ -1,54 +1,27 @@
--- A fresh bucket over bytes: what is returned, and that the bytes read as fresh settings and zeros, on which the first line is served.
-use Prim.Native.Nat.{ℕ, _*_, _/_, _%_, _≤_}
+-- A fresh bucket over bytes: what is returned, and that the bytes read as fresh settings and zeros.
+use Prim.Native.Nat.{ℕ, _*_, _%_, _≤_}
 use mathlib.Core.Path.{_≡_, refl, sym, _∙_}
-use mathlib.Core.Logic.{_⊎_, inl, inr}
 use mathlib.Core.Bool.{true}
 use mathlib.Core.List.{List}
 use native.Mathlib.Omega.{arith}
-use lib.Dec.{eqb, ltb}
-use lib.ListN.{length, replicate, length-replicate}
+use lib.ListN.{length, replicate}
 use borrow.Author.Tests.{eq-eqb, le-ltb}
-use Rattle.buffers.proofs.Tests.{either}
 use Rattle.text.specs.Keys.{isPrefix}
 use Rattle.blocks.specs.Blocks.{blockOf, isBlock}
 use Rattle.model.specs.Settings.{soundConfig, soundRules}
 use Rattle.settings.specs.Bytes.{settingsOf, settingsBytes}
 use Rattle.settings.specs.Changes.{Fresh}
 use Rattle.settings.specs.Meaning.{settingsSound}
-use Rattle.settings.proofs.RoundTrip.{settings-length, settings-back}
+use Rattle.settings.proofs.RoundTrip.{settings-back}
 use Rattle.bucket.specs.Whole.{whole}
 use Rattle.bucket.proofs.Whole.{fresh-whole}
-use Rattle.outcome.specs.Outcome.{outcome}
-use Rattle.hub.specs.Bytes.{numbersFrom, outcomeBytes, hubServed, freshSettings, freshOutcome, hubFresh}
+use Rattle.hub.specs.Bytes.{numbersFrom, freshSettings, freshOutcome, hubFresh}
 use Rattle.hub.proofs.Numbers.{zeros-read}
 use Rattle.hub.proofs.Fits.{whole-fits}
-use Rattle.hub.proofs.Hub.{reads-as}
 
 fresh-fresh : Fresh freshSettings
 unfolding blockOf isBlock isPrefix settingsSound soundConfig soundRules
 fresh-fresh = record { means = refl; unused = refl; sound = refl }
-
--- A fresh bucket was made, or every byte is as it was and the number is 1.
-pub fresh-ways : (settings rows keys : List ℕ) → (hubFresh settings rows keys ≡ freshOutcome 1 settings rows keys)
-    ⊎ (hubFresh settings rows keys ≡ freshOutcome 0 (settingsBytes freshSettings) (replicate (length rows) 0) (replicate (length keys) 0))
-unfolding hubFresh
-fresh-ways settings rows keys =
-    elim (either (eqb (length settings) 688)) [
-      | inl t ↦ elim (either (ltb (length rows) 64)) [
-        | inl u ↦ inl (simp (t, u))
-        | inr u ↦ elim (either (ltb 65536 (length rows))) [
-          | inl v ↦ inl (simp (t, u, v))
-          | inr v ↦ elim (either (eqb (length rows % 64) 0)) [
-            | inl w ↦ elim (either (eqb (length keys) (length rows))) [
-              | inl x ↦ inr (simp (t, u, v, w, x))
-              | inr x ↦ inl (simp (t, u, v, w, x))
-            ]
-            | inr w ↦ inl (simp (t, u, v, w))
-          ]
-        ]
-      ]
-      | inr t ↦ inl (rw t)
-    ]
 
 -- Rows and keys for c rows.
 module _ (settings rows keys : List ℕ) (c : ℕ) (some : 1 ≤ c) (most : c ≤ 1024) (ls : length settings ≡ 688) (lr : length rows ≡ 64 * c) (lk : length keys ≡ 64 * c) where
@@ -77,14 +50,3 @@ module _ (settings rows keys : List ℕ) (c : ℕ) (some : 1 ≤ c) (most : c �
         keys-are = rw fresh-made;
         is-whole = w;
       }
-
-  -- The first line is served on fresh settings and zeros.
-  pub first-line : (line answer : List ℕ) → hubServed (hubFresh settings rows keys .settings) (hubFresh settings rows keys .rows) (hubFresh settings rows keys .keys) line answer
-      ≡ outcomeBytes (outcome freshSettings (replicate (8 * c) 0) (replicate (64 * c) 0) line answer)
-      (hubFresh settings rows keys .settings) (hubFresh settings rows keys .rows) (hubFresh settings rows keys .keys) answer
-  first-line line answer =
-      let l : length (replicate {A = ℕ} (64 * c) 0) ≡ 64 * c = length-replicate (64 * c) 0 in
-      let n : length (replicate {A = ℕ} (64 * c) 0) / 8 ≡ 8 * c = omega arith in
-      rw fresh-made
-      (reads-as _ _ _ line answer freshSettings (replicate (8 * c) 0) (replicate (64 * c) 0) (settings-length freshSettings (whole-fits freshSettings _ _ (reads-fresh .is-whole)))
-      (omega arith) (omega arith) (settings-back freshSettings (whole-fits freshSettings _ _ (reads-fresh .is-whole))) (rw n (rw fresh-made at (reads-fresh .numbers-read))) refl)

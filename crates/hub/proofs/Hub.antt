@@ -118,15 +118,3 @@ module _ (settings rows keys line answer : List ℕ) where
 
   pub hub-hands-on : call .number ≡ 0 → HandsOn
   hub-hands-on z = ⊎-elim (λ w. absurd (omega (arith, w .from, sym (ap (λ (o : ByteOutcome). o .number) (w .is)) ∙ z))) (λ w. handing w) ways
-
--- The next call reads exactly what the accepted line left: its outcome is that of its line on the outcome before.
-pub hub-next : (settings rows keys line answer line′ answer′ : List ℕ) → (call settings rows keys line answer) .number ≡ 0
-    → hubServed ((call settings rows keys line answer) .settings) ((call settings rows keys line answer) .rows) ((call settings rows keys line answer) .keys) line′ answer′
-    ≡ outcomeBytes (outcome ((core settings rows keys line answer) .settings) ((core settings rows keys line answer) .numbers) ((core settings rows keys line answer) .keys) line′ answer′)
-    ((call settings rows keys line answer) .settings) ((call settings rows keys line answer) .rows) ((call settings rows keys line answer) .keys) answer′
-hub-next settings rows keys line answer line′ answer′ z =
-    let h = hub-hands-on settings rows keys line answer z in
-    let o = core settings rows keys line answer in
-    let m = (whole-parts (o .settings) (o .numbers) (o .keys) (h .is-whole)) .most in
-    let l = h .rows-long in
-    reads-as _ _ _ line′ answer′ (o .settings) (o .numbers) (o .keys) (h .settings-long) (omega arith) (omega arith) (h .settings-read) (h .numbers-read) (h .keys-are)

@@ -5,7 +5,7 @@ use libc::STDIN_FILENO;
 use libc::STDOUT_FILENO;
 use settings::Settings;
 ghost use mathlib.Core.Path.{_≡_};
-ghost use lib.ListN.{length};
+ghost use lib.ListN.{replicate};
 ghost use Rattle.outcome.specs.Outcome.{outcome};
 ghost use Rattle.stations.specs.Leaves.{Leaves};
 
@@ -51,28 +51,28 @@ fn print_lines(s: Settings, rows: &mut [u64], keys: &mut [u8], text: &[u8], answ
 
 // Room for the whole input.
 fn no_text() -> [u8; 262144]
-    ensures { λ r. ⌜ length r ≡ 262144 ⌝ }
+    ensures { λ r. ⌜ r ≡ replicate 262144 0 ⌝ }
 {
     [0; 262144]
 }
 
 // The rows of a fresh bucket.
 fn no_rows() -> [u64; 8192]
-    ensures { λ r. ⌜ length r ≡ 8192 ⌝ }
+    ensures { λ r. ⌜ r ≡ replicate 8192 0 ⌝ }
 {
     [0; 8192]
 }
 
 // Their key bytes.
 fn no_keys() -> [u8; 65536]
-    ensures { λ r. ⌜ length r ≡ 65536 ⌝ }
+    ensures { λ r. ⌜ r ≡ replicate 65536 0 ⌝ }
 {
     [0; 65536]
 }
 
 // The smallest answer buffer that is admitted.
 fn no_answer() -> [u8; 256]
-    ensures { λ r. ⌜ length r ≡ 256 ⌝ }
+    ensures { λ r. ⌜ r ≡ replicate 256 0 ⌝ }
 {
     [0; 256]
 }
