@@ -1,21 +1,21 @@
 -- The least days decide: an action is due by some rule's days where it is by the least that the rules set.
 use Prim.Native.Nat.{ℕ, _≤_}
-use mathlib.Core.Path.{_≡_, refl, sym, ap, ap₂, _∙_}
+use mathlib.Core.Path.{_≡_, refl, sym, ap₂, _∙_}
 use mathlib.Core.Logic.{inl, inr}
 use mathlib.Core.Bool.{Bool, true, false, not, _&&_, _||_}
 use mathlib.Core.List.{List, [], _∷_}
 use native.Mathlib.Omega.{arith}
 use lib.Dec.{eqb, leb, ltb}
 use borrow.Author.Tests.{ltb-true, ltb-false, leb-true, le-leb}
-use Rattle.buffers.specs.Lists.{all, begins}
+use Rattle.buffers.specs.Lists.{all}
 use Rattle.buffers.proofs.Tests.{either, clash, and-l, and-r}
 use Rattle.buffers.proofs.Lists.{all-as, all-keep}
 use Rattle.calendar.specs.Periods.{expiresAt}
 use Rattle.model.specs.Settings as model
-use Rattle.model.specs.Settings.{isSet}
 use Rattle.model.specs.Sweep.{applying, due}
 use Rattle.lifecycle.specs.declared.Limits.{Limits}
-use Rattle.lifecycle.specs.Days.{lesser, least, limitsOf, tightened, over, fewDays}
+use Rattle.lifecycle.specs.Least.{lesser, least, limitsOf}
+use Rattle.lifecycle.specs.Days.{over, fewDays}
 
 -- ## Days that are over
 
@@ -65,33 +65,7 @@ module _ (s t : ℕ) where
 pub over-last : (s t d r : ℕ) → r ≡ expiresAt s d → leb r t ≡ leb (expiresAt s d) t
 over-last s t d r e = rw e
 
--- ## The limits of a key
-
-pub limits-both : (a b c d : ℕ) → a ≡ c → b ≡ d → _≡_ {A = Limits} (record { current = a; noncurrent = b }) (record { current = c; noncurrent = d })
-limits-both a b c d e f = rw (e, f)
-
-lesser-none : (a b : ℕ) → eqb a 0 ≡ true → lesser a b ≡ b
-unfolding lesser
-lesser-none a b e = rw e
-
-pub limits-more : (u : model.Rule) (us : List model.Rule) (k : List ℕ) → tightened u k (limitsOf us k) ≡ limitsOf (u ∷ us) k
-unfolding tightened limitsOf
-limits-more u us k =
-    elim (either (isSet u)) [
-      | inl e ↦ elim (either (begins (u .prefix) k)) [ inl f ↦ simp (e, f) | inr f ↦ simp (e, f) ]
-      | inr e ↦
-          let z = not-false (eqb (u .currentDays) 0 && eqb (u .noncurrentDays) 0) e in
-          let c = and-l (eqb (u .currentDays) 0) _ z in
-          let n = and-r (eqb (u .currentDays) 0) _ z in
-          elim (either (begins (u .prefix) k)) [
-            | inl f ↦ simp (e, f, lesser-none (u .currentDays) (least (λ v. v .currentDays) (applying us k)) c, lesser-none (u .noncurrentDays) (least (λ v. v .noncurrentDays) (applying us k)) n)
-            | inr f ↦ simp (e, f)
-          ]
-    ]
-  where
-    not-false : (b : Bool) → not b ≡ false → b ≡ true
-    not-false true h = refl
-    not-false false h = sym h
+-- ## Few days
 
 lesser-most : (a b m : ℕ) → a ≤ m → b ≤ m → lesser a b ≤ m
 unfolding lesser

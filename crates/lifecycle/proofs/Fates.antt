@@ -1,6 +1,6 @@
 -- The fates carried out are the model's sweep, and what they count is what it counts.
-use Prim.Native.Nat.{ℕ, _+_}
-use mathlib.Core.Path.{_≡_, refl, ap}
+use Prim.Native.Nat.{ℕ, _+_, _-_, _≤_, _<_}
+use mathlib.Core.Path.{_≡_, refl, sym, ap, _∙_}
 use mathlib.Core.Logic.{inl, inr}
 use mathlib.Core.List.{List, [], _∷_, _++_}
 use mathlib.Core.Option.{Option, some}
@@ -10,8 +10,14 @@ use borrow.Author.Tests.{ne-eqb}
 use Rattle.buffers.proofs.Tests.{either}
 use Rattle.model.specs.Rows.{Row}
 use Rattle.model.specs.Settings.{Rule}
-use Rattle.model.specs.Sweep.{Fate, fate, inPlace, marks, removes, swept, counted}
+use Rattle.model.specs.Sweep.{Fate, stays, fate, inPlace, marks, removes, swept, counted}
 use Rattle.lifecycle.specs.Fates.{fateOf, fatesIn, fates, total, carriedOut}
+use native.Mathlib.Numerals.{add-one}
+use lib.ListN.{length, getD, take, drop}
+use lib.Seq.{take-suc, take-add}
+use Rattle.buffers.specs.Ranges.{Within}
+use Rattle.buffers.specs.Words.{number}
+use Rattle.lifecycle.specs.Judging.{Counted, Passed}
 
 pub carried-out : (rules : List Rule) (judge stamp n : ℕ) (y : Option Row) (xs : List Row)
     → carriedOut stamp n (fates rules judge y xs) xs ≡ swept rules (record { judge = judge; stamp = stamp }) n y xs
@@ -49,3 +55,68 @@ fates-append (f ∷ fs) gs = ap (λ (l : List Fate). fateOf f ∷ l) (fates-appe
 pub total-append : (of : Fate → ℕ) (fs gs : List Fate) → total of (fs ++ gs) ≡ total of fs + total of gs
 total-append of [] gs = omega arith
 total-append of (f ∷ fs) gs = let e = total-append of fs gs in omega arith
+
+-- ## Counting the fates
+
+total-more : (of : Fate → ℕ) (m : List ℕ) (i c r : ℕ) → i < length m → Within c (total of (fatesIn (take i m))) i → Within r (of (fateOf (getD m i 0))) 1
+    → Within (c + r) (total of (fatesIn (take (i + 1) m))) (i + 1)
+total-more of m i c r h x y =
+    record {
+      is = let e = total-append of (fatesIn (take i m)) (fateOf (getD m i 0) ∷ []) in rw (add-one i, take-suc m i 0 h, fates-append) (omega (arith, x .is, y .is));
+      most = omega (arith, x .most, y .most);
+    }
+
+zeros-total : (of : Fate → ℕ) → of stays ≡ 0 → (l : List ℕ) → number l ≡ 0 → total of (fatesIn l) ≡ 0
+unfolding number
+zeros-total of h [] e = refl
+zeros-total of h (b ∷ l) e =
+    let z : b ≡ 0 = omega arith in
+    let x = zeros-total of h l (omega arith) in
+    rw z (omega arith)
+
+total-zeros : (of : Fate → ℕ) → of stays ≡ 0 → (m : List ℕ) (i c : ℕ) → number (take 8 (drop i m)) ≡ 0 → Within c (total of (fatesIn (take i m))) i
+    → Within c (total of (fatesIn (take (i + 8) m))) (i + 8)
+total-zeros of h m i c e x =
+    let z = zeros-total of h (take 8 (drop i m)) e in
+    let t = total-append of (fatesIn (take i m)) (fatesIn (take 8 (drop i m))) in
+    record { is = rw (take-add i 8 m, fates-append) (omega (arith, x .is)); most = omega (arith, x .most) }
+
+-- ## The ways through pass_zeros
+
+pub pass-start : (m : List ℕ) (a u : ℕ) → a ≤ u → Passed m a a u
+pass-start m a u h = record { low = omega arith; most = h; nothing = λ c d q. q }
+
+module _ (m : List ℕ) (a i u : ℕ) (h : Passed m a i u) (g : 8 ≤ u - i) where
+  pub pass-room : u ≤ length m → i + 8 ≤ length m
+  pass-room k = omega arith
+
+  pub pass-step : (w : ℕ) → w ≡ number (take 8 (drop i m)) → w ≡ 0 → Passed m a (i + 8) u
+  pass-step w e z =
+      let y : number (take 8 (drop i m)) ≡ 0 = sym e ∙ z in
+      record {
+        low = omega (arith, h .low);
+        most = omega arith;
+        nothing =
+            λ c d q.
+            let p = h .nothing c d q in
+            record { gone = total-zeros removes refl m i c y (p .gone); come = total-zeros marks refl m i d y (p .come) };
+      }
+
+pub ruleset pass-cases = (pass-start, pass-room, pass-step)
+
+-- ## The ways through count
+
+pub count-start : (m : List ℕ) (i u : ℕ) → Passed m 0 i u → Counted m i 0 0
+count-start m i u h = h .nothing 0 0 (record { gone = record { is = refl; most = omega arith }; come = record { is = refl; most = omega arith } })
+
+module _ (m : List ℕ) (i c d : ℕ) (h : Counted m i c d) where
+  pub count-step : (r s j u : ℕ) → i < u → u ≤ length m → Within r (removes (fateOf (getD m i 0))) 1 → Within s (marks (fateOf (getD m i 0))) 1 → Passed m (i + 1) j u
+      → Counted m j (c + r) (d + s)
+  count-step r s j u g k x y p =
+      let q : i < length m = omega arith in
+      p .nothing (c + r) (d + s) (record { gone = total-more removes m i c r q (h .gone) x; come = total-more marks m i d s q (h .come) y })
+
+  pub count-end : (u : ℕ) → i ≤ u → u ≤ i → Counted m u c d
+  count-end u g k = let e : i ≡ u = omega arith in rw e at h
+
+pub ruleset count-cases = (count-start, count-step, count-end)

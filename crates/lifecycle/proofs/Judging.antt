@@ -1,105 +1,36 @@
 -- Judging the rows of the buffers one after the other is judging the list.
 use Prim.Native.Nat.{ℕ, zero, suc, _+_, _-_, _*_, _≤_, _<_}
 use mathlib.Core.Path.{_≡_, refl, sym, ap, _∙_}
-use mathlib.Core.Bool.{Bool, true, false, not, _&&_, false≢true}
+use mathlib.Core.Bool.{Bool, true, false, false≢true}
 use mathlib.Core.List.{List, [], _∷_, _++_, append-assoc, append-nil}
 use mathlib.Core.Option.{none}
 use native.Mathlib.Omega.{arith}
 use native.Mathlib.Numerals.{add-one}
 use lib.ListN.{length, getD, take, drop, set, length-set, drop-of-length-le}
-use lib.Seq.{drop-cons, take-suc, take-suc-set}
-use borrow.Author.Tests.{eq-eqb, ne-eqb}
-use Rattle.buffers.specs.Choices.{pick}
+use lib.Seq.{drop-cons, take-suc-set}
+use borrow.Author.Tests.{ne-eqb}
 use Rattle.buffers.specs.Lists.{all, keep, same}
-use Rattle.buffers.specs.Ranges.{Within}
 use Rattle.buffers.proofs.Lists.{same-path}
-use Rattle.calendar.specs.Calendar.{latest}
 use Rattle.blocks.specs.Blocks.{keyIn, isBlock}
-use Rattle.model.specs.Rows.{Row, isData}
+use Rattle.model.specs.Rows.{Row}
 use Rattle.model.specs.Settings as model
-use Rattle.model.specs.Locks.{locked}
-use Rattle.model.specs.Sweep.{applying, Fate, stays, goes, gains, currentFate, noncurrentFate, fate, marks, removes}
+use Rattle.model.specs.Sweep.{fate, marks, removes}
 use Rattle.table.specs.Layout.{rowAt, rowsOf}
-use Rattle.table.specs.Places.{rowFrom, numbersIn, keyAt}
-use Rattle.table.specs.declared.Numbers.{Numbers}
+use Rattle.table.specs.Places.{keyAt}
 use Rattle.table.proofs.Held.{rows-length, row-at}
 use Rattle.lifecycle.specs.declared.Limits.{Limits}
-use Rattle.lifecycle.specs.declared.Counts.{Counts}
 use Rattle.lifecycle.specs.declared.KeyRules.{KeyRules}
-use Rattle.lifecycle.specs.Days.{limitsOf, over, fewDays}
-use Rattle.lifecycle.specs.Rules.{rulesIn, mayBegin, Laid, Applied}
-use Rattle.lifecycle.specs.Fates.{fateOf, fatesIn, fates, total}
+use Rattle.lifecycle.specs.Least.{limitsOf}
+use Rattle.lifecycle.specs.Flat.{rulesIn, mayBegin, Laid, Applied}
+use Rattle.lifecycle.proofs.Parts.{block-short, part-first}
+use Rattle.lifecycle.proofs.Choosing.{chosen-now}
+use Rattle.lifecycle.specs.declared.Counts.{Counts}
+use Rattle.lifecycle.specs.Days.{fewDays}
+use Rattle.lifecycle.specs.Fates.{fateOf, fatesIn, fates}
 use Rattle.lifecycle.specs.Judging.{currentBy, noncurrentBy, rowBefore, sameKey, Known, Keys, Readable, Dated, Left, JudgedRow, JudgedAll, Counted, JudgedRows}
-use Rattle.lifecycle.proofs.Days.{due-least, current-most, noncurrent-most}
-use Rattle.lifecycle.proofs.Rules.{block-short, part-first, chosen-now}
-use Rattle.lifecycle.proofs.Fates.{total-counted, fates-append, total-append}
-
--- ## A row's fate by the least days
-
-both-picks : (a b : Bool) (x y : Fate) → pick a (pick b x y) y ≡ pick (a && b) x y
-both-picks true b x y = refl
-both-picks false b x y = refl
-
-but-picks : (a b : Bool) (x y : Fate) → pick a (pick b y x) y ≡ pick (a && not b) x y
-but-picks true true x y = refl
-but-picks true false x y = refl
-but-picks false b x y = refl
-
-current-is : (us : List model.Rule) (t : ℕ) (x : Row) → currentBy (limitsOf us (x .key) .current) t x ≡ currentFate (applying us (x .key)) t x
-unfolding currentBy limitsOf
-current-is us t x = rw (due-least (x .created) t (λ u. u .currentDays) (applying us (x .key))) (both-picks (isData x) (over (limitsOf us (x .key) .current) (x .created) t) gains stays)
-
-noncurrent-is : (us : List model.Rule) (t : ℕ) (y x : Row)
-    → noncurrentBy (limitsOf us (x .key) .noncurrent) (y .created) t x ≡ noncurrentFate (applying us (x .key)) t y x
-unfolding noncurrentBy limitsOf
-noncurrent-is us t y x = rw (due-least (y .created) t (λ u. u .noncurrentDays) (applying us (x .key))) (but-picks (over (limitsOf us (x .key) .noncurrent) (y .created) t) (locked t false x) goes stays)
-
--- ## The ways through current_fate and noncurrent_fate
-
-module _ (n : List ℕ) (i : ℕ) (m : Numbers) (e : m ≡ numbersIn (take 8 (drop (8 * i) n))) where
-  pub dated : Dated n i → m .created ≤ latest
-  dated h = rw e (h .instant)
-
-  module _ (d t : ℕ) (b : List ℕ) where
-    current-at : currentBy d t (rowFrom m (keyAt b i)) ≡ currentBy d t (rowAt n b i)
-    current-at = rw e
-
-    pub current-marker : (m .kind ≡ 1 → ⊥) → stays ≡ currentBy d t (rowAt n b i)
-    unfolding currentBy
-    current-marker h = sym (rw (ne-eqb _ _ h)) ∙ current-at
-
-    module _ (r : Bool) (h : m .kind ≡ 1) (o : r ≡ over d (m .created) t) where
-      pub current-over : r ≡ true → gains ≡ currentBy d t (rowAt n b i)
-      unfolding currentBy
-      current-over q = sym (simp (eq-eqb _ _ h, sym o ∙ q)) ∙ current-at
-
-      pub current-early : r ≡ false → stays ≡ currentBy d t (rowAt n b i)
-      unfolding currentBy
-      current-early q = sym (simp (eq-eqb _ _ h, sym o ∙ q)) ∙ current-at
-
-pub ruleset current-cases = (dated, current-marker, current-over, current-early)
-
-module _ (n : List ℕ) (i : ℕ) (p : Numbers) (f : p ≡ numbersIn (take 8 (drop (8 * (i - 1)) n))) (d t : ℕ) (b : List ℕ) (r : Bool) (o : r ≡ over d (p .created) t) where
-  over-at : over d (rowAt n b (i - 1) .created) t ≡ r
-  over-at = sym (o ∙ rw f)
-
-  pub noncurrent-early : r ≡ false → stays ≡ noncurrentBy d (rowAt n b (i - 1) .created) t (rowAt n b i)
-  unfolding noncurrentBy
-  noncurrent-early q = sym (rw (over-at ∙ q))
-
-  module _ (m : Numbers) (e : m ≡ numbersIn (take 8 (drop (8 * i) n))) (s : Bool) (g : (k : List ℕ) → s ≡ locked t false (rowFrom m k)) (q : r ≡ true) where
-    locked-at : locked t false (rowAt n b i) ≡ s
-    locked-at = sym (g (keyAt b i) ∙ rw e)
-
-    pub noncurrent-locked : s ≡ true → stays ≡ noncurrentBy d (rowAt n b (i - 1) .created) t (rowAt n b i)
-    unfolding noncurrentBy
-    noncurrent-locked z = sym (simp (over-at ∙ q, locked-at ∙ z))
-
-    pub noncurrent-gone : s ≡ false → goes ≡ noncurrentBy d (rowAt n b (i - 1) .created) t (rowAt n b i)
-    unfolding noncurrentBy
-    noncurrent-gone z = sym (simp (over-at ∙ q, locked-at ∙ z))
-
-pub ruleset noncurrent-cases = (dated, noncurrent-early, noncurrent-locked, noncurrent-gone)
+use Rattle.lifecycle.proofs.Days.{current-most, noncurrent-most}
+use Rattle.lifecycle.proofs.Fates.{total-counted, fates-append}
+use Rattle.lifecycle.proofs.RowFates.{current-is, noncurrent-is}
 
 -- ## The key of the row before
 
@@ -265,30 +196,6 @@ readable-fewer n b u i h g =
     }
 
 pub ruleset judge-cases = (readable-fewer, judging-start, judging-step, judging-end, fates-long)
-
--- ## Counting the fates
-
-total-more : (of : Fate → ℕ) (m : List ℕ) (i c r : ℕ) → i < length m → Within c (total of (fatesIn (take i m))) i → Within r (of (fateOf (getD m i 0))) 1
-    → Within (c + r) (total of (fatesIn (take (i + 1) m))) (i + 1)
-total-more of m i c r h x y =
-    record {
-      is = let e = total-append of (fatesIn (take i m)) (fateOf (getD m i 0) ∷ []) in rw (add-one i, take-suc m i 0 h, fates-append) (omega (arith, x .is, y .is));
-      most = omega (arith, x .most, y .most);
-    }
-
-pub count-start : (m : List ℕ) → Counted m 0 0 0
-count-start m = record { gone = record { is = refl; most = omega arith }; come = record { is = refl; most = omega arith } }
-
-module _ (m : List ℕ) (i c d : ℕ) (h : Counted m i c d) where
-  pub count-step : (r s u : ℕ) → i < u → u ≤ length m → Within r (removes (fateOf (getD m i 0))) 1 → Within s (marks (fateOf (getD m i 0))) 1 → Counted m (i + 1) (c + r) (d + s)
-  count-step r s u g k x y =
-      let q : i < length m = omega arith in
-      record { gone = total-more removes m i c r q (h .gone) x; come = total-more marks m i d s q (h .come) y }
-
-  pub count-end : (u : ℕ) → i ≤ u → u ≤ i → Counted m u c d
-  count-end u g k = let e : i ≡ u = omega arith in rw e at h
-
-pub ruleset count-cases = (count-start, count-step, count-end)
 
 -- ## The rules by value
 

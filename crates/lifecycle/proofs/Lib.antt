@@ -1,5 +1,9 @@
+pub mod Parts
+pub mod Laying
+pub mod Choosing
+pub mod Tightening
 pub mod Days
-pub mod Rules
 pub mod Words
 pub mod Fates
+pub mod RowFates
 pub mod Judging

@@ -1,9 +1,9 @@
 -- Two blocks compared by words up to the key's end.
-use Prim.Native.Nat.{ℕ, zero, suc, _+_, _-_, _*_, _%_, _≤_, _<_}
+use Prim.Native.Nat.{ℕ, zero, suc, _+_, _%_, _≤_, _<_}
 use mathlib.Core.Path.{_≡_, refl, sym, ap, ap₂, _∙_}
 use mathlib.Core.Logic.{inl, inr}
-use mathlib.Core.Bool.{Bool, true, false}
-use mathlib.Core.List.{List, [], _∷_, _++_}
+use mathlib.Core.Bool.{true, false}
+use mathlib.Core.List.{List, [], _∷_}
 use native.Mathlib.Omega.{arith}
 use lib.ListN.{length, getD, take, drop, length-take, length-drop, take-append-drop}
 use lib.Seq.{take-add, length-take-le, getD-take, getD-drop}
@@ -13,7 +13,7 @@ use Rattle.buffers.proofs.Words.{spelled-number}
 use Rattle.buffers.proofs.Tests.{either}
 use Rattle.buffers.proofs.Lists.{same-path, same-refl}
 use Rattle.blocks.specs.Blocks.{blockOf, keyIn, isBlock}
-use Rattle.lifecycle.proofs.Rules.{block-path, block-long, block-short, head-part}
+use Rattle.lifecycle.proofs.Parts.{block-path, block-long, block-short, head-part}
 
 bytes-take : (n : ℕ) (b : List ℕ) → AllBytes b → AllBytes (take n b)
 bytes-take zero b h k = omega arith

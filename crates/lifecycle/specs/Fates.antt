@@ -1,7 +1,7 @@
 -- 01, SWEEP: the fates of all rows as a list of numbers, and the table that they leave.
 use Prim.Native.Nat.{ℕ, _+_}
 use mathlib.Core.List.{List, [], _∷_, _++_}
-use mathlib.Core.Option.{Option, some, none}
+use mathlib.Core.Option.{Option, some}
 use lib.Dec.{eqb}
 use Rattle.buffers.specs.Choices.{pick}
 use Rattle.model.specs.Rows.{Row}

@@ -20,10 +20,11 @@ use Rattle.settings.specs.Meaning.{rulesMean, prefixesAre}
 use Rattle.table.specs.Layout.{rowAt}
 use Rattle.table.specs.Places.{numbersIn, keyAt}
 use Rattle.lifecycle.specs.declared.Limits.{Limits}
-use Rattle.lifecycle.specs.declared.Counts.{Counts}
 use Rattle.lifecycle.specs.declared.KeyRules.{KeyRules}
-use Rattle.lifecycle.specs.Days.{limitsOf, over, fewDays}
-use Rattle.lifecycle.specs.Rules.{ChosenBy}
+use Rattle.lifecycle.specs.Least.{limitsOf}
+use Rattle.lifecycle.specs.Flat.{ChosenBy}
+use Rattle.lifecycle.specs.declared.Counts.{Counts}
+use Rattle.lifecycle.specs.Days.{over, fewDays}
 use Rattle.lifecycle.specs.Fates.{fateOf, fatesIn, fates, total}
 
 -- ## A row's fate by its key's days
@@ -102,6 +103,12 @@ pub record JudgedAll (us : List model.Rule) (now : ℕ) (xs : List Row) (used : 
 pub record Counted (fs : List ℕ) (n removed added : ℕ) : Type 0 where
   pub gone : Within removed (total removes (fatesIn (take n fs))) n
   pub come : Within added (total marks (fatesIn (take n fs))) n
+
+-- The fates between two places count nothing.
+pub record Passed (fs : List ℕ) (from to used : ℕ) : Type 0 where
+  pub low : from ≤ to
+  pub most : to ≤ used
+  pub nothing : (removed added : ℕ) → Counted fs from removed added → Counted fs to removed added
 
 -- The fates of all rows, and how many rows go and how many markers come.
 pub record JudgedRows (us : List model.Rule) (now : ℕ) (xs : List Row) (used : ℕ) (entry exit : List ℕ) (r : Counts) : Type 0 where

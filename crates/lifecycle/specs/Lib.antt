@@ -1,4 +1,5 @@
+pub mod Least
+pub mod Flat
 pub mod Fates
 pub mod Days
-pub mod Rules
 pub mod Judging

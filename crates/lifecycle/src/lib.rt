@@ -1,4 +1,6 @@
 // SWEEP's judgement: the fate of every row of a table, on the table as it stands. The definitions are in specs/.
+mod rules;
+
 use settings::Rule;
 use table::Numbers;
 ghost use mathlib.Core.Path.{_≡_};
@@ -6,20 +8,20 @@ ghost use mathlib.Core.Bool.{true};
 ghost use mathlib.Core.List.{List};
 ghost use mathlib.Core.Option.{none};
 ghost use Prim.Native.Nat.{ℕ, _+_, _-_, _*_, _≤_, _<_};
-ghost use lib.ListN.{length, getD, take, drop};
-ghost use Rattle.buffers.specs.Lists.{all, begins, keep, same};
+ghost use lib.ListN.{length};
+ghost use Rattle.buffers.specs.Lists.{all, same};
 ghost use Rattle.buffers.specs.Ranges.{Within};
 ghost use Rattle.calendar.specs.Calendar.{latest};
 ghost use Rattle.blocks.specs.Blocks.{keyIn, isBlock};
 ghost use Rattle.model.specs.Locks.{locked};
 ghost use Rattle.model.specs.Sweep.{marks, removes};
-ghost use Rattle.settings.specs.Meaning.{rulesMean, prefixesAre};
+ghost use Rattle.settings.specs.Meaning.{rulesMean};
 ghost use Rattle.table.specs.Layout.{rowAt, rowsOf};
-ghost use Rattle.table.specs.Places.{rowFrom, keyAt};
-ghost use Rattle.lifecycle.specs.Days.{lesser, limitsOf, tightened, over, fewDays};
-ghost use Rattle.lifecycle.specs.Rules.{ruleIn, rulesIn, mayBegin, Rules, Laid, RulePut, ChosenBy, Applied};
+ghost use Rattle.table.specs.Places.{rowFrom};
+ghost use Rattle.lifecycle.specs.Flat.{rulesIn, Rules};
+ghost use Rattle.lifecycle.specs.Days.{over, fewDays};
 ghost use Rattle.lifecycle.specs.Fates.{fateOf};
-ghost use Rattle.lifecycle.specs.Judging.{Keys, currentBy, noncurrentBy, rowBefore, sameKey, Readable, Judgeable, Dated, Left, JudgedRow, JudgedAll, Counted, JudgedRows};
+ghost use Rattle.lifecycle.specs.Judging.{Keys, currentBy, noncurrentBy, rowBefore, sameKey, Readable, Judgeable, Dated, Left, JudgedRow, JudgedAll, Counted, Passed, JudgedRows};
 
 // The least days that the rules set for a key's rows, 0 for none.
 struct Limits {
@@ -43,189 +45,6 @@ struct KeyRules {
 pub struct Counts {
     pub removed: usize,
     pub added: usize,
-}
-
-// The lesser of two numbers of days, of which 0 stand for no action.
-fn lesser(a: u64, b: u64) -> u64
-    ensures { λ r. ⌜ r ≡ lesser a b ⌝ }
-{
-    if a == 0 {
-        return b;
-    }
-    if b == 0 {
-        return a;
-    }
-    if a < b {
-        return a;
-    }
-    b
-}
-
-// Writes a rule at a place of the flat rules.
-fn put_rule(
-    prefixes: &mut [u8],
-    days: &mut [u64],
-    at: usize,
-    prefix: &[u8],
-    current: u64,
-    noncurrent: u64,
-)
-    requires { ⌜ (64 * at + 64 ≤ length (now prefixes)) × (2 * at + 2 ≤ length (now days)) × (length (now prefix) ≡ 64) ⌝ }
-    ensures { λ _. ⌜ RulePut at (now (prefix .entry)) current noncurrent (now (prefixes .entry)) (now (days .entry)) (now (prefixes .exit)) (now (days .exit)) ⌝ }
-{
-    buffers::copy_in(prefixes, 64 * at, prefix);
-    days[2 * at] = current;
-    days[2 * at + 1] = noncurrent;
-}
-
-// Lays the eight rules flat. Handing them on by value would copy them for each key.
-fn lay_rules(rules: [Rule; 8], prefixes: &mut [u8], days: &mut [u64])
-    requires { ⌜ (prefixesAre rules ≡ true) × (length (now prefixes) ≡ 512) × (length (now days) ≡ 16) ⌝ }
-    ensures { λ _. ⌜ Laid (now (prefixes .exit)) (now (days .exit)) 8 (rulesMean rules) ⌝ }
-{
-    let mut n = 0;
-    while n < 8 {
-        let rule = rules[7 - n];
-        let prefix = rule.prefix;
-        put_rule(prefixes, days, n, &prefix, rule.current, rule.noncurrent);
-        n += 1;
-    }
-}
-
-// The rule at a place is set, and its prefix may begin a key with this first byte.
-fn may_begin(prefixes: &[u8], days: &[u64], at: usize, first: u64) -> bool
-    requires { ⌜ Rules (now prefixes) (now days) (at + 1) ⌝ }
-    ensures { λ r. ⌜ r ≡ mayBegin first (ruleIn (now (prefixes .entry)) (now (days .entry)) at) ⌝ }
-{
-    let set = !((days[2 * at] == 0) & (days[2 * at + 1] == 0));
-    set & ((prefixes[64 * at] == 0) | (buffers::wide(prefixes[64 * at + 1]) == first))
-}
-
-// Copies the rule at a place of the flat rules to a place of others.
-fn copy_rule(
-    prefixes: &[u8],
-    days: &[u64],
-    at: usize,
-    near: &mut [u8],
-    periods: &mut [u64],
-    to: usize,
-)
-    requires { ⌜ Rules (now prefixes) (now days) (at + 1) ⌝ }
-    requires { ⌜ (64 * to + 64 ≤ length (now near)) × (2 * to + 2 ≤ length (now periods)) ⌝ }
-    ensures { λ _. ⌜ RulePut to (take 64 (drop (64 * at) (now (prefixes .entry)))) (getD (now (days .entry)) (2 * at) 0) (getD (now (days .entry)) (2 * at + 1) 0) (now (near .entry)) (now (periods .entry)) (now (near .exit)) (now (periods .exit)) ⌝ }
-{
-    let start = 64 * at;
-    let end = start + 64;
-    let current = days[2 * at];
-    let noncurrent = days[2 * at + 1];
-    put_rule(
-        near,
-        periods,
-        to,
-        &prefixes[start..end],
-        current,
-        noncurrent,
-    );
-}
-
-// Chooses the rules that may begin a key with this first byte, and returns how many.
-fn choose(prefixes: &[u8], days: &[u64], first: u64, near: &mut [u8], periods: &mut [u64]) -> usize
-    requires { ⌜ Rules (now prefixes) (now days) 8 × (length (now near) ≡ 512) × (length (now periods) ≡ 16) ⌝ }
-    ensures { λ r. ⌜ Laid (now (near .exit)) (now (periods .exit)) r (keep (mayBegin first) (rulesIn (now (prefixes .entry)) (now (days .entry)) 8)) ⌝ }
-{
-    let mut n = 0;
-    let mut i = 0;
-    while i < 8 {
-        let at = i;
-        i += 1;
-        if may_begin(prefixes, days, at, first) {
-            copy_rule(prefixes, days, at, near, periods, n);
-            n += 1;
-        }
-    }
-    n
-}
-
-// Chooses the rules for a first byte, unless they are chosen for it already. Keys are in order, so that few first bytes follow each other.
-fn choose_for(
-    prefixes: &[u8],
-    days: &[u64],
-    first: u64,
-    near: &mut [u8],
-    periods: &mut [u64],
-    chosen: Chosen,
-) -> Chosen
-    requires { ⌜ Rules (now prefixes) (now days) 8 ⌝ }
-    requires { ⌜ ChosenBy (rulesIn (now prefixes) (now days) 8) (now near) (now periods) (chosen .first) chosen ⌝ }
-    ensures { λ r. ⌜ ChosenBy (rulesIn (now (prefixes .entry)) (now (days .entry)) 8) (now (near .exit)) (now (periods .exit)) first r ⌝ }
-{
-    if chosen.first == first {
-        return chosen;
-    }
-    let count = choose(prefixes, days, first, near, periods);
-    Chosen { first, count }
-}
-
-// The prefix at a place begins the key.
-fn begins_at(prefixes: &[u8], at: usize, key: &[u8]) -> bool
-    requires { ⌜ (64 * at + 64 ≤ length (now prefixes)) × (getD (now prefixes) (64 * at) 0 ≤ 63) ⌝ }
-    ensures { λ r. ⌜ r ≡ begins (keyAt (now (prefixes .entry)) at) (now (key .entry)) ⌝ }
-{
-    text::begins_with(key, table::key_at(prefixes, at))
-}
-
-// A key's limits with one rule more.
-fn tighten(prefixes: &[u8], days: &[u64], at: usize, key: &[u8], limits: Limits) -> Limits
-    requires { ⌜ Rules (now prefixes) (now days) (at + 1) ⌝ }
-    ensures { λ r. ⌜ r ≡ tightened (ruleIn (now (prefixes .entry)) (now (days .entry)) at) (now (key .entry)) limits ⌝ }
-{
-    if begins_at(prefixes, at, key) {
-        return Limits {
-            current: lesser(days[2 * at], limits.current),
-            noncurrent: lesser(days[2 * at + 1], limits.noncurrent),
-        };
-    }
-    limits
-}
-
-// The limits of a key by the first n rules.
-fn limits_of(prefixes: &[u8], days: &[u64], n: usize, key: &[u8]) -> Limits
-    requires { ⌜ Rules (now prefixes) (now days) n ⌝ }
-    ensures { λ r. ⌜ r ≡ limitsOf (rulesIn (now (prefixes .entry)) (now (days .entry)) n) (now (key .entry)) ⌝ }
-{
-    let mut limits = Limits {
-        current: 0,
-        noncurrent: 0,
-    };
-    let mut i = 0;
-    while i < n {
-        limits = tighten(prefixes, days, i, key, limits);
-        i += 1;
-    }
-    limits
-}
-
-// What the rules set for the key at a position; `chosen` are those for another key's first byte, or for its own.
-fn rules_for(
-    prefixes: &[u8],
-    days: &[u64],
-    keys: &[u8],
-    at: usize,
-    near: &mut [u8],
-    periods: &mut [u64],
-    chosen: Chosen,
-) -> KeyRules
-    requires { ⌜ Rules (now prefixes) (now days) 8 × (64 * at + 64 ≤ length (now keys)) × (getD (now keys) (64 * at) 0 ≤ 63) ⌝ }
-    requires { ⌜ ChosenBy (rulesIn (now prefixes) (now days) 8) (now near) (now periods) (chosen .first) chosen ⌝ }
-    ensures { λ r. ⌜ Applied (rulesIn (now (prefixes .entry)) (now (days .entry)) 8) (keyAt (now (keys .entry)) at) (now (near .exit)) (now (periods .exit)) r ⌝ }
-{
-    let first = buffers::wide(keys[64 * at + 1]);
-    let own = choose_for(prefixes, days, first, near, periods, chosen);
-    let limits = limits_of(near, periods, own.count, table::key_at(keys, at));
-    KeyRules {
-        limits,
-        chosen: own,
-    }
 }
 
 // The days stand for an action, and they are over since an instant.
@@ -330,7 +149,7 @@ fn judge_row(
         return last;
     }
     let chosen = last.chosen;
-    let own = rules_for(prefixes, days, keys, at, near, periods, chosen);
+    let own = rules::rules_for(prefixes, days, keys, at, near, periods, chosen);
     fates[at] = current_fate(rows, at, own.limits.current, instant);
     own
 }
@@ -392,34 +211,35 @@ fn marks(fate: u8) -> usize
     0
 }
 
-// Counts what the first `used` fates remove and add.
+// Passes eight fates at a time, as long as all of them are 0, and returns where the others start.
+fn pass_zeros(fates: &[u8], from: usize, used: usize) -> usize
+    requires { ⌜ (from ≤ used) × (used ≤ length (now fates)) ⌝ }
+    ensures { λ r. ⌜ Passed (now (fates .entry)) from r used ⌝ }
+{
+    let mut i = from;
+    while 8 <= used - i {
+        if buffers::word_at(fates, i) != 0 {
+            return i;
+        }
+        i += 8;
+    }
+    i
+}
+
+// Counts what the first `used` fates remove and add. Most rows stay.
 fn count(fates: &[u8], used: usize) -> Counts
     requires { ⌜ used ≤ length (now fates) ⌝ }
     ensures { λ r. ⌜ Counted (now (fates .entry)) used (r .removed) (r .added) ⌝ }
 {
     let mut removed = 0;
     let mut added = 0;
-    let mut i = 0;
+    let mut i = pass_zeros(fates, 0, used);
     while i < used {
         removed += removes(fates[i]);
         added += marks(fates[i]);
-        i += 1;
+        i = pass_zeros(fates, i + 1, used);
     }
     Counts { removed, added }
-}
-
-// Room for the prefixes of eight rules.
-fn no_prefixes() -> [u8; 512]
-    ensures { λ r. ⌜ length r ≡ 512 ⌝ }
-{
-    [0u8; 512]
-}
-
-// Room for the days of eight rules.
-fn no_days() -> [u64; 16]
-    ensures { λ r. ⌜ length r ≡ 16 ⌝ }
-{
-    [0u64; 16]
 }
 
 // Judges every row, each key's rules once, and counts. A fate is 0 for a row that stays, 1 for one that goes, 2 for one that gains a marker.
@@ -435,12 +255,12 @@ pub fn judge(
     requires { ⌜ used ≤ length (now fates) ⌝ }
     ensures { λ r. ⌜ JudgedRows (rulesMean rules) instant (rowsOf (now (rows .entry)) (now (keys .entry)) used) used (now (fates .entry)) (now (fates .exit)) r ⌝ }
 {
-    let mut prefixes = no_prefixes();
-    let mut days = no_days();
-    lay_rules(rules, &mut prefixes, &mut days);
-    let mut near = no_prefixes();
-    let mut periods = no_days();
-    let n = choose(&prefixes, &days, 0, &mut near, &mut periods);
+    let mut prefixes = rules::no_prefixes();
+    let mut days = rules::no_days();
+    rules::lay_rules(rules, &mut prefixes, &mut days);
+    let mut near = rules::no_prefixes();
+    let mut periods = rules::no_days();
+    let n = rules::choose(&prefixes, &days, 0, &mut near, &mut periods);
     let start = KeyRules {
         limits: Limits {
             current: 0,

@@ -2,7 +2,7 @@
 use Prim.Native.Nat.{_-_, _≤_, _<_}
 use lib.ListN.{length}
 use Rattle.lifecycle.specs.Judging.{Counted}
-use Rattle.lifecycle.proofs.Judging.{count-cases}
+use Rattle.lifecycle.proofs.Fates.{count-cases}
 use borrow.Author.Needs.{needs}
 use Rattle.lifecycle.proofs.count.Statement.{statement}
 use Rattle.lifecycle.proofs.count.Tie as tie
@@ -19,6 +19,7 @@ count-spec =
     (tie.spec
     Inv-loop
     μ-loop
+    (λ c κs. search needs)
     (λ c. search (needs, count-cases))
     (λ c. search (needs, count-cases))
     (λ c κs. search (needs, count-cases))
@@ -27,6 +28,7 @@ count-spec =
     (λ c κs. search (needs, count-cases))
     (λ c. search (needs, count-cases))
     (λ c. search (needs, count-cases))
+    (λ c κs. search (needs, count-cases))
     (λ c. search (needs, count-cases))
     (λ c. search (needs, count-cases))
     (λ c. search (needs, count-cases)))

@@ -1,5 +1,5 @@
 -- `current_fate` meets its contract.
-use Rattle.lifecycle.proofs.Judging.{current-cases}
+use Rattle.lifecycle.proofs.RowFates.{current-cases}
 use borrow.Author.Needs.{needs}
 use Rattle.lifecycle.proofs.current_fate.Statement.{statement}
 use Rattle.lifecycle.proofs.current_fate.Tie as tie

@@ -6,7 +6,7 @@ use lib.ListN.{length}
 use Rattle.buffers.specs.Lists.{all}
 use Rattle.lifecycle.specs.Days.{fewDays}
 use Rattle.lifecycle.specs.Judging.{Readable}
-use Rattle.lifecycle.specs.Rules.{rulesIn, Rules}
+use Rattle.lifecycle.specs.Flat.{rulesIn, Rules}
 use Rattle.lifecycle.proofs.Judging.{Judging, readable-fewer, fates-long, judging-step, judge-cases}
 use borrow.Author.Needs.{needs}
 use Rattle.lifecycle.proofs.judge_rows.Statement.{statement}

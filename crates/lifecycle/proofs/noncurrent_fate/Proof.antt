@@ -1,5 +1,5 @@
 -- `noncurrent_fate` meets its contract.
-use Rattle.lifecycle.proofs.Judging.{noncurrent-cases}
+use Rattle.lifecycle.proofs.RowFates.{noncurrent-cases}
 use borrow.Author.Needs.{needs}
 use Rattle.lifecycle.proofs.noncurrent_fate.Statement.{statement}
 use Rattle.lifecycle.proofs.noncurrent_fate.Tie as tie

@@ -11,7 +11,7 @@ use usage::{processor_time, THIS};
 
 const CAPACITY: usize = 1024;
 /// The calls of one measurement.
-const CALLS: u64 = 200;
+const CALLS: u64 = 2000;
 
 type Serve = fn(&mut [u8], &mut [u8], &mut [u8], &[u8], &mut [u8]) -> u64;
 

@@ -1,11 +1,11 @@
 -- `tighten` meets its contract.
-use Rattle.lifecycle.proofs.Rules.{rule-short}
+use Rattle.lifecycle.proofs.Choosing.{rule-short}
 use Rattle.buffers.proofs.Choices.{picks}
-use Rattle.lifecycle.specs.Days.{tightened}
-use Rattle.lifecycle.proofs.Days.{limits-both}
+use Rattle.lifecycle.specs.Least.{tightened}
+use Rattle.lifecycle.proofs.Tightening.{limits-both}
 use borrow.Author.Needs.{needs}
-use Rattle.lifecycle.proofs.tighten.Statement.{statement}
-use Rattle.lifecycle.proofs.tighten.Tie as tie
+use Rattle.lifecycle.proofs.rules.tighten.Statement.{statement}
+use Rattle.lifecycle.proofs.rules.tighten.Tie as tie
 
 pub tighten-spec : {M : Type 1} → statement M
 unfolding tightened

@@ -11,7 +11,7 @@ use Rattle.model.specs.Settings.{isSet}
 use Rattle.table.specs.Places.{keyAt}
 use Rattle.lifecycle.specs.declared.Chosen.{Chosen}
 use Rattle.lifecycle.specs.declared.KeyRules.{KeyRules}
-use Rattle.lifecycle.specs.Days.{limitsOf}
+use Rattle.lifecycle.specs.Least.{limitsOf}
 
 -- the rule at a place
 abbrev pub ruleIn : List ℕ → List ℕ → ℕ → model.Rule

@@ -1,9 +1,9 @@
 -- `lesser` meets its contract.
 use Rattle.buffers.proofs.Choices.{picks}
-use Rattle.lifecycle.specs.Days.{lesser}
+use Rattle.lifecycle.specs.Least.{lesser}
 use borrow.Author.Needs.{needs}
-use Rattle.lifecycle.proofs.lesser.Statement.{statement}
-use Rattle.lifecycle.proofs.lesser.Tie as tie
+use Rattle.lifecycle.proofs.rules.lesser.Statement.{statement}
+use Rattle.lifecycle.proofs.rules.lesser.Tie as tie
 
 pub lesser-spec : {M : Type 1} → statement M
 unfolding lesser

@@ -1,12 +1,12 @@
 -- `limits_of` meets its contract.
-use Rattle.lifecycle.proofs.Rules.{limits-cases}
+use Rattle.lifecycle.proofs.Tightening.{limits-cases}
 use Prim.Native.Nat.{_-_, _≤_}
 use mathlib.Core.Path.{_≡_}
-use Rattle.lifecycle.specs.Days.{limitsOf}
-use Rattle.lifecycle.specs.Rules.{rulesIn}
+use Rattle.lifecycle.specs.Least.{limitsOf}
+use Rattle.lifecycle.specs.Flat.{rulesIn}
 use borrow.Author.Needs.{needs}
-use Rattle.lifecycle.proofs.limits_of.Statement.{statement}
-use Rattle.lifecycle.proofs.limits_of.Tie as tie
+use Rattle.lifecycle.proofs.rules.limits_of.Statement.{statement}
+use Rattle.lifecycle.proofs.rules.limits_of.Tie as tie
 
 abbrev Inv-loop : tie.InvT-loop
 Inv-loop prefixes days n key limits₀ i₀ limits i = (i ≤ n) × (limits ≡ limitsOf (rulesIn prefixes days i) key)

@@ -1,8 +1,8 @@
 -- `begins_at` meets its contract.
-use Rattle.lifecycle.proofs.Rules.{begins-in}
+use Rattle.lifecycle.proofs.Tightening.{begins-in}
 use borrow.Author.Needs.{needs}
-use Rattle.lifecycle.proofs.begins_at.Statement.{statement}
-use Rattle.lifecycle.proofs.begins_at.Tie as tie
+use Rattle.lifecycle.proofs.rules.begins_at.Statement.{statement}
+use Rattle.lifecycle.proofs.rules.begins_at.Tie as tie
 
 pub begins-at-spec : {M : Type 1} → statement M
 begins-at-spec = tie.close

@@ -1,8 +1,8 @@
 -- `copy_rule` meets its contract.
-use Rattle.lifecycle.proofs.Rules.{copy-rule-cases}
+use Rattle.lifecycle.proofs.Choosing.{copy-rule-cases}
 use borrow.Author.Needs.{needs}
-use Rattle.lifecycle.proofs.copy_rule.Statement.{statement}
-use Rattle.lifecycle.proofs.copy_rule.Tie as tie
+use Rattle.lifecycle.proofs.rules.copy_rule.Statement.{statement}
+use Rattle.lifecycle.proofs.rules.copy_rule.Tie as tie
 
 pub copy-rule-spec : {M : Type 1} → statement M
 copy-rule-spec =

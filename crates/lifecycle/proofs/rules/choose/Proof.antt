@@ -1,9 +1,9 @@
 -- `choose` meets its contract.
-use Rattle.lifecycle.proofs.Rules.{Choosing, choose-cases}
+use Rattle.lifecycle.proofs.Choosing.{Choosing, choose-cases}
 use Prim.Native.Nat.{_-_}
 use borrow.Author.Needs.{needs}
-use Rattle.lifecycle.proofs.choose.Statement.{statement}
-use Rattle.lifecycle.proofs.choose.Tie as tie
+use Rattle.lifecycle.proofs.rules.choose.Statement.{statement}
+use Rattle.lifecycle.proofs.rules.choose.Tie as tie
 
 abbrev Inv-loop : tie.InvT-loop
 Inv-loop prefixes days first near₀ periods₀ n₀ i₀ near periods n i = Choosing prefixes days first near periods n i

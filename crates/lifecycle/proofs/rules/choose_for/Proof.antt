@@ -1,8 +1,8 @@
 -- `choose_for` meets its contract.
-use Rattle.lifecycle.proofs.Rules.{chosen-cases}
+use Rattle.lifecycle.proofs.Choosing.{chosen-cases}
 use borrow.Author.Needs.{needs}
-use Rattle.lifecycle.proofs.choose_for.Statement.{statement}
-use Rattle.lifecycle.proofs.choose_for.Tie as tie
+use Rattle.lifecycle.proofs.rules.choose_for.Statement.{statement}
+use Rattle.lifecycle.proofs.rules.choose_for.Tie as tie
 
 pub choose-for-spec : {M : Type 1} → statement M
 choose-for-spec = tie.close

@@ -1,12 +1,12 @@
 -- `lay_rules` meets its contract.
-use Rattle.lifecycle.proofs.Rules.{lay-cases}
+use Rattle.lifecycle.proofs.Laying.{lay-cases}
 use Prim.Native.Nat.{_-_, _≤_}
 use lib.ListN.{drop}
 use Rattle.settings.specs.Meaning.{rulesMean}
-use Rattle.lifecycle.specs.Rules.{Laid}
+use Rattle.lifecycle.specs.Flat.{Laid}
 use borrow.Author.Needs.{needs}
-use Rattle.lifecycle.proofs.lay_rules.Statement.{statement}
-use Rattle.lifecycle.proofs.lay_rules.Tie as tie
+use Rattle.lifecycle.proofs.rules.lay_rules.Statement.{statement}
+use Rattle.lifecycle.proofs.rules.lay_rules.Tie as tie
 
 abbrev Inv-loop : tie.InvT-loop
 Inv-loop prefixes₀ days₀ rules n₀ prefixes days n = (n ≤ 8) × Laid prefixes days n (rulesMean (drop (8 - n) rules))

@@ -1,8 +1,8 @@
 -- `may_begin` meets its contract.
-use Rattle.lifecycle.proofs.Rules.{may-begin}
+use Rattle.lifecycle.proofs.Choosing.{may-begin}
 use borrow.Author.Needs.{needs}
-use Rattle.lifecycle.proofs.may_begin.Statement.{statement}
-use Rattle.lifecycle.proofs.may_begin.Tie as tie
+use Rattle.lifecycle.proofs.rules.may_begin.Statement.{statement}
+use Rattle.lifecycle.proofs.rules.may_begin.Tie as tie
 
 pub may-begin-spec : {M : Type 1} → statement M
 may-begin-spec =

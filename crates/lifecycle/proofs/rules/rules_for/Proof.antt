@@ -1,8 +1,8 @@
 -- `rules_for` meets its contract.
-use Rattle.lifecycle.proofs.Rules.{applied-cases}
+use Rattle.lifecycle.proofs.Choosing.{applied-cases}
 use borrow.Author.Needs.{needs}
-use Rattle.lifecycle.proofs.rules_for.Statement.{statement}
-use Rattle.lifecycle.proofs.rules_for.Tie as tie
+use Rattle.lifecycle.proofs.rules.rules_for.Statement.{statement}
+use Rattle.lifecycle.proofs.rules.rules_for.Tie as tie
 
 pub rules-for-spec : {M : Type 1} → statement M
 rules-for-spec =

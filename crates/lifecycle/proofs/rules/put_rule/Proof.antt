@@ -1,10 +1,10 @@
 -- `put_rule` meets its contract.
-use Rattle.lifecycle.proofs.Rules.{rule-put}
+use Rattle.lifecycle.proofs.Laying.{rule-put}
 use native.Mathlib.Omega.{arith}
 use lib.ListN.{length-set}
 use borrow.Author.Needs.{needs}
-use Rattle.lifecycle.proofs.put_rule.Statement.{statement}
-use Rattle.lifecycle.proofs.put_rule.Tie as tie
+use Rattle.lifecycle.proofs.rules.put_rule.Statement.{statement}
+use Rattle.lifecycle.proofs.rules.put_rule.Tie as tie
 
 pub put-rule-spec : {M : Type 1} → statement M
 put-rule-spec =
