@@ -15,15 +15,7 @@ use Rattle.buffers.proofs.Tests.{either}
 use Rattle.text.specs.Keys.{isKeyByte, isPrefix, isKey}
 use Rattle.text.proofs.Scans.{next}
 use Rattle.blocks.specs.Blocks.{blockOf, keyIn, isBlock}
-use Rattle.blocks.specs.Places.{placeFits}
-
--- the bytes from place j on
-abbrev pub placesFit : ℕ → ℕ → List ℕ → Bool
-placesFit n j [] = true
-placesFit n j (x ∷ l) = placeFits n j x && placesFit n (j + 1) l
-
-abbrev isZero : ℕ → Bool
-isZero x = eqb x 0
+use Rattle.blocks.specs.Places.{placeFits, placesFit, isZero}
 
 -- ## The bytes of a key, then zeros
 
@@ -105,28 +97,47 @@ all-places x l h k =
     rw (fits-block x l h k, prefix-here (take x l) g)
     (key-then-zeros x 1 x l (omega arith) (omega arith) ∙ and-comm (all isKeyByte (take x l)) (all isZero (drop x l)))
 
--- ## The loop
+-- ## The loops
 
-module _ (b : List ℕ) (n : ℕ) (ok : Bool) (i : ℕ) where
-  pub places-step : (r : Bool) (j : ℕ) → i < 64 → length b ≡ 64 → j ≡ i → r ≡ placeFits n j (getD b i 0) → placesFit n 0 b ≡ ok && placesFit n i (drop i b)
-      → placesFit n 0 b ≡ (ok && r) && placesFit n (i + 1) (drop (i + 1) b)
-  places-step r j h d q e p =
+module _ (b : List ℕ) (n : ℕ) (ok : Bool) (i to : ℕ) (p : placesFit n 0 b ≡ ok && placesFit n i (drop i b)) where
+  pub places-step : (r : Bool) (j : ℕ) → i < to → to ≤ 64 → length b ≡ 64 → j ≡ i → r ≡ placeFits n j (getD b i 0) → placesFit n 0 b ≡ (ok && r) && placesFit n (i + 1) (drop (i + 1) b)
+  places-step r j h m d q e =
       let g : i < length b = omega arith in
       p ∙ rw (next b i g, e, q) (sym (and-assoc ok (placeFits n i (getD b i 0)) (placesFit n (i + 1) (drop (i + 1) b))))
 
-pub places-long : (b : List ℕ) → length b ≡ 64 → 63 < getD b 0 0 → false ≡ isBlock b && isPrefix (keyIn b)
+  pub places-end : i ≤ to → to ≤ i → placesFit n 0 b ≡ ok && placesFit n to (drop to b)
+  places-end h k = let q : to ≡ i = omega arith in rw q p
+
+module _ (b : List ℕ) (w ok : Bool) (i : ℕ) (p : w ≡ ok && all isZero (drop i b)) where
+  pub zeros-step : i < 64 → length b ≡ 64 → w ≡ (ok && eqb (getD b i 0) 0) && all isZero (drop (i + 1) b)
+  zeros-step h d =
+      let g : i < length b = omega arith in
+      p ∙ rw (next b i g) (sym (and-assoc ok (eqb (getD b i 0) 0) (all isZero (drop (i + 1) b))))
+
+  pub zeros-end : 64 ≤ i → length b ≡ 64 → ok ≡ w
+  zeros-end h d = let g : length b ≤ i = omega arith in sym (p ∙ rw (drop-of-length-le b g) (and-true ok))
+
+pub ruleset loop-cases = (places-step, places-end, zeros-step, zeros-end)
+
+-- ## The ways of the whole test
+
+module _ (b : List ℕ) (d : length b ≡ 64) where
+  every-place : (c : List ℕ) → b ≡ c → getD b 0 0 ≤ 63 → placesFit (getD b 0 0) 0 b ≡ isBlock b && isPrefix (keyIn b)
+  every-place [] e m = let q : length b ≡ 0 = ap length e in absurd (omega arith)
+  every-place (x ∷ l) e m = let q : length b ≡ suc (length l) = ap length e in rw e (all-places x l (omega arith) (rw e at m))
+
+  pub places-short : (r q : Bool) → getD b 0 0 < 32 → placesFit (getD b 0 0) 0 b ≡ r && placesFit (getD b 0 0) 32 (drop 32 b) → q ≡ all isZero (drop 32 b)
+      → r && q ≡ isBlock b && isPrefix (keyIn b)
+  places-short r q h e z = ap (λ (t : Bool). r && t) (z ∙ sym (past (getD b 0 0) 32 (drop 32 b) h)) ∙ sym e ∙ every-place b refl (omega arith)
+
+  pub places-whole : (r : Bool) → getD b 0 0 < 64 → placesFit (getD b 0 0) 0 b ≡ r && placesFit (getD b 0 0) 64 (drop 64 b) → r ≡ isBlock b && isPrefix (keyIn b)
+  places-whole r h e = sym (e ∙ rw (drop-of-length-le b {i = 64} (omega arith)) (and-true r)) ∙ every-place b refl (omega arith)
+
+pub places-long : (b : List ℕ) → length b ≡ 64 → 64 ≤ getD b 0 0 → false ≡ isBlock b && isPrefix (keyIn b)
 places-long [] d h = absurd (omega arith)
 places-long (x ∷ l) d h = rw (long-block x l h)
 
-pub places-end : (b : List ℕ) (ok : Bool) (i : ℕ) → 64 ≤ i → length b ≡ 64 → getD b 0 0 ≤ 63 → placesFit (getD b 0 0) 0 b ≡ ok && placesFit (getD b 0 0) i (drop i b)
-    → ok ≡ isBlock b && isPrefix (keyIn b)
-places-end [] ok i h d m p = absurd (omega arith)
-places-end (x ∷ l) ok i h d m p =
-    let g : length (x ∷ l) ≤ i = omega arith in
-    let q : placesFit x 0 (x ∷ l) ≡ ok = p ∙ rw (drop-of-length-le (x ∷ l) g) (and-true ok) in
-    sym q ∙ all-places x l (omega arith) m
-
-pub ruleset places-cases = (places-step, places-long, places-end)
+pub ruleset places-cases = (places-short, places-whole, places-long)
 
 -- ## A key is a prefix that is not empty
 

@@ -2,11 +2,12 @@
 ghost use mathlib.Core.Path.{_≡_};
 ghost use mathlib.Core.Bool.{_&&_};
 ghost use Prim.Native.Nat.{_+_, _≤_};
-ghost use lib.ListN.{length, getD, replicate};
+ghost use lib.ListN.{length, getD, drop, replicate};
+ghost use Rattle.buffers.specs.Lists.{all};
 ghost use Rattle.buffers.specs.Writes.{Wrote};
 ghost use Rattle.text.specs.Keys.{isKey, isPrefix};
 ghost use Rattle.blocks.specs.Blocks.{blockOf, keyIn, isBlock};
-ghost use Rattle.blocks.specs.Places.{placeFits};
+ghost use Rattle.blocks.specs.Places.{placeFits, placesFit, isZero};
 
 // The key in the first 64 bytes of a block.
 pub fn key_in(block: &[u8]) -> &[u8]
@@ -36,24 +37,50 @@ fn place_fits(n: u8, j: u8, x: u8) -> bool
     (j == 0) | (((n < j) == (x == 0)) & ((x == 0) | ((0x21 <= x) & (x <= 0x7E))))
 }
 
-// Whether 64 bytes hold a prefix. The loop is compiled to vector code: always 64 turns, no way out, a counter as wide as a byte.
-pub fn is_prefix_block(b: &[u8]) -> bool
-    requires { ⌜ length (now b) ≡ 64 ⌝ }
-    ensures { λ r. ⌜ r ≡ isBlock (now (b .entry)) && isPrefix (keyIn (now (b .entry))) ⌝ }
+// Whether the bytes before place `to` are right. The loop is compiled to vector code: no way out, a counter as wide as a byte.
+fn places_fit(b: &[u8], to: usize) -> bool
+    requires { ⌜ (length (now b) ≡ 64) × (to ≤ 64) ⌝ }
+    ensures { λ r. ⌜ placesFit (getD (now (b .entry)) 0 0) 0 (now (b .entry)) ≡ r && placesFit (getD (now (b .entry)) 0 0) to (drop to (now (b .entry))) ⌝ }
 {
     let n = b[0];
-    if 63 < n {
-        return false;
-    }
     let mut ok = true;
     let mut j = 0u8;
     let mut i = 0;
-    while i < 64 {
+    while i < to {
         ok = ok & place_fits(n, j, b[i]);
         i += 1;
         j += 1;
     }
     ok
+}
+
+// Whether the second half of 64 bytes is zero.
+fn rest_is_zero(b: &[u8]) -> bool
+    requires { ⌜ length (now b) ≡ 64 ⌝ }
+    ensures { λ r. ⌜ r ≡ all isZero (drop 32 (now (b .entry))) ⌝ }
+{
+    let mut ok = true;
+    let mut i = 32;
+    while i < 64 {
+        ok = ok & (b[i] == 0);
+        i += 1;
+    }
+    ok
+}
+
+// Whether 64 bytes hold a prefix. Behind a short one the second half is zero, which is a cheaper test.
+pub fn is_prefix_block(b: &[u8]) -> bool
+    requires { ⌜ length (now b) ≡ 64 ⌝ }
+    ensures { λ r. ⌜ r ≡ isBlock (now (b .entry)) && isPrefix (keyIn (now (b .entry))) ⌝ }
+{
+    let n = b[0];
+    if n < 32 {
+        return places_fit(b, 32) & rest_is_zero(b);
+    }
+    if n < 64 {
+        return places_fit(b, 64);
+    }
+    false
 }
 
 // Whether 64 bytes hold a key.

@@ -2,16 +2,14 @@
 use Prim.Native.Nat.{ℕ, zero, suc, _+_, _*_, _-_, _≤_, _<_}
 use mathlib.Core.Path.{_≡_, refl, sym, ap, ap₂, _∙_}
 use mathlib.Core.Logic.{inl, inr}
-use mathlib.Core.Bool.{Bool, true, false, _&&_, _||_, and-true, and-false, and-assoc, or-false, false≢true}
+use mathlib.Core.Bool.{Bool, true, false, not, _&&_, _||_, and-true, and-false, and-assoc, or-false, false≢true}
 use mathlib.Core.List.{List, [], _∷_, _++_}
 use native.Mathlib.Omega.{arith}
 use native.Mathlib.Numerals.{add-one}
-use mir.Val.{Fits}
-use mir.Syntax.{w8}
 use lib.Dec.{eqb, ltb}
-use lib.ListN.{length, getD, take, drop, replicate, length-append, length-replicate, drop-of-length-le}
-use lib.Seq.{drop-cons, take-all, getD-take, getD-drop}
-use borrow.Author.Tests.{lt-ltb, le-ltb, ltb-false, ne-eqb}
+use lib.ListN.{length, getD, take, drop, replicate, drop-of-length-le}
+use lib.Seq.{drop-cons, getD-take, getD-drop}
+use borrow.Author.Tests.{not-true, lt-ltb, le-ltb, ltb-false, ne-eqb}
 use Rattle.buffers.specs.Lists.{all, same}
 use Rattle.buffers.proofs.Tests.{either, and-i, and-l, and-r, clash}
 use Rattle.buffers.proofs.Lists.{same-path, same-refl}
@@ -20,11 +18,12 @@ use Rattle.blocks.specs.Blocks.{blockOf, keyIn, isBlock}
 use Rattle.blocks.proofs.Blocks.{block-is}
 use Rattle.model.specs.Rows.{before}
 use Rattle.model.proofs.Order.{before-irrefl}
-use Rattle.search.specs.Keys.{rank}
+use Rattle.search.specs.declared.Order.{Order}
+use Rattle.search.specs.declared.Order.the-variants.{Before, Same, After}
 use Rattle.bucket.specs.Steps.{allBelow, isKeyBlock, blockAt, keyedAt, aheadOf, aheadAt, soundKeys}
-use Rattle.bucket.specs.Differing.{Differ}
+use Rattle.bucket.specs.Ordering.{isBlockOrder}
 use Rattle.bucket.proofs.Steps.{below-at, below-more, pick-and, cut}
-use Rattle.bucket.proofs.Differing.{tails-less, tails-more}
+use Rattle.bucket.proofs.Ordering.{apart-before}
 
 -- ## The same bytes
 
@@ -84,19 +83,15 @@ keyed a e =
       ]
     ]
 
--- The bytes behind the first.
-tail : (k : List ℕ) (x : ℕ) → length k ≤ 63 → take 63 (drop 1 (x ∷ k ++ replicate (63 - length k) 0)) ≡ k ++ replicate (63 - length k) 0
-tail k x h = take-all 63 (k ++ replicate (63 - length k) 0) (rw (length-append, length-replicate) (omega arith))
-
 module _ (a b : List ℕ) (f : isKeyBlock a ≡ true) where
-  keys-stand : isKeyBlock b ≡ true → before (take 63 (drop 1 a)) (take 63 (drop 1 b)) ≡ before (keyIn a) (keyIn b)
+  -- All bytes behind the first are in the order of the keys.
+  keys-stand : isKeyBlock b ≡ true → before (drop 1 a) (drop 1 b) ≡ before (keyIn a) (keyIn b)
   keys-stand g =
       let u = keyed a f in
       let v = keyed b g in
       let h = u .fits in
       let k = v .fits in
-      ap₂ (λ (s t : List ℕ). before (take 63 (drop 1 s)) (take 63 (drop 1 t))) (u .is) (v .is)
-      ∙ ap₂ before (tail (keyIn a) (length (keyIn a)) h) (tail (keyIn b) (length (keyIn b)) k)
+      ap₂ (λ (s t : List ℕ). before (drop 1 s) (drop 1 t)) (u .is) (v .is)
       ∙ padded (keyIn a) (keyIn b) (63 - length (keyIn a)) (63 - length (keyIn b)) (u .bytes) (v .bytes) (omega arith)
 
   -- Other bytes are those of another key.
@@ -109,28 +104,31 @@ module _ (a b : List ℕ) (f : isKeyBlock a ≡ true) where
         | inr t ↦ t
       ]
 
-  -- Two blocks of keys, by their order and by whether they are the same.
-  stand-apart : (x y : ℕ) (q : Bool) → same a b ≡ false → before (take 63 (drop 1 a)) (take 63 (drop 1 b)) ≡ q → isKeyBlock b && q ≡ isKeyBlock b && aheadOf (keyIn a) x (keyIn b) y
+  -- Blocks that are not the same, by their order.
+  stand-apart : (x y : ℕ) (q : Bool) → same a b ≡ false → before (drop 1 a) (drop 1 b) ≡ q → isKeyBlock b && q ≡ isKeyBlock b && aheadOf (keyIn a) x (keyIn b) y
   stand-apart x y q e d =
       elim (either (isKeyBlock b)) [
         | inl g ↦ rw (g, other-key g e, or-false (before (keyIn a) (keyIn b))) (sym d ∙ keys-stand g)
         | inr g ↦ rw g
       ]
 
-  module _ (x y n : ℕ) (w : Differ a b n) where
-    pub follows-same : 55 < n → ltb y x ≡ isKeyBlock b && aheadOf (keyIn a) x (keyIn b) y
-    follows-same t = rw (← same-path a b (w .alike t), f, before-irrefl (keyIn a), same-refl (keyIn a))
+  module _ (x y : ℕ) (o : Order) (w : isBlockOrder o a b ≡ true) where
+    pub follows-before : (t : Bool) → o ≡ Before → t ≡ isBlock b && isKey (keyIn b) → t ≡ isKeyBlock b && aheadOf (keyIn a) x (keyIn b) y
+    unfolding isKeyBlock
+    follows-before t q e =
+        let d : before (drop 1 a) (drop 1 b) ≡ true = rw q at w in
+        e ∙ sym (and-true (isBlock b && isKey (keyIn b))) ∙ stand-apart x y true (apart-before a b d) d
 
-    module _ (o : n ≤ 55) (u v : ℕ) (p : (j : ℕ) → Fits w8 (getD a j 0)) (q : (j : ℕ) → Fits w8 (getD b j 0)) (la : length a ≡ 64) (lb : length b ≡ 64)
-        (eu : u ≡ rank 8 (drop (n + 1) a)) (ev : v ≡ rank 8 (drop (n + 1) b)) where
-      pub follows-less : (t : Bool) → u < v → t ≡ isBlock b && isKey (keyIn b) → t ≡ isKeyBlock b && aheadOf (keyIn a) x (keyIn b) y
-      unfolding isKeyBlock
-      follows-less t d e = e ∙ sym (and-true (isBlock b && isKey (keyIn b))) ∙ stand-apart x y true (w .apart o) (tails-less a b n u v w o p q la lb eu ev d)
+    pub follows-same : o ≡ Same → ltb y x ≡ isKeyBlock b && aheadOf (keyIn a) x (keyIn b) y
+    follows-same q = rw (← same-path a b (rw q at w), f, before-irrefl (keyIn a), same-refl (keyIn a))
 
-      pub follows-more : v ≤ u → false ≡ isKeyBlock b && aheadOf (keyIn a) x (keyIn b) y
-      follows-more d = sym (and-false (isKeyBlock b)) ∙ stand-apart x y false (w .apart o) (tails-more a b n u v w o p q la lb eu ev d)
+    pub follows-after : o ≡ After → false ≡ isKeyBlock b && aheadOf (keyIn a) x (keyIn b) y
+    follows-after q =
+        let d : (not (before (drop 1 a) (drop 1 b)) && not (same a b)) ≡ true = rw q at w in
+        sym (and-false (isKeyBlock b))
+        ∙ stand-apart x y false (not-true (same a b) (and-r (not (before (drop 1 a) (drop 1 b))) _ d)) (not-true (before (drop 1 a) (drop 1 b)) (and-l _ _ d))
 
-pub ruleset follows-cases = (follows-same, follows-less, follows-more)
+pub ruleset follows-cases = (follows-before, follows-same, follows-after)
 
 -- ## The rows one after the other
 

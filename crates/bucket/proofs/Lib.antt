@@ -1,5 +1,5 @@
 pub mod Steps
-pub mod Differing
+pub mod Ordering
 pub mod Following
 pub mod Laying
 pub mod Whole

@@ -1,3 +1,3 @@
 pub mod Whole
 pub mod Steps
-pub mod Differing
+pub mod Ordering

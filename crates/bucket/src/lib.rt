@@ -1,16 +1,17 @@
 // Refusal 1: whether settings and buffers hold a sound bucket, and the key of a row of one. The definitions are in specs/.
+use search::Order;
 use settings::Settings;
 ghost use mathlib.Core.Path.{_≡_};
-ghost use mathlib.Core.Bool.{true, _&&_};
+ghost use mathlib.Core.Bool.{true, false, _&&_};
 ghost use mathlib.Core.List.{[]};
 ghost use Prim.Native.Nat.{_+_, _*_, _≤_, _<_};
-ghost use lib.ListN.{length, drop};
+ghost use lib.ListN.{length, take, drop};
 ghost use Rattle.buffers.specs.Lists.{same};
 ghost use Rattle.blocks.specs.Blocks.{keyIn};
 ghost use Rattle.model.specs.Rows.{soundRetention, soundData, soundMarker};
 ghost use Rattle.table.specs.Layout.{rowIn};
 ghost use Rattle.bucket.specs.Steps.{allBelow, zeros, soundNumbers, numbersAt, isKeyBlock, keyedAt, aheadOf, aheadAt, soundKeys, soundTable};
-ghost use Rattle.bucket.specs.Differing.{Shared, Differ};
+ghost use Rattle.bucket.specs.Ordering.{isOrderTo, isBlockOrder};
 ghost use Rattle.bucket.specs.Whole.{whole, keyOf};
 
 // Whether the retention's mode and date belong together.
@@ -94,39 +95,69 @@ fn is_same(a: &[u8], b: &[u8]) -> bool
     ok
 }
 
-// How many bytes behind the first are the same in both, counted on from n by eights; less than `to` only where the next eight differ.
-fn shared_to(a: &[u8], b: &[u8], n: usize, to: usize) -> usize
-    requires { ⌜ (length (now a) ≡ 64) × (length (now b) ≡ 64) × (to ≤ 55) ⌝ }
-    requires { ⌜ Shared (now a) (now b) 0 n ⌝ }
-    ensures { λ r. ⌜ Shared (now (a .entry)) (now (b .entry)) to r ⌝ }
+// The bytes behind the first, of which n are known to be the same, compared by eights up to `to`.
+fn order_to(a: &[u8], b: &[u8], n: usize, to: usize) -> Order
+    requires { ⌜ (length (now a) ≡ 64) × (length (now b) ≡ 64) × (to ≤ 56) ⌝ }
+    requires { ⌜ take n (drop 1 (now a)) ≡ take n (drop 1 (now b)) ⌝ }
+    ensures { λ r. ⌜ isOrderTo to r (drop 1 (now (a .entry))) (drop 1 (now (b .entry))) ≡ true ⌝ }
 {
     let mut i = n;
     while i < to {
-        if buffers::word_at(a, i + 1) != buffers::word_at(b, i + 1) {
-            return i;
+        let x = search::rank_at(a, i + 1);
+        let y = search::rank_at(b, i + 1);
+        if x < y {
+            return Order::Before;
+        }
+        if y < x {
+            return Order::After;
         }
         i += 8;
     }
-    i
+    Order::Same
 }
 
-// How many bytes behind the first are the same in both, at most 55: then one of the next eight differs, or the first byte; 64 where all bytes are the same.
-fn differ_at(a: &[u8], b: &[u8]) -> usize
-    requires { ⌜ (length (now a) ≡ 64) × (length (now b) ≡ 64) ⌝ }
-    ensures { λ r. ⌜ Differ (now (a .entry)) (now (b .entry)) r ⌝ }
+// Two blocks that are not the same, by their last eight bytes.
+fn order_last(a: &[u8], b: &[u8]) -> Order
+    requires { ⌜ (length (now a) ≡ 64) × (length (now b) ≡ 64) × (same (now a) (now b) ≡ false) ⌝ }
+    requires { ⌜ take 56 (drop 1 (now a)) ≡ take 56 (drop 1 (now b)) ⌝ }
+    ensures { λ r. ⌜ isBlockOrder r (now (a .entry)) (now (b .entry)) ≡ true ⌝ }
 {
-    let i = shared_to(a, b, 0, 24);
-    if i < 24 {
-        return i;
+    let x = search::rank_at(a, 56);
+    let y = search::rank_at(b, 56);
+    if x < y {
+        return Order::Before;
     }
+    Order::After
+}
+
+// Two blocks whose first bytes are known to be the same.
+fn order_on(a: &[u8], b: &[u8]) -> Order
+    requires { ⌜ (length (now a) ≡ 64) × (length (now b) ≡ 64) ⌝ }
+    requires { ⌜ take 24 (drop 1 (now a)) ≡ take 24 (drop 1 (now b)) ⌝ }
+    ensures { λ r. ⌜ isBlockOrder r (now (a .entry)) (now (b .entry)) ≡ true ⌝ }
+{
     if is_same(a, b) {
-        return 64;
+        return Order::Same;
     }
-    let j = shared_to(a, b, i, 55);
-    if j < 55 {
-        return j;
+    let o = order_to(a, b, 24, 56);
+    match o {
+        Order::Before => Order::Before,
+        Order::Same => order_last(a, b),
+        Order::After => Order::After,
     }
-    55
+}
+
+// Two blocks, by the bytes behind the first.
+fn order_of(a: &[u8], b: &[u8]) -> Order
+    requires { ⌜ (length (now a) ≡ 64) × (length (now b) ≡ 64) ⌝ }
+    ensures { λ r. ⌜ isBlockOrder r (now (a .entry)) (now (b .entry)) ≡ true ⌝ }
+{
+    let o = order_to(a, b, 0, 24);
+    match o {
+        Order::Before => Order::Before,
+        Order::Same => order_on(a, b),
+        Order::After => Order::After,
+    }
 }
 
 // Whether 64 bytes b are those of a key, and version x of the key in a stands before version y of that key.
@@ -134,17 +165,13 @@ fn follows(a: &[u8], x: u64, b: &[u8], y: u64) -> bool
     requires { ⌜ (length (now a) ≡ 64) × (length (now b) ≡ 64) × (isKeyBlock (now a) ≡ true) ⌝ }
     ensures { λ r. ⌜ r ≡ isKeyBlock (now (b .entry)) && aheadOf (keyIn (now (a .entry))) x (keyIn (now (b .entry))) y ⌝ }
 {
-    let i = differ_at(a, b);
-    if 55 < i {
-        return y < x;
-    }
     // zeros stand before every byte of a key, so that all bytes behind the first are in the order of the keys
-    let first = search::rank_at(a, i + 1);
-    let second = search::rank_at(b, i + 1);
-    if first < second {
-        return blocks::is_key_block(b);
+    let o = order_of(a, b);
+    match o {
+        Order::Before => blocks::is_key_block(b),
+        Order::Same => y < x,
+        Order::After => false,
     }
-    false
 }
 
 // Whether the row behind the one at `at` has a key, and stands behind it.

@@ -118,7 +118,7 @@ rank-less (suc k) (x ∷ s) (y ∷ t) p q l =
     ]
 
 -- Equal numbers are those of equal bytes.
-pub rank-same : (k : ℕ) (s t : List ℕ) → AllBytes s → AllBytes t → k ≤ length s → k ≤ length t → rank k s ≡ rank k t → take k s ≡ take k t
+rank-same : (k : ℕ) (s t : List ℕ) → AllBytes s → AllBytes t → k ≤ length s → k ≤ length t → rank k s ≡ rank k t → take k s ≡ take k t
 unfolding rank
 rank-same zero s t p q h g l = refl
 rank-same (suc k) [] t p q h g l = absurd (omega arith)
@@ -145,10 +145,10 @@ alike-take (suc i) (x ∷ a) (y ∷ b) h g e =
     let r : take i a ≡ take i b = cc in
     record { alike = λ o. same-head o x y a b z ∙ alike-take i a b (omega arith) (omega arith) r .alike o }
 
-pub bytes-from : (i : ℕ) (s : List ℕ) → AllBytes s → AllBytes (drop i s)
+bytes-from : (i : ℕ) (s : List ℕ) → AllBytes s → AllBytes (drop i s)
 bytes-from i s h k = rw (getD-drop i s k 0) (h (i + k))
 
-pub all-bytes : (s : List ℕ) → ((j : ℕ) → Fits w8 (getD s j 0)) → AllBytes s
+all-bytes : (s : List ℕ) → ((j : ℕ) → Fits w8 (getD s j 0)) → AllBytes s
 all-bytes s h j = omega (arith, h j)
 
 module _ (a b : List ℕ) (i x y : ℕ) (p : (j : ℕ) → Fits w8 (getD a j 0)) (q : (j : ℕ) → Fits w8 (getD b j 0))
@@ -268,7 +268,7 @@ drop-take : (n : ℕ) (s : List ℕ) → drop 1 (take (suc n) s) ≡ take n (dro
 drop-take n [] = sym (take-nil n)
 drop-take n (x ∷ s) = refl
 
-pub bytes-to : (n : ℕ) (s : List ℕ) → AllBytes s → AllBytes (take n s)
+bytes-to : (n : ℕ) (s : List ℕ) → AllBytes s → AllBytes (take n s)
 bytes-to n s h k =
     elim (either (ltb k n)) [
       | inl e ↦ rw (getD-take n s k 0 (ltb-true k n e)) (h k)
