@@ -9,17 +9,15 @@ use mir.Val.{Fits}
 use mir.Syntax.{w8}
 use native.Mathlib.Nat.{mul-le-mul-right, suc-mul, pow-succ'}
 use lib.Dec.{eqb, ltb}
-use lib.ListN.{length, getD, take, drop, replicate, length-take, length-drop, drop-of-length-le, List·getD-eq-default}
-use lib.Seq.{take-nil, take-take, take-add, drop-drop, getD-take, getD-drop}
+use lib.ListN.{length, getD, take, drop, length-drop, drop-of-length-le}
+use lib.Seq.{take-take, take-add, getD-drop}
 use borrow.Author.Tests.{eq-eqb, eqb-true, eqb-false, lt-ltb, le-ltb, ltb-true, ltb-false}
 use Rattle.buffers.specs.Ranges.{Within}
 use Rattle.buffers.specs.Words.{AllBytes}
-use Rattle.buffers.specs.Writes.{Wrote}
 use Rattle.buffers.specs.Lists.{same}
 use Rattle.buffers.proofs.Tests.{either, clash, or-l, or-r, and-i}
 use Rattle.buffers.proofs.Lists.{same-path}
 use Rattle.text.proofs.Scans.{next}
-use Rattle.table.specs.Places.{keyAt}
 use Rattle.model.specs.Rows.{before}
 use Rattle.model.proofs.Order.{before-trans, before-irrefl}
 use Rattle.search.specs.Keys.{isOrder, rank, Shorter, LastEight}
@@ -100,7 +98,7 @@ greater : (x y p q r : ℕ) → p < r → x < y → x * r + p < y * r + q
 greater x y p q r h l = let m : suc x * r ≤ y * r = mul-le-mul-right r l in omega (arith, suc-mul x r)
 
 -- A smaller number is that of the key before; behind a shorter key zeros count.
-rank-less : (k : ℕ) (s t : List ℕ) → AllBytes s → AllBytes t → rank k s < rank k t → before s t ≡ true
+pub rank-less : (k : ℕ) (s t : List ℕ) → AllBytes s → AllBytes t → rank k s < rank k t → before s t ≡ true
 unfolding rank
 rank-less zero s t p q l = absurd (omega arith)
 rank-less (suc k) [] [] p q l = absurd (omega arith)
@@ -145,10 +143,10 @@ alike-take (suc i) (x ∷ a) (y ∷ b) h g e =
     let r : take i a ≡ take i b = cc in
     record { alike = λ o. same-head o x y a b z ∙ alike-take i a b (omega arith) (omega arith) r .alike o }
 
-bytes-from : (i : ℕ) (s : List ℕ) → AllBytes s → AllBytes (drop i s)
+pub bytes-from : (i : ℕ) (s : List ℕ) → AllBytes s → AllBytes (drop i s)
 bytes-from i s h k = rw (getD-drop i s k 0) (h (i + k))
 
-all-bytes : (s : List ℕ) → ((j : ℕ) → Fits w8 (getD s j 0)) → AllBytes s
+pub all-bytes : (s : List ℕ) → ((j : ℕ) → Fits w8 (getD s j 0)) → AllBytes s
 all-bytes s h j = omega (arith, h j)
 
 module _ (a b : List ℕ) (i x y : ℕ) (p : (j : ℕ) → Fits w8 (getD a j 0)) (q : (j : ℕ) → Fits w8 (getD b j 0))
@@ -236,67 +234,6 @@ module _ (a b : List ℕ) (n i : ℕ) (w : Words a b n i) where
       }
 
 pub ruleset word-cases = (words-start, words-left, words-right, words-less, words-more, words-again, words-end)
-
--- ## By the first eight bytes
-
-zeros-rank : (k m c : ℕ) → rank k (drop m (replicate c 0)) ≡ 0
-unfolding rank
-zeros-rank zero m c = refl
-zeros-rank (suc k) zero zero = refl
-zeros-rank (suc k) (suc m) zero = refl
-zeros-rank (suc k) zero (suc c) = omega (arith, zeros-rank k zero c)
-zeros-rank (suc k) (suc m) (suc c) = zeros-rank (suc k) m c
-
-rank-padded : (k : ℕ) (s : List ℕ) (m c : ℕ) → rank k (s ++ drop m (replicate c 0)) ≡ rank k s
-unfolding rank
-rank-padded zero s m c = refl
-rank-padded (suc k) [] m c = zeros-rank (suc k) m c
-rank-padded (suc k) (x ∷ s) m c = ap (λ (r : ℕ). x * 256 ^ k + r) (rank-padded k s m c)
-
--- Eight zeros with a key written over them spell what the key's first eight bytes do.
-pub first-padded : (s eight : List ℕ) (e r : ℕ) → Wrote (replicate 8 0) 0 s (length s) eight e → r ≡ rank 8 (drop 0 eight) → r ≡ rank 8 s
-first-padded s eight e r w q = q ∙ ap (rank 8) (w .holds) ∙ rank-padded 8 s (0 + length s) 8
-
-rank-take : (k n : ℕ) (s : List ℕ) → k ≤ n → rank k (take n s) ≡ rank k s
-unfolding rank
-rank-take zero n s h = refl
-rank-take (suc k) zero s h = absurd (omega arith)
-rank-take (suc k) (suc n) [] h = refl
-rank-take (suc k) (suc n) (x ∷ s) h = ap (λ (r : ℕ). x * 256 ^ k + r) (rank-take k n s (omega arith))
-
-drop-take : (n : ℕ) (s : List ℕ) → drop 1 (take (suc n) s) ≡ take n (drop 1 s)
-drop-take n [] = sym (take-nil n)
-drop-take n (x ∷ s) = refl
-
-bytes-to : (n : ℕ) (s : List ℕ) → AllBytes s → AllBytes (take n s)
-bytes-to n s h k =
-    elim (either (ltb k n)) [
-      | inl e ↦ rw (getD-take n s k 0 (ltb-true k n e)) (h k)
-      | inr e ↦ rw (List·getD-eq-default (take n s) 0 {n = k} (rw length-take (omega (arith, ltb-false k n e)))) (omega arith)
-    ]
-
--- The key in a row's block, where it has eight bytes or more.
-module _ (b k : List ℕ) (i x y : ℕ) (ex : x ≡ rank 8 (drop (64 * i + 1) b)) (ey : y ≡ rank 8 k) (h : 8 ≤ getD b (64 * i) 0) (p : (j : ℕ) → Fits w8 (getD b j 0)) (q : (j : ℕ) → Fits w8 (getD k j 0)) where
-  stored-bytes : AllBytes (keyAt b i)
-  stored-bytes =
-      let block = take 64 (drop (64 * i) b) in
-      bytes-to (getD block 0 0) (drop 1 block) (bytes-from 1 block (bytes-to 64 (drop (64 * i) b) (bytes-from (64 * i) b (all-bytes b p))))
-
-  stored-rank : x ≡ rank 8 (keyAt b i)
-  stored-rank =
-      let z : 64 * i + 0 ≡ 64 * i = omega arith in
-      let f : getD (take 64 (drop (64 * i) b)) 0 0 ≡ getD b (64 * i) 0 = getD-take 64 (drop (64 * i) b) 0 0 (omega arith) ∙ getD-drop (64 * i) b 0 0 ∙ rw z in
-      ex ∙ ap (rank 8) (sym (drop-drop 1 (64 * i) b)) ∙ sym (rank-take 8 63 (drop 1 (drop (64 * i) b)) (omega arith))
-      ∙ ap (rank 8) (sym (drop-take 63 (drop (64 * i) b)))
-      ∙ sym (rank-take 8 (getD (take 64 (drop (64 * i) b)) 0 0) (drop 1 (take 64 (drop (64 * i) b))) (omega arith))
-
-  pub first-less : x < y → isOrder Before (keyAt b i) k ≡ true
-  first-less d = rank-less 8 (keyAt b i) k stored-bytes (all-bytes k q) (omega (arith, stored-rank))
-
-  pub first-more : y < x → isOrder After (keyAt b i) k ≡ true
-  first-more d = rank-less 8 k (keyAt b i) (all-bytes k q) stored-bytes (omega (arith, stored-rank))
-
-pub ruleset first-cases = (first-padded, first-less, first-more)
 
 -- ## What an order says of the other two
 

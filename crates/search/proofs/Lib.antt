@@ -1,4 +1,5 @@
 pub mod Comparing
+pub mod Ranking
 pub mod Positions
 pub mod Halving
 pub mod Named
