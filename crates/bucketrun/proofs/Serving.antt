@@ -61,9 +61,6 @@ module _ (n₀ b₀ out₀ block : List ℕ) where
     pub line-room : at ≤ 65536 → at + 65536 ≤ length out
     line-room h = omega (arith, g .long)
 
-    pub line-whole : whole s n b ≡ true
-    line-whole = g .is-whole
-
     -- A line is served with the part of the output from `at` on.
     module _ (k : ℕ) (r : Served) (n′ b′ p : List ℕ) (h : at ≤ 65536) (q : served r n′ b′ p ≡ outcome s n b (take (i + k - i) (drop i block)) (midOf at (at + 65536 - at) out))
         (lp : length p ≡ length (midOf at (at + 65536 - at) out)) where
@@ -143,8 +140,6 @@ module _ (input : List ℕ) (from to : ℕ) (ys : List ℕ) (h : Span from to (l
 
 pub ruleset keep-cases = (kept-all, kept-cut)
 
-pub ruleset block-cases = (end-inside, first-line, line-whole, line-room, next-line, lines-done, lines-stopped)
-
 -- ## The run
 
 -- A bucket of zeros is fresh.
@@ -192,5 +187,3 @@ module _ (input₀ n₀ b₀ out₀ : List ℕ) where
           keys-same = lb ∙ g .keys-same;
           out-same = lo ∙ g .out-same;
         }
-
-pub ruleset run-cases = (first-block, block-ready, next-block)

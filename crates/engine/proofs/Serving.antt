@@ -128,5 +128,3 @@ whole-at s n b w e f = sym e ∙ f
 -- For callers: the answer stands within its buffer.
 pub answer-fits : (s : Settings) (n b line a n′ b′ a′ : List ℕ) (r : Served) → served r n′ b′ a′ ≡ outcome s n b line a → r .length ≤ length a′
 answer-fits s n b line a n′ b′ a′ r q = subst⁻¹ (λ (o : Outcome). o .length ≤ length (o .answer)) q (outcome-fits s n b line a)
-
-pub ruleset lines = (whole-at, whole-rules, line-1, line-2, line-3, line-settable, line-actable, line-sweeps, line-screened, line-set, line-acted, line-swept)

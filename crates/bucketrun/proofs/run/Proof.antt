@@ -1,6 +1,6 @@
 -- `run` meets its contract.
 use Rattle.bucketrun.specs.Course.{Running}
-use Rattle.bucketrun.proofs.Serving.{run-cases}
+use Rattle.bucketrun.proofs.Serving.{first-block, block-ready, next-block}
 use borrow.Author.Needs.{needs}
 use Rattle.bucketrun.proofs.run.Statement.{statement}
 use Rattle.bucketrun.proofs.run.Tie as tie
@@ -18,28 +18,28 @@ run-spec =
     (tie.spec
     Inv-loop
     μ-loop
-    (λ c. search (needs, run-cases))
-    (λ c κs. search (needs, run-cases))
-    (λ c. search (needs, run-cases))
-    (λ c. search (needs, run-cases))
-    (λ c. search (needs, run-cases))
-    (λ c κs. search (needs, run-cases))
-    (λ c. search (needs, run-cases))
-    (λ c. search (needs, run-cases))
-    (λ c. search (needs, run-cases))
-    (λ c. search (needs, run-cases))
-    (λ c. search (needs, run-cases))
-    (λ c κs. search (needs, run-cases))
-    (λ c. search (needs, run-cases))
-    (λ c. search (needs, run-cases))
-    (λ c. search (needs, run-cases))
-    (λ c. search (needs, run-cases))
-    (λ c. search (needs, run-cases))
-    (λ c. search (needs, run-cases))
-    (λ c. search (needs, run-cases))
-    (λ c. search (needs, run-cases))
-    (λ c. search (needs, run-cases))
-    (λ c. search (needs, run-cases))
-    (λ c. search (needs, run-cases))
-    (λ c. search (needs, run-cases))
-    (λ c. search (needs, run-cases)))
+    (λ c. search (needs, first-block))
+    (λ c κs. search needs)
+    (λ c. search needs)
+    (λ c. search needs)
+    (λ c. search needs)
+    (λ c κs. search needs)
+    (λ c. search needs)
+    (λ c. search needs)
+    (λ c. search needs)
+    (λ c. search needs)
+    (λ c. search needs)
+    (λ c κs. search (needs, block-ready))
+    (λ c. search needs)
+    (λ c. search needs)
+    (λ c. search (needs, next-block))
+    (λ c. search needs)
+    (λ c. search needs)
+    (λ c. search needs)
+    (λ c. search needs)
+    (λ c. search needs)
+    (λ c. search needs)
+    (λ c. search needs)
+    (λ c. search needs)
+    (λ c. search needs)
+    (λ c. search needs))

@@ -3,7 +3,7 @@ use Prim.Native.Nat.{_+_, _-_}
 use lib.ListN.{length, take, drop}
 use Rattle.text.specs.Lines.{linesOf}
 use Rattle.bucketrun.specs.Course.{Serving, held, leave}
-use Rattle.bucketrun.proofs.Serving.{block-cases, line-room, next-line, part-most}
+use Rattle.bucketrun.proofs.Serving.{first-line, line-room, next-line, part-most, lines-done, lines-stopped}
 use Rattle.engine.proofs.Serving.{answer-fits}
 use borrow.Author.Needs.{needs}
 use Rattle.bucketrun.proofs.serve_lines.Statement.{statement}
@@ -26,30 +26,30 @@ serve-lines-spec =
     (tie.spec
     Inv-loop
     μ-loop
-    (λ c. search (needs, block-cases))
-    (λ c. search (needs, block-cases))
-    (λ c. search (needs, block-cases))
-    (λ c. search (needs, block-cases))
-    (λ c κs. search (needs, block-cases))
-    (λ c. search (needs, block-cases))
-    (λ c. search (needs, block-cases))
-    (λ c. search (needs, block-cases))
-    (λ c. search (needs, block-cases))
-    (λ c. search (needs, block-cases))
-    (λ c. search (needs, block-cases))
-    (λ c. search (needs, block-cases))
-    (λ c. search (needs, block-cases))
-    (λ c. search (needs, block-cases))
-    (λ c κs. search (needs, block-cases))
+    (λ c. search (needs, first-line))
+    (λ c. search needs)
+    (λ c. search needs)
+    (λ c. search needs)
+    (λ c κs. search needs)
+    (λ c. search needs)
+    (λ c. search needs)
+    (λ c. search needs)
+    (λ c. search needs)
+    (λ c. search needs)
+    (λ c. search needs)
+    (λ c. search needs)
+    (λ c. search needs)
+    (λ c. search needs)
+    (λ c κs. search needs)
     print-requires
-    (λ c κs. search (needs, block-cases))
-    (λ c. search (needs, block-cases))
+    (λ c κs. search needs)
+    (λ c. search needs)
     (λ c. search (needs, next-line))
-    (λ c. search (needs, block-cases))
-    (λ c. search (needs, block-cases))
-    (λ c. search (needs, block-cases))
-    (λ c. search (needs, block-cases))
-    (λ c. search (needs, block-cases))
-    (λ c. search (needs, block-cases))
-    (λ c. search (needs, block-cases))
-    (λ c. search (needs, block-cases)))
+    (λ c. search needs)
+    (λ c. search needs)
+    (λ c. search needs)
+    (λ c. search (needs, lines-stopped))
+    (λ c. search needs)
+    (λ c. search needs)
+    (λ c. search needs)
+    (λ c. search (needs, lines-done)))
