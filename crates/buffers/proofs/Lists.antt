@@ -138,3 +138,13 @@ same-path (x ∷ xs) (y ∷ ys) e =
       | inl q ↦ ap₂ (λ (a : ℕ) (l : List ℕ). a ∷ l) (eqb-true x y q) (same-path xs ys (rw q at e))
       | inr q ↦ absurd (false≢true (rw q at e))
     ]
+
+pub same-sym : (s t : List ℕ) → same s t ≡ same t s
+same-sym s t =
+    elim (either (same s t)) [
+      | inl e ↦ rw (same-path s t e)
+      | inr e ↦ elim (either (same t s)) [
+        | inl f ↦ rw (same-path t s f)
+        | inr f ↦ e ∙ sym f
+      ]
+    ]

@@ -16,7 +16,7 @@ use Rattle.buffers.specs.Ranges.{Within}
 use Rattle.buffers.specs.Words.{AllBytes}
 use Rattle.buffers.specs.Lists.{same}
 use Rattle.buffers.proofs.Tests.{either, clash, or-l, or-r, and-i}
-use Rattle.buffers.proofs.Lists.{same-path}
+use Rattle.buffers.proofs.Lists.{same-path, same-sym}
 use Rattle.text.proofs.Scans.{next}
 use Rattle.model.specs.Rows.{before}
 use Rattle.model.proofs.Order.{before-trans, before-irrefl}
@@ -239,16 +239,6 @@ pub ruleset word-cases = (words-start, words-left, words-right, words-less, word
 
 pub order-of : (o : Order) (a s b : List ℕ) → isOrder o s b ≡ true → s ≡ a → isOrder o a b ≡ true
 order-of o a s b e q = rw q at e
-
-pub same-sym : (s t : List ℕ) → same s t ≡ same t s
-same-sym s t =
-    elim (either (same s t)) [
-      | inl e ↦ rw (same-path s t e)
-      | inr e ↦ elim (either (same t s)) [
-        | inl f ↦ rw (same-path t s f)
-        | inr f ↦ e ∙ sym f
-      ]
-    ]
 
 pub before-one : (a b : List ℕ) → before a b ≡ true → same a b ≡ false
 before-one a b e =

@@ -11,14 +11,14 @@ use borrow.Author.Tests.{eqb-true, not-true}
 use Rattle.buffers.specs.Choices.{pick, thenSome}
 use Rattle.buffers.specs.Lists.{all, keep, first, change, same}
 use Rattle.buffers.proofs.Tests.{either, clash, and-l, and-r, or-one}
-use Rattle.buffers.proofs.Lists.{same-path, all-as}
+use Rattle.buffers.proofs.Lists.{same-path, all-as, same-sym}
 use Rattle.model.specs.Rows.{Row, before, ahead, ordered}
 use Rattle.model.specs.Requests.{Name, name, numbered}
 use Rattle.model.specs.Effects.{rowOf, sameVersion, isNamed, insert}
 use Rattle.model.proofs.SoundRows.{apart, version-refl}
 use Rattle.table.specs.Changes.{insertAt, removeAt}
 use Rattle.search.specs.Places.{leading, rowFrom, foundIf, keyPlace, currentIn, versionPlace, versionIn, rowFound, placeFound}
-use Rattle.search.proofs.Comparing.{same-sym, before-one}
+use Rattle.search.proofs.Comparing.{before-one}
 use Rattle.search.proofs.Positions.{all-row, place-if}
 use Rattle.search.proofs.Halving.{versionRow}
 
