@@ -1,5 +1,6 @@
 -- `serve_whole` meets its contract: each way through it is one of the cited laws.
 use Rattle.engine.proofs.Serving.{whole-rules, line-2, line-3, line-settable, line-actable, line-sweeps, line-screened, line-set, line-acted, line-swept}
+use native.Mathlib.Omega.{arith}
 use borrow.Author.Needs.{needs}
 use Rattle.engine.proofs.serve_whole.Statement.{statement}
 use Rattle.engine.proofs.serve_whole.Tie as tie
@@ -10,7 +11,7 @@ returns-5 c =
     let read = met .before .before .before .before .before .before .before .before in
     let start = read .before .before .before .before .before .before .before .before in
     line-swept (start .args .s) (start .args .rows .now) (start .args .keys .now) (start .args .line .now) (start .args .answer .now) _ _
-    (start .pre) (read .before .before .before .if1 .left) (read .before .before .read-line .ensures) (read .q .given .1)
+    (start .pre) (omega (arith, read .before .before .before .if1 .left)) (read .before .before .read-line .ensures) (read .q .given .1)
     _ (met .before .before .before .before .before .before .larger .ensures) _ (met .before .before .before .before .before .screen .ensures) (met .before .before .before .before .if2 .left) _ (met .before .before .before .is-setting .ensures) (met .before .before .if3 .left)
     _ (met .before .state-of .ensures) _ _ _ _ _ (c .settle .ensures) _ (met .is-sweep .ensures) (c .before .before .before .before .before .before .before .before .before .before .before .before .if4 .taken) (c .before .before .before .before .before .before .before .act-sweep .ensures)
 
@@ -20,7 +21,7 @@ returns-6 c =
     let read = met .before .before .before .before .before .before .before .before in
     let start = read .before .before .before .before .before .before .before .before in
     line-acted (start .args .s) (start .args .rows .now) (start .args .keys .now) (start .args .line .now) (start .args .answer .now) _ _
-    (start .pre) (read .before .before .before .if1 .left) (read .before .before .read-line .ensures) (read .q .given .1)
+    (start .pre) (omega (arith, read .before .before .before .if1 .left)) (read .before .before .read-line .ensures) (read .q .given .1)
     _ (met .before .before .before .before .before .before .larger .ensures) _ (met .before .before .before .before .before .screen .ensures) (met .before .before .before .before .if2 .left) _ (met .before .before .before .is-setting .ensures) (met .before .before .if3 .left)
     _ (met .before .state-of .ensures) _ _ _ _ _ (c .settle2 .ensures) (c .before .before .before .before .before .before .before .act .ensures)
 
