@@ -50,10 +50,11 @@ fn key(number: usize) -> String {
     format!("gauge/{:03}/level-{number:04}", number % 37)
 }
 
-/// A call to be measured: its name, what it answers, its answer buffer, and its lines, served in turn.
+/// A call to be measured: its name, what it answers, whether its settings are spoilt, its answer buffer, and its lines, served in turn.
 struct Call {
     name: &'static str,
     number: u64,
+    spoilt: bool,
     answer: usize,
     lines: fn(usize, u64) -> Vec<String>,
 }
@@ -74,17 +75,22 @@ fn put_and_delete(_: usize, next: u64) -> Vec<String> {
     ]
 }
 
-const CALLS_MEASURED: [Call; 4] = [
-    Call { name: "soundness alone (refusal 2)", number: 2, answer: 255, lines: unreadable },
-    Call { name: "unreadable line", number: 3, answer: 256, lines: unreadable },
-    Call { name: "GET", number: 0, answer: 256, lines: get },
-    Call { name: "PUT and DELETE, each", number: 0, answer: 256, lines: put_and_delete },
+const CALLS_MEASURED: [Call; 5] = [
+    Call { name: "decoding (refusal 1, by the settings)", number: 1, spoilt: true, answer: 256, lines: unreadable },
+    Call { name: "decoding and soundness (refusal 2)", number: 2, spoilt: false, answer: 255, lines: unreadable },
+    Call { name: "unreadable line", number: 3, spoilt: false, answer: 256, lines: unreadable },
+    Call { name: "GET", number: 0, spoilt: false, answer: 256, lines: get },
+    Call { name: "PUT and DELETE, each", number: 0, spoilt: false, answer: 256, lines: put_and_delete },
 ];
 
 /// The nanoseconds of processor time of a call, a pair counting as two.
 fn measure(serve: Serve, call: &Call, used: usize, start: &Buffers) -> u64 {
     let mut bucket = start.clone();
     bucket.answer.resize(call.answer, 0);
+    if call.spoilt {
+        // no sound bucket has 0 for its next version number
+        bucket.settings[16..24].fill(0);
+    }
     let first = used as u64 + 1;
     let lists: Vec<Vec<String>> = (0..CALLS).map(|turn| (call.lines)(used, first + turn)).collect();
     let count = lists.iter().map(Vec::len).sum::<usize>() as u64;
