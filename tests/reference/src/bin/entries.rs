@@ -50,7 +50,8 @@ fn key(number: usize) -> String {
     format!("gauge/{:03}/level-{number:04}", number % 37)
 }
 
-/// A call to be measured: its name, what it answers, whether its settings are spoilt, its answer buffer, and its lines, served in turn.
+/// A call to be measured: its name, what it answers, whether its settings are made unsound, its answer buffer,
+/// and its lines, served in turn.
 struct Call {
     name: &'static str,
     number: u64,
@@ -76,8 +77,8 @@ fn put_and_delete(_: usize, next: u64) -> Vec<String> {
 }
 
 const CALLS_MEASURED: [Call; 5] = [
-    Call { name: "decoding (refusal 1, by the settings)", number: 1, spoilt: true, answer: 256, lines: unreadable },
-    Call { name: "decoding and soundness (refusal 2)", number: 2, spoilt: false, answer: 255, lines: unreadable },
+    Call { name: "decoding (refusal 1)", number: 1, spoilt: true, answer: 256, lines: unreadable },
+    Call { name: "and soundness (refusal 2)", number: 2, spoilt: false, answer: 255, lines: unreadable },
     Call { name: "unreadable line", number: 3, spoilt: false, answer: 256, lines: unreadable },
     Call { name: "GET", number: 0, spoilt: false, answer: 256, lines: get },
     Call { name: "PUT and DELETE, each", number: 0, spoilt: false, answer: 256, lines: put_and_delete },
