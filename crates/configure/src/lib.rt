@@ -1,35 +1,17 @@
 // DEFAULT and RULE: what they set. The definitions are in the model.
-use request::Verb;
+use request::Setting;
 use settings::Settings;
-ghost use mathlib.Core.Path.{_≡_};
-ghost use Rattle.request.specs.Meaning.{verbMeans};
-ghost use Rattle.configure.specs.Configured.{isSetting, Settable, Configured};
-
-// DEFAULT and RULE alone set something.
-pub fn is_setting(verb: Verb) -> bool
-    ensures { λ r. ⌜ r ≡ isSetting verb ⌝ }
-{
-    match verb {
-        Verb::SetDefault(_, _) => true,
-        Verb::SetRule(_, _, _, _) => true,
-        Verb::Put(_, _, _, _) => false,
-        Verb::Copy(_, _, _) => false,
-        Verb::Retain(_, _, _) => false,
-        Verb::SetHold(_, _) => false,
-        Verb::AddMarker(_, _) => false,
-        Verb::DeleteVersion(_, _, _) => false,
-        Verb::Sweep => false,
-        Verb::Get(_) => false,
-    }
-}
+ghost use Rattle.request.specs.Meaning.{settingMeans};
+ghost use Rattle.model.specs.Requests.{Set};
+ghost use Rattle.configure.specs.Configured.{Settable, Configured};
 
 // The settings with what DEFAULT or RULE sets.
-pub fn configured(s: Settings, line: &[u8], verb: Verb) -> Settings
-    requires { ⌜ Settable (now line) s verb ⌝ }
-    ensures { λ r. ⌜ Configured s (verbMeans (now (line .entry)) verb) r ⌝ }
+pub fn configured(s: Settings, line: &[u8], setting: Setting) -> Settings
+    requires { ⌜ Settable (now line) s setting ⌝ }
+    ensures { λ r. ⌜ Configured s (Set (settingMeans (now (line .entry)) setting)) r ⌝ }
 {
-    match verb {
-        Verb::SetDefault(m, p) => {
+    match setting {
+        Setting::Default(m, p) => {
             settings::with_default(
                 s,
                 fields::mode_number(m),
@@ -37,16 +19,8 @@ pub fn configured(s: Settings, line: &[u8], verb: Verb) -> Settings
                 fields::period_unit(p),
             )
         }
-        Verb::SetRule(i, prefix, current, noncurrent) => {
+        Setting::Rule(i, prefix, current, noncurrent) => {
             settings::with_rule(s, i as usize, text::part(line, prefix), current, noncurrent)
         }
-        Verb::Put(_, _, _, _) => s,
-        Verb::Copy(_, _, _) => s,
-        Verb::Retain(_, _, _) => s,
-        Verb::SetHold(_, _) => s,
-        Verb::AddMarker(_, _) => s,
-        Verb::DeleteVersion(_, _, _) => s,
-        Verb::Sweep => s,
-        Verb::Get(_) => s,
     }
 }

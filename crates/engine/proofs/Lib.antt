@@ -1,4 +1,3 @@
 pub mod Ready
-pub mod Requests
 pub mod Settling
 pub mod Serving

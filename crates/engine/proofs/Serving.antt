@@ -1,126 +1,151 @@
 -- A line served: refused, set, or a step and the settings after it.
 use Prim.Native.Nat.{ℕ, _≤_, _<_, max}
 use mathlib.Core.Path.{_≡_, refl, sym, _∙_, ap, subst⁻¹}
+use mathlib.Core.Logic.{inl, inr}
 use mathlib.Core.Bool.{Bool, true, false, _&&_}
 use mathlib.Core.List.{List}
-use mathlib.Core.Option.{some}
-use lib.Dec.{leb}
+use mathlib.Core.Option.{Option, some, none}
+use lib.Dec.{leb, ltb}
 use lib.ListN.{length}
-use Rattle.buffers.proofs.Tests.{and-r}
+use borrow.Author.Tests.{ltb-true, ltb-false}
+use Rattle.buffers.proofs.Tests.{either, and-r}
 use Rattle.calendar.specs.Calendar.{latest}
-use Rattle.model.specs.Settings as model
-use Rattle.model.specs.Requests.{Verb, Sweep, inRange}
+use Rattle.model.specs.Requests as model
+use Rattle.model.specs.Requests.{Set, Sweep, inRange}
+use Rattle.model.specs.Refusals.{firstOf, fieldChecks, tableChecks}
 use Rattle.settings.specs.declared.Settings.{Settings}
-use Rattle.settings.specs.Meaning.{rulesMean}
+use Rattle.settings.specs.Meaning.{rulesMean, prefixesAre}
 use Rattle.table.specs.Layout.{capacity}
 use Rattle.bucket.specs.Whole.{bucketOf, whole}
 use Rattle.bucket.proofs.Whole.{whole-parts}
-use Rattle.request.specs.declared.Request.{Request}
-use Rattle.request.specs.declared.LineRead.{LineRead}
-use Rattle.request.specs.declared.LineRead.the-variants.{Reads, Unreadable}
-use Rattle.request.specs.Grammar.{readLine}
-use Rattle.fields.specs.Meaning.{rightsMeans}
+use Rattle.request.specs.declared.Action.{Action}
+use Rattle.request.specs.declared.Setting.{Setting}
+use Rattle.request.specs.declared.Verb.{Verb}
+use Rattle.request.specs.declared.Verb.the-variants as verb
+use Rattle.request.specs.Grammar.{Said, readLine}
+use Rattle.request.specs.Meaning.{actionMeans, settingMeans, verbMeans}
 use Rattle.request.proofs.Ranges.{read-in-range}
-use Rattle.request.specs.Meaning.{verbMeans, Read}
-use Rattle.screen.specs.Screen.{screened}
+use Rattle.screen.specs.declared.Screened.{Screened}
+use Rattle.screen.specs.declared.Screened.the-variants as screened
+use Rattle.screen.specs.Screen.{screened as fieldRefusal, lineRefusal, Stops, Passes, Screens}
 use Rattle.verdict.specs.declared.State.{State}
-use Rattle.verdict.specs.Decision.{Decision, refuses, does, tableDecision, decision}
+use Rattle.verdict.specs.Decision.{Decision, refuses, does, effect, tableDecision, decision}
 use Rattle.verdict.specs.State.{bucketBy, rowsIn}
-use Rattle.judge.specs.Premises.{both, Asked, isSweep}
+use Rattle.judge.specs.Premises.{both, Asked}
 use Rattle.outcome.specs.Outcome.{Outcome, refused, asked, outcome}
 use Rattle.outcome.specs.Steps.{done}
 use Rattle.outcome.proofs.Room.{outcome-fits}
-use Rattle.outcome.proofs.Deciding.{outcome-1, outcome-2, outcome-3, outcome-said}
-use Rattle.configure.specs.Configured.{isSetting, Settable}
-use Rattle.configure.proofs.Configuring.{unset}
+use Rattle.outcome.proofs.Deciding.{decide-stop, decide-go, outcome-1, outcome-2, outcome-3, outcome-said}
+use Rattle.configure.specs.Configured.{Settable}
 use Rattle.perform.specs.declared.Step.{Step}
 use Rattle.perform.specs.declared.Step.the-variants.{Refused, Accepted}
-use Rattle.perform.specs.Steps.{Left, left, stepOf, Actable, Acted, SoundRules}
+use Rattle.perform.specs.Steps.{Left, left, stepOf, Actable, Acted}
 use Rattle.engine.specs.declared.Served.{Served}
-use Rattle.engine.specs.Served.{served, stateOf, said, settled, Settles, Sets}
-use Rattle.engine.proofs.Ready.{rules-sound, Requested, requested}
-use Rattle.engine.proofs.Requests.{request-actable, request-sweeps, request-screened, request-done, request-swept}
-use Rattle.engine.proofs.Settling.{refused-is, setting-acted}
+use Rattle.engine.specs.Served.{served, stateOf, settled, Settles, Sets}
+use Rattle.engine.proofs.Ready.{line-ranges, line-asked}
+use Rattle.engine.proofs.Settling.{refused-is, action-unset, sweep-unset, setting-acted}
 
--- ## Refusals 1 to 3
+-- ## Refusals
 
 pub line-1 : (r : Served) (s : Settings) (n b line a : List ℕ) (w : Bool) → w ≡ whole s n b → w ≡ false → r .number ≡ 1 → r .length ≡ 0 → r .settings ≡ s → served r n b a ≡ outcome s n b line a
 line-1 r s n b line a w e f x y z = refused-is r 1 s n b a x y z ∙ outcome-1 s n b line a (sym e ∙ f)
 
-pub line-2 : (r : Served) (s : Settings) (n b line a : List ℕ) → whole s n b ≡ true → length a < 256 → r .number ≡ 2 → r .length ≡ 0 → r .settings ≡ s → served r n b a ≡ outcome s n b line a
-line-2 r s n b line a w l x y z = refused-is r 2 s n b a x y z ∙ outcome-2 s n b line a w l
+module _ (s : Settings) (n b line a : List ℕ) (w : whole s n b ≡ true) where
+  -- A line that its own fields refuse.
+  said-stops : (k : ℕ) (q : Said) → 256 ≤ length a → readLine line ≡ some q → k ≡ fieldRefusal (bucketOf s n b .settings .config) (q .who) (max (s .time) (q .clock)) (q .verb) → (k ≡ 0 → ⊥) → refused k s n b a ≡ outcome s n b line a
+  unfolding fieldRefusal
+  said-stops k q l e h z =
+      let c = bucketOf s n b in
+      let now = max (s .time) (q .clock) in
+      let x = asked (length a) q in
+      ap (λ (m : ℕ). refused m s n b a) h
+      ∙ sym (ap (λ (d : Decision). done s n b now (q .verb) a d) (decide-stop (fieldChecks c x) (tableChecks (capacity b) c (both now) (q .verb)) (effect c (both now) (q .verb)) (λ i. z (h ∙ i))))
+      ∙ outcome-said s n b line a q w l e (read-in-range line q e)
 
-pub line-3 : (r : Served) (s : Settings) (n b line a : List ℕ) (o : LineRead) → whole s n b ≡ true → 256 ≤ length a → Read line o → o ≡ Unreadable → r .number ≡ 3 → r .length ≡ 0 → r .settings ≡ s → served r n b a ≡ outcome s n b line a
-line-3 r s n b line a o w l d q x y z = refused-is r 3 s n b a x y z ∙ outcome-3 s n b line a w l (sym (rw q at (d .is)))
+  -- A line that they don't refuse is done as the table decides.
+  said-passes : (q : Said) (now : ℕ) → 256 ≤ length a → readLine line ≡ some q → now ≡ max (s .time) (q .clock) → 0 ≡ fieldRefusal (bucketOf s n b .settings .config) (q .who) now (q .verb)
+      → done s n b now (q .verb) a (tableDecision (capacity b) (bucketOf s n b) (both now) (q .verb)) ≡ outcome s n b line a
+  unfolding fieldRefusal
+  said-passes q now l e t h =
+      let c = bucketOf s n b in
+      let m = max (s .time) (q .clock) in
+      rw t (sym (ap (λ (d : Decision). done s n b m (q .verb) a d)
+      (decide-go (fieldChecks c (asked (length a) q)) (tableChecks (capacity b) c (both m) (q .verb)) (effect c (both m) (q .verb)) refl (sym (rw t at h))))
+      ∙ outcome-said s n b line a q w l e (read-in-range line q e))
 
--- ## A line that reads as a request
+  stops : (k : ℕ) → Stops (s .time) line (length a) k → refused k s n b a ≡ outcome s n b line a
+  unfolding lineRefusal
+  stops k p = elim (either (ltb (length a) 256)) [
+    | inl t ↦ ap (λ (m : ℕ). refused m s n b a) (simp t at (p .is (bucketOf s n b .settings .config))) ∙ outcome-2 s n b line a w (ltb-true (length a) 256 t)
+    | inr t ↦ go t (readLine line) refl
+  ]
+    where
+      go : ltb (length a) 256 ≡ false → (o : Option Said) → readLine line ≡ o → refused k s n b a ≡ outcome s n b line a
+      go t none e = ap (λ (m : ℕ). refused m s n b a) (simp (t, e) at (p .is (bucketOf s n b .settings .config))) ∙ outcome-3 s n b line a w (ltb-false (length a) 256 t) e
+      go t (some q) e = said-stops k q (ltb-false (length a) 256 t) e (simp (t, e) at (p .is (bucketOf s n b .settings .config))) (p .not-0)
+
+  pub line-stopped : (o : Screened) (k : ℕ) (r : Served) → Screens (s .time) line (length a) o → o ≡ screened.Refused k → r .number ≡ k → r .length ≡ 0 → r .settings ≡ s → served r n b a ≡ outcome s n b line a
+  line-stopped o k r h e x y z = refused-is r k s n b a x y z ∙ stops k (rw e at h)
+
+-- ## A line that passes
 
 -- What is settled of a decision is what is done of it.
-settled-done : (s : Settings) (n b a : List ℕ) (now : ℕ) (v : Verb) (d : Decision) → settled s now v (stepOf (stateOf s) n b a d) ≡ done s n b now v a d
+settled-done : (s : Settings) (n b a : List ℕ) (now : ℕ) (v : model.Verb) (d : Decision) → settled s now v (stepOf (stateOf s) n b a d) ≡ done s n b now v a d
 settled-done s n b a now v (refuses k) = refl
 settled-done s n b a now v (does e) = refl
 
-module _ (s : Settings) (n b line a : List ℕ) (o : LineRead) (q : Request) (w : whole s n b ≡ true) (l : 256 ≤ length a) (d : Read line o) (e : o ≡ Reads q) where
-  says : readLine line ≡ some (said line q)
-  says = sym (rw e at (d .is))
+module _ (s : Settings) (n b line a : List ℕ) (w : whole s n b ≡ true) (o : Screened) (h : Screens (s .time) line (length a) o) (v : Verb) (now : ℕ) (e : o ≡ screened.Passed v now) where
+  passes : Passes (s .time) line (length a) v now
+  passes = rw e at h
 
-  ranges : (leb (q .clock) latest && inRange (verbMeans line (q .verb))) ≡ true
-  ranges = read-in-range line (said line q) says
+  prefixes : prefixesAre (s .rules) ≡ true
+  prefixes = (whole-parts s n b w) .prefixes
 
-  pub line-settable : Settable line s (q .verb)
-  line-settable = record { prefixes = (whole-parts s n b w) .prefixes; in-range = and-r (leb (q .clock) latest) _ ranges; inside = rw e at (d .within) }
+  asks : Asked (stateOf s) n b now (verbMeans line v)
+  asks = line-asked s n b line a w v now passes
 
-  module _ (now : ℕ) (t : now ≡ max (s .time) (q .clock)) where
-    requests : Requested line (stateOf s) (s .rules) n b a q now
-    requests = requested line s n b a q w now l ranges (rw e at (d .within)) t
+  pub line-room : 256 ≤ length a
+  line-room = passes .room-fits
 
-    line-settled : (x : Outcome) (y : Left) → x ≡ settled s now (verbMeans line (q .verb)) y
-        → y ≡ stepOf (stateOf s) n b a (decision (capacity b) (bucketOf s n b) (asked (length a) (said line q))) → x ≡ outcome s n b line a
-    line-settled x y g h =
-        g ∙ (rw t (ap (λ (z : Left). settled s (max (s .time) (q .clock)) (verbMeans line (q .verb)) z) h))
-        ∙ settled-done s n b a (max (s .time) (q .clock)) (verbMeans line (q .verb)) (decision (capacity b) (bucketOf s n b) (asked (length a) (said line q)))
-        ∙ outcome-said s n b line a (said line q) w l says ranges
+  -- What it comes to is what the table decides.
+  decided : (x : Outcome) (y : Left) → x ≡ settled s now (verbMeans line v) y
+      → y ≡ stepOf (stateOf s) n b a (tableDecision (capacity b) (bucketOf s n b) (both now) (verbMeans line v)) → x ≡ outcome s n b line a
+  decided x y g i =
+      g ∙ ap (λ (z : Left). settled s now (verbMeans line v) z) i
+      ∙ settled-done s n b a now (verbMeans line v) (tableDecision (capacity b) (bucketOf s n b) (both now) (verbMeans line v))
+      ∙ said-passes s n b line a w _ now (passes .room-fits) (passes .says) (passes .now-is) (passes .passes (bucketOf s n b .settings .config))
 
-    -- What a step asks.
-    module _ (st : State) (es : st ≡ stateOf s) (u : Bool) (eu : u ≡ isSweep (q .verb)) where
-      pub line-actable : u ≡ false → Actable line st n b a (q .verb) now
-      line-actable f = rw es (request-actable line (stateOf s) (s .rules) n b a q now requests u eu f)
+  -- It sets something.
+  module _ (x : Setting) (f : v ≡ verb.Set x) where
+    pub line-settable : Settable line s x
+    unfolding inRange
+    line-settable = record { prefixes = prefixes; in-range = rw f at (and-r (leb (passes .clock) latest) _ (line-ranges s n b line a w v now passes)); inside = rw f at (passes .inside) }
 
-      pub line-sweeps : u ≡ true → Asked st n b now Sweep
-      line-sweeps f = rw es (request-sweeps line (stateOf s) (s .rules) n b a q now requests u eu f)
+    pub line-set : (r : Served) (a′ : List ℕ) → Sets s now (Set (settingMeans line x)) a r a′ → served r n b a′ ≡ outcome s n b line a
+    line-set r a′ g =
+        let y = left (Accepted (record { length = r .length; used = s .used; next = s .next })) n b a′ in
+        decided (served r n b a′) y (rw (f, g .number-is, g .settings-are))
+        (rw f ((setting-acted (stateOf s) n b now a a′ (r .length) (settingMeans line x) (rw f at asks) (g .wrote)) .is (rulesMean (s .rules))))
 
-    module _ (k : ℕ) (h : (g : model.Config) (l′ : List ℕ) → k ≡ screened g (rightsMeans (q .rights)) now (verbMeans l′ (q .verb))) where
-      -- It is refused by its own fields.
-      pub line-screened : (r : Served) → (k ≡ 0 → ⊥) → r .number ≡ k → r .length ≡ 0 → r .settings ≡ s → served r n b a ≡ outcome s n b line a
-      line-screened r z x y v =
-          line-settled (served r n b a) (left (Refused k) n b a) (refused-is r k s n b a x y v)
-          (request-screened line (stateOf s) (s .rules) n b a q now requests k h z)
+  -- It comes to a step.
+  module _ (st : State) (es : st ≡ stateOf s) where
+    module _ (x : Action) (f : v ≡ verb.Act x) where
+      pub line-actable : Actable line st n b a x now
+      line-actable = rw es (record { judgeable = rw f at asks; inside = rw f at (passes .inside); room = passes .room-fits })
 
-      -- It sets something.
-      pub line-set : (p : Bool) (r : Served) (a′ : List ℕ) → k ≡ 0 → p ≡ isSetting (q .verb) → p ≡ true → Sets s now (verbMeans line (q .verb)) a r a′ → served r n b a′ ≡ outcome s n b line a
-      line-set p r a′ z ep f g =
-          let x = left (Accepted (record { length = r .length; used = s .used; next = s .next })) n b a′ in
-          line-settled (served r n b a′) x (rw (g .number-is, g .settings-are))
-          (request-done line (stateOf s) (s .rules) n b a q now requests k h z x
-          (setting-acted (stateOf s) n b line now a a′ (r .length) (q .verb) (sym ep ∙ f) (requests .judgeable) (g .wrote)))
+      pub line-acted : (step : Step) (n′ b′ a′ : List ℕ) (r : Served) → Acted st n b a (actionMeans line x) now (left step n′ b′ a′) → Settles s now step r → served r n′ b′ a′ ≡ outcome s n b line a
+      line-acted step n′ b′ a′ r i g =
+          decided (served r n′ b′ a′) (left step n′ b′ a′) (rw f (g .is (actionMeans line x) n′ b′ a′ (action-unset s line x prefixes)))
+          (rw f ((rw es at i) .is (rulesMean (s .rules))))
 
-      -- It comes to a step.
-      module _ (z : k ≡ 0) (p : Bool) (ep : p ≡ isSetting (q .verb)) (f : p ≡ false) (st : State) (es : st ≡ stateOf s) (step : Step) (n′ b′ a′ : List ℕ) (r : Served) (g : Settles s now step r) where
-        stepped : left step n′ b′ a′ ≡ stepOf (stateOf s) n b a (decision (capacity b) (bucketOf s n b) (asked (length a) (said line q))) → served r n′ b′ a′ ≡ outcome s n b line a
-        stepped =
-            line-settled (served r n′ b′ a′) (left step n′ b′ a′)
-            (g .is (verbMeans line (q .verb)) n′ b′ a′ (unset s line (q .verb) ((whole-parts s n b w) .prefixes) (sym ep ∙ f)))
+    module _ (f : v ≡ verb.Sweep) where
+      pub line-sweeps : Asked st n b now Sweep
+      line-sweeps = rw es (rw f at asks)
 
-        pub line-acted : Acted line st n b a (q .verb) now (left step n′ b′ a′) → served r n′ b′ a′ ≡ outcome s n b line a
-        line-acted i = stepped (request-done line (stateOf s) (s .rules) n b a q now requests k h z (left step n′ b′ a′) (rw es at i))
-
-        pub line-swept : (u : Bool) → u ≡ isSweep (q .verb) → u ≡ true
-            → left step n′ b′ a′ ≡ stepOf st n b a (tableDecision (capacity b) (bucketBy st (rulesMean (s .rules)) (rowsIn st n b)) (both now) Sweep) → served r n′ b′ a′ ≡ outcome s n b line a
-        line-swept u eu c i = stepped (request-swept line (stateOf s) (s .rules) n b a q now requests k h z (left step n′ b′ a′) u eu c (rw es at i))
-
--- The rules of a whole bucket are sound.
-pub whole-rules : (s : Settings) (n b : List ℕ) → whole s n b ≡ true → SoundRules (s .rules)
-whole-rules s n b w = record { prefixes = (whole-parts s n b w) .prefixes; sound = rules-sound s n b w }
+      pub line-swept : (step : Step) (n′ b′ a′ : List ℕ) (r : Served) → left step n′ b′ a′ ≡ stepOf st n b a (tableDecision (capacity b) (bucketBy st (rulesMean (s .rules)) (rowsIn st n b)) (both now) Sweep)
+          → Settles s now step r → served r n′ b′ a′ ≡ outcome s n b line a
+      line-swept step n′ b′ a′ r i g =
+          decided (served r n′ b′ a′) (left step n′ b′ a′) (rw f (g .is Sweep n′ b′ a′ (sweep-unset s prefixes))) (rw f (rw es at i))
 
 pub whole-at : (s : Settings) (n b : List ℕ) (w : Bool) → w ≡ whole s n b → w ≡ true → whole s n b ≡ true
 whole-at s n b w e f = sym e ∙ f
@@ -128,3 +153,5 @@ whole-at s n b w e f = sym e ∙ f
 -- For callers: the answer stands within its buffer.
 pub answer-fits : (s : Settings) (n b line a n′ b′ a′ : List ℕ) (r : Served) → served r n′ b′ a′ ≡ outcome s n b line a → r .length ≤ length a′
 answer-fits s n b line a n′ b′ a′ r q = subst⁻¹ (λ (o : Outcome). o .length ≤ length (o .answer)) q (outcome-fits s n b line a)
+
+pub ruleset lines = (line-stopped, line-room, line-settable, line-set, line-actable, line-acted, line-sweeps, line-swept)

@@ -1,32 +1,32 @@
 -- The settings after a step, and DEFAULT and RULE, which leave the table as it is.
 use Prim.Native.Nat.{ℕ}
 use mathlib.Core.Path.{_≡_, refl, sym, _∙_, ap}
-use mathlib.Core.Bool.{true, false≢true}
+use mathlib.Core.Bool.{true}
 use mathlib.Core.List.{List}
 use native.Mathlib.Omega.{arith}
 use Rattle.buffers.specs.Writes.{Wrote}
 use Rattle.model.specs.Settings as model
-use Rattle.model.specs.Requests.{Verb}
+use Rattle.model.specs.Requests.{Setting, Verb, Set, Sweep}
 use Rattle.model.specs.Effects.{configAfter}
 use Rattle.settings.specs.declared.Settings.{Settings}
-use Rattle.settings.specs.Meaning.{settingsMean}
+use Rattle.settings.specs.Meaning.{settingsMean, prefixesAre}
 use Rattle.settings.specs.Changes.{withProgress}
 use Rattle.table.specs.Layout.{rowsOf, capacity}
 use Rattle.table.proofs.Held.{rows-length}
-use Rattle.request.specs.declared.Verb as code
-use Rattle.request.specs.declared.Verb.the-variants as verb
-use Rattle.request.specs.Meaning.{verbMeans}
+use Rattle.request.specs.declared.Action.{Action}
+use Rattle.request.specs.declared.Action.the-variants as action
+use Rattle.request.specs.Meaning.{actionMeans}
 use Rattle.answers.specs.declared.Answer.the-variants as answer
 use Rattle.answers.specs.Meaning.{textOf}
 use Rattle.verdict.specs.declared.State.{State}
 use Rattle.verdict.specs.declared.Verdict.the-variants as verdict
 use Rattle.verdict.specs.declared.Change.the-variants as change
-use Rattle.judge.specs.Premises.{Asked, JudgesOn}
+use Rattle.judge.specs.Premises.{Asked}
 use Rattle.judge.proofs.Sweeping.{set-done}
 use Rattle.apply.specs.Applied.{judged, Applied}
 use Rattle.outcome.specs.Outcome.{settingsFrom, refused}
 use Rattle.outcome.proofs.Back.{settings-back}
-use Rattle.configure.specs.Configured.{isSetting, Configured}
+use Rattle.configure.specs.Configured.{Configured}
 use Rattle.perform.specs.declared.Done.{Done}
 use Rattle.perform.specs.declared.Step.{Step}
 use Rattle.perform.specs.declared.Step.the-variants.{Refused, Accepted}
@@ -57,33 +57,34 @@ module _ (s : Settings) (now : ℕ) (step : Step) where
 
 pub ruleset steps = (settles-refused, settles-accepted)
 
+-- An action and SWEEP set nothing.
+pub action-unset : (s : Settings) (line : List ℕ) (x : Action) → prefixesAre (s .rules) ≡ true → Configured s (actionMeans line x) s
+unfolding configAfter
+action-unset s line (action.Put k body size t) h = record { config = refl; prefixes = h }
+action-unset s line (action.Copy n k t) h = record { config = refl; prefixes = h }
+action-unset s line (action.Retain n r y) h = record { config = refl; prefixes = h }
+action-unset s line (action.SetHold n on) h = record { config = refl; prefixes = h }
+action-unset s line (action.AddMarker k y) h = record { config = refl; prefixes = h }
+action-unset s line (action.DeleteVersion k n y) h = record { config = refl; prefixes = h }
+action-unset s line (action.Get n) h = record { config = refl; prefixes = h }
+
+pub sweep-unset : (s : Settings) → prefixesAre (s .rules) ≡ true → Configured s Sweep s
+unfolding configAfter
+sweep-unset s h = record { config = refl; prefixes = h }
+
 -- ## DEFAULT and RULE
 
-pub sets-done : (s : Settings) (now : ℕ) (line : List ℕ) (v : code.Verb) (a a′ : List ℕ) (len : ℕ) (u after : Settings) → Wrote a 0 (textOf answer.Done) 256 a′ len → Configured s (verbMeans line v) u
-    → after ≡ withProgress u now (s .used) (s .next) → Sets s now (verbMeans line v) a (record { number = 0; length = len; settings = after }) a′
-sets-done s now line v a a′ len u after w g e = record { number-is = refl; wrote = w; settings-are = e ∙ settings-after s u (verbMeans line v) now (s .used) (s .next) g }
+pub sets-done : (s : Settings) (now : ℕ) (v : Verb) (a a′ : List ℕ) (len : ℕ) (u after : Settings) → Wrote a 0 (textOf answer.Done) 256 a′ len → Configured s v u
+    → after ≡ withProgress u now (s .used) (s .next) → Sets s now v a (record { number = 0; length = len; settings = after }) a′
+sets-done s now v a a′ len u after w g e = record { number-is = refl; wrote = w; settings-are = e ∙ settings-after s u v now (s .used) (s .next) g }
 
--- They are judged without a look at the table.
-module _ (s : State) (n b line : List ℕ) (now : ℕ) where
-  setting-judged : (v : code.Verb) → isSetting v ≡ true → Asked s n b now (verbMeans line v) → JudgesOn s n b line now (verbMeans line v) (verdict.Accepted (record { change = change.Keep; answer = answer.Done }))
-  setting-judged (verb.Put k body size t) e h us fates = absurd (false≢true e)
-  setting-judged (verb.Copy m k t) e h us fates = absurd (false≢true e)
-  setting-judged (verb.Retain m r y) e h us fates = absurd (false≢true e)
-  setting-judged (verb.SetHold m on) e h us fates = absurd (false≢true e)
-  setting-judged (verb.AddMarker k y) e h us fates = absurd (false≢true e)
-  setting-judged (verb.DeleteVersion k m y) e h us fates = absurd (false≢true e)
-  setting-judged (verb.SetDefault m p) e h us fates = set-done s n b line now us fates _ h
-  setting-judged (verb.SetRule i p current noncurrent) e h us fates = set-done s n b line now us fates _ h
-  setting-judged verb.Sweep e h us fates = absurd (false≢true e)
-  setting-judged (verb.Get m) e h us fates = absurd (false≢true e)
-
-  -- Such a line comes to a step that keeps the table.
-  pub setting-acted : (a a′ : List ℕ) (len : ℕ) (v : code.Verb) → isSetting v ≡ true → Asked s n b now (verbMeans line v) → Wrote a 0 (textOf answer.Done) 256 a′ len
-      → Acted line s n b a v now (left (Accepted (record { length = len; used = s .used; next = s .next })) n b a′)
-  setting-acted a a′ len v i h w =
-      let plan = verdict.Accepted (record { change = change.Keep; answer = answer.Done }) in
-      let l = rows-length n b (s .used) in
-      let kept : Applied (judged line (s .next) now line) (capacity b) (rowsOf n b (s .used)) change.Keep n b (record { used = s .used; next = s .next })
-      = record { held = h .ready .holds; used-is = sym l; next-is = omega arith } in
-      act-done line s n b a v now plan line (left (Accepted (record { length = len; used = s .used; next = s .next })) n b a′) (setting-judged v i h)
-      (step-done line s n b plan now line a (record { change = change.Keep; answer = answer.Done }) change.Keep answer.Done n b (record { used = s .used; next = s .next }) a′ len refl refl refl kept w)
+-- They come to a step that keeps the table.
+pub setting-acted : (s : State) (n b : List ℕ) (now : ℕ) (a a′ : List ℕ) (len : ℕ) (x : Setting) → Asked s n b now (Set x) → Wrote a 0 (textOf answer.Done) 256 a′ len
+    → Acted s n b a (Set x) now (left (Accepted (record { length = len; used = s .used; next = s .next })) n b a′)
+setting-acted s n b now a a′ len x h w =
+    let plan = verdict.Accepted (record { change = change.Keep; answer = answer.Done }) in
+    let l = rows-length n b (s .used) in
+    let kept : Applied (judged a (s .next) now a) (capacity b) (rowsOf n b (s .used)) change.Keep n b (record { used = s .used; next = s .next })
+    = record { held = h .ready .holds; used-is = sym l; next-is = omega arith } in
+    act-done a s n b a (Set x) now plan a (left (Accepted (record { length = len; used = s .used; next = s .next })) n b a′) (λ us fates. set-done s n b a now us fates x h)
+    (step-done a s n b plan now a a (record { change = change.Keep; answer = answer.Done }) change.Keep answer.Done n b (record { used = s .used; next = s .next }) a′ len refl refl refl kept w)

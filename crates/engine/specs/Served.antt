@@ -7,10 +7,6 @@ use Rattle.model.specs.Requests.{Verb}
 use Rattle.model.specs.Effects.{configAfter}
 use Rattle.settings.specs.declared.Settings.{Settings}
 use Rattle.settings.specs.Meaning.{settingsMean}
-use Rattle.request.specs.declared.Request.{Request}
-use Rattle.request.specs.Grammar.{Said}
-use Rattle.fields.specs.Meaning.{rightsMeans}
-use Rattle.request.specs.Meaning.{verbMeans}
 use Rattle.answers.specs.declared.Answer.the-variants.{Done}
 use Rattle.answers.specs.Meaning.{textOf}
 use Rattle.verdict.specs.declared.State.{State}
@@ -28,10 +24,6 @@ served r numbers keys answer =
 -- what of the settings a line is judged by
 abbrev pub stateOf : Settings → State
 stateOf s = record { time = s .time; used = s .used; next = s .next; mode = s .mode; count = s .count; unit = s .unit }
-
--- what a request of the code says
-abbrev pub said : List ℕ → Request → Said
-said line q = record { clock = q .clock; who = rightsMeans (q .rights); verb = verbMeans line (q .verb) }
 
 -- what a call returns and leaves after a request came to a step; an accepted line makes now the bucket's time
 abbrev pub settle : Settings → ℕ → Verb → Step → List ℕ → List ℕ → List ℕ → Outcome

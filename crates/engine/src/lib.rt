@@ -1,16 +1,18 @@
 // The engine: a line is read, screened, set or carried out, and answered. The definitions are in outcome.
 use answers::Answer;
 use perform::Step;
-use request::LineRead;
+use request::Setting;
 use request::Verb;
+use screen::Screened;
 use settings::Settings;
 use verdict::State;
 ghost use mathlib.Core.Path.{_≡_};
 ghost use mathlib.Core.Bool.{true};
-ghost use Prim.Native.Nat.{_≤_, max};
+ghost use Prim.Native.Nat.{_≤_};
 ghost use lib.ListN.{length};
 ghost use Rattle.bucket.specs.Whole.{whole};
-ghost use Rattle.request.specs.Meaning.{verbMeans};
+ghost use Rattle.model.specs.Requests.{Set};
+ghost use Rattle.request.specs.Meaning.{settingMeans};
 ghost use Rattle.outcome.specs.Outcome.{outcome};
 ghost use Rattle.configure.specs.Configured.{Settable};
 ghost use Rattle.engine.specs.Served.{served, stateOf, Settles, Sets};
@@ -30,15 +32,6 @@ fn refused(number: u64, settings: Settings) -> Served
         length: 0,
         settings,
     }
-}
-
-fn larger(a: u64, b: u64) -> u64
-    ensures { λ r. ⌜ r ≡ max a b ⌝ }
-{
-    if a < b {
-        return b;
-    }
-    a
 }
 
 // What of the settings a line is judged by.
@@ -73,13 +66,19 @@ fn settle(s: Settings, step: Step, instant: u64) -> Served
 }
 
 // DEFAULT and RULE leave the table as it is.
-fn serve_setting(s: Settings, line: &[u8], answer: &mut [u8], verb: Verb, instant: u64) -> Served
-    requires { ⌜ Settable (now line) s verb ⌝ }
+fn serve_setting(
+    s: Settings,
+    line: &[u8],
+    answer: &mut [u8],
+    setting: Setting,
+    instant: u64,
+) -> Served
+    requires { ⌜ Settable (now line) s setting ⌝ }
     requires { ⌜ 256 ≤ length (now answer) ⌝ }
-    ensures { λ r. ⌜ Sets s instant (verbMeans (now (line .entry)) verb) (now (answer .entry)) r (now (answer .exit)) ⌝ }
+    ensures { λ r. ⌜ Sets s instant (Set (settingMeans (now (line .entry)) setting)) (now (answer .entry)) r (now (answer .exit)) ⌝ }
 {
     let length = answers::write_answer(answer, Answer::Done);
-    let set = configure::configured(s, line, verb);
+    let set = configure::configured(s, line, setting);
     let after = settings::with_progress(set, instant, s.used, s.next);
     Served {
         number: 0,
@@ -99,29 +98,23 @@ pub fn serve_whole(
     requires { ⌜ whole s (now rows) (now keys) ≡ true ⌝ }
     ensures { λ r. ⌜ served r (now (rows .exit)) (now (keys .exit)) (now (answer .exit)) ≡ outcome s (now (rows .entry)) (now (keys .entry)) (now (line .entry)) (now (answer .entry)) ⌝ }
 {
-    if answer.len() < 256 {
-        return refused(2, s);
+    match screen::screen_line(s.time, line, answer.len()) {
+        Screened::Refused(n) => refused(n, s),
+        Screened::Passed(verb, instant) => match verb {
+            Verb::Act(action) => {
+                let state = state_of(s);
+                let step = perform::act(state, rows, keys, line, answer, action, instant);
+                settle(s, step, instant)
+            }
+            Verb::Set(setting) => serve_setting(s, line, answer, setting, instant),
+            Verb::Sweep => {
+                let state = state_of(s);
+                let rules = s.rules;
+                let step = perform::act_sweep(state, rules, rows, keys, line, answer, instant);
+                settle(s, step, instant)
+            }
+        },
     }
-    let LineRead::Reads(q) = request::read_line(line) else {
-        return refused(3, s);
-    };
-    let instant = larger(s.time, q.clock);
-    let n = screen::screen(q, instant);
-    if n != 0 {
-        return refused(n, s);
-    }
-    let verb = q.verb;
-    if configure::is_setting(verb) {
-        return serve_setting(s, line, answer, verb, instant);
-    }
-    let state = state_of(s);
-    if judge::is_sweep(verb) {
-        let rules = s.rules;
-        let step = perform::act_sweep(state, rules, rows, keys, line, answer, instant);
-        return settle(s, step, instant);
-    }
-    let step = perform::act(state, rows, keys, line, answer, verb, instant);
-    settle(s, step, instant)
 }
 
 // Serves a line on settings and buffers of any contents.

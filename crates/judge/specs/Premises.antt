@@ -1,7 +1,7 @@
 -- What is asked of a request that is judged, and what its verdict is.
 use Prim.Native.Nat.{ℕ, _≤_}
 use mathlib.Core.Path.{_≡_}
-use mathlib.Core.Bool.{Bool, true, false}
+use mathlib.Core.Bool.{true}
 use mathlib.Core.List.{List}
 use lib.ListN.{length}
 use Rattle.calendar.specs.Calendar.{latest}
@@ -11,8 +11,6 @@ use Rattle.model.specs.Time.{Now}
 use Rattle.settings.specs.declared.Rule as settings
 use Rattle.settings.specs.Meaning.{rulesMean, prefixesAre}
 use Rattle.table.specs.Layout.{capacity}
-use Rattle.request.specs.declared.Verb as code
-use Rattle.request.specs.declared.Verb.the-variants as verb
 use Rattle.verdict.specs.declared.State.{State}
 use Rattle.verdict.specs.declared.Verdict.{Verdict}
 use Rattle.verdict.specs.Decision.{tableDecision}
@@ -35,19 +33,6 @@ pub record Sweepable (s : State) (rules : List settings.Rule) (fates : List ℕ)
   pub prefixes : prefixesAre rules ≡ true
   pub rules-sound : soundRules (rulesMean rules) ≡ true
   pub long : s .used ≤ length fates
-
--- SWEEP is judged by the rules, every other verb without them.
-abbrev pub isSweep : code.Verb → Bool
-isSweep (verb.Put k body size t) = false
-isSweep (verb.Copy n k t) = false
-isSweep (verb.Retain n r y) = false
-isSweep (verb.SetHold n on) = false
-isSweep (verb.AddMarker k y) = false
-isSweep (verb.DeleteVersion k n y) = false
-isSweep (verb.SetDefault m p) = false
-isSweep (verb.SetRule i p current noncurrent) = false
-isSweep verb.Sweep = true
-isSweep (verb.Get n) = false
 
 -- The verdict is what the definitions decide, with these rules and these fates of a sweep.
 abbrev pub JudgesBy : State → List ℕ → List ℕ → List ℕ → ℕ → List Rule → List ℕ → Verb → Verdict → Type 0

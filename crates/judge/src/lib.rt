@@ -3,10 +3,10 @@ use answers::Answer;
 use answers::Shown;
 use fields::Hold;
 use fields::Version;
+use request::Action;
 use request::Name;
 use request::Retention;
 use request::Terms;
-use request::Verb;
 use search::Found;
 use settings::Rule;
 use table::Numbers;
@@ -18,7 +18,6 @@ use verdict::Plan;
 use verdict::State;
 use verdict::Verdict;
 ghost use mathlib.Core.Path.{_≡_};
-ghost use mathlib.Core.Bool.{false};
 ghost use mathlib.Core.List.{List};
 ghost use Prim.Native.Nat.{ℕ};
 ghost use Rattle.buffers.specs.Choices.{orZero};
@@ -31,10 +30,10 @@ ghost use Rattle.settings.specs.Meaning.{rulesMean};
 ghost use Rattle.table.specs.Places.{rowFrom};
 ghost use Rattle.search.specs.Places.{keyPlace};
 ghost use Rattle.fields.specs.Meaning.{modeMeans, untilMeans, holdMeans, Inside};
-ghost use Rattle.request.specs.Meaning.{nameMeans, retentionMeans, termsMeans, verbMeans, VerbInside};
+ghost use Rattle.request.specs.Meaning.{nameMeans, retentionMeans, termsMeans, actionMeans, ActionInside};
 ghost use Rattle.verdict.specs.State.{rowsIn, Ready};
 ghost use Rattle.verdict.specs.Meaning.{Looks};
-ghost use Rattle.judge.specs.Premises.{Asked, Sweepable, isSweep, JudgesBy, JudgesOn};
+ghost use Rattle.judge.specs.Premises.{Asked, Sweepable, JudgesBy, JudgesOn};
 
 // The row that a name in the line names.
 fn look_up(rows: &[u64], keys: &[u8], line: &[u8], s: State, name: Name) -> Looked
@@ -361,60 +360,34 @@ pub fn judge_sweep(
     })
 }
 
-// DEFAULT and RULE leave the table as it is.
-fn judge_setting() -> Verdict
-    ensures { λ r. ⌜ r ≡ Verdict.Accepted (record { change = Change.Keep; answer = Answer.Done }) ⌝ }
+// Refusals 7 to 12, or the plan, of an action.
+pub fn judge(
+    rows: &[u64],
+    keys: &[u8],
+    line: &[u8],
+    s: State,
+    action: Action,
+    instant: u64,
+) -> Verdict
+    requires { ⌜ Asked s (now rows) (now keys) instant (actionMeans (now line) action) ⌝ }
+    requires { ⌜ ActionInside (now line) action ⌝ }
+    ensures { λ r. ⌜ JudgesOn s (now (rows .entry)) (now (keys .entry)) (now (line .entry)) instant (actionMeans (now (line .entry)) action) r ⌝ }
 {
-    Verdict::Accepted(Plan {
-        change: Change::Keep,
-        answer: Answer::Done,
-    })
-}
-
-// SWEEP alone is judged by rules.
-pub fn is_sweep(verb: Verb) -> bool
-    ensures { λ r. ⌜ r ≡ isSweep verb ⌝ }
-{
-    match verb {
-        Verb::Put(_, _, _, _) => false,
-        Verb::Copy(_, _, _) => false,
-        Verb::Retain(_, _, _) => false,
-        Verb::SetHold(_, _) => false,
-        Verb::AddMarker(_, _) => false,
-        Verb::DeleteVersion(_, _, _) => false,
-        Verb::SetDefault(_, _) => false,
-        Verb::SetRule(_, _, _, _) => false,
-        Verb::Sweep => true,
-        Verb::Get(_) => false,
-    }
-}
-
-// Refusals 7 to 12, or the plan, of any verb but SWEEP.
-pub fn judge(rows: &[u64], keys: &[u8], line: &[u8], s: State, verb: Verb, instant: u64) -> Verdict
-    requires { ⌜ Asked s (now rows) (now keys) instant (verbMeans (now line) verb) ⌝ }
-    requires { ⌜ VerbInside (now line) verb ⌝ }
-    requires { ⌜ isSweep verb ≡ false ⌝ }
-    ensures { λ r. ⌜ JudgesOn s (now (rows .entry)) (now (keys .entry)) (now (line .entry)) instant (verbMeans (now (line .entry)) verb) r ⌝ }
-{
-    match verb {
-        Verb::Put(key, body, size, terms) => {
+    match action {
+        Action::Put(key, body, size, terms) => {
             judge_new(rows, keys, line, s, key, body, size, terms, instant)
         }
-        Verb::Copy(source, key, terms) => {
+        Action::Copy(source, key, terms) => {
             judge_copy(rows, keys, line, s, source, key, terms, instant)
         }
-        Verb::Retain(name, retention, bypass) => {
+        Action::Retain(name, retention, bypass) => {
             judge_retain(rows, keys, line, s, name, retention, bypass, instant)
         }
-        Verb::SetHold(name, on) => judge_hold(rows, keys, line, s, name, on, instant),
-        Verb::AddMarker(key, bypass) => judge_marker(rows, keys, line, s, key, bypass, instant),
-        Verb::DeleteVersion(key, version, bypass) => {
+        Action::SetHold(name, on) => judge_hold(rows, keys, line, s, name, on, instant),
+        Action::AddMarker(key, bypass) => judge_marker(rows, keys, line, s, key, bypass, instant),
+        Action::DeleteVersion(key, version, bypass) => {
             judge_delete(rows, keys, line, s, key, version, bypass, instant)
         }
-        Verb::SetDefault(_, _) => judge_setting(),
-        Verb::SetRule(_, _, _, _) => judge_setting(),
-        // is_sweep keeps it from here
-        Verb::Sweep => judge_setting(),
-        Verb::Get(name) => judge_get(rows, keys, line, s, name, instant),
+        Action::Get(name) => judge_get(rows, keys, line, s, name, instant),
     }
 }

@@ -8,10 +8,10 @@ use mathlib.Core.Option.{Option, some, none}
 use native.Mathlib.Omega.{arith}
 use lib.Dec.{eqb, leb, ltb}
 use lib.ListN.{length}
-use borrow.Author.Tests.{eqb-false, not-true, lt-ltb, le-ltb}
+use borrow.Author.Tests.{eqb-false, eq-eqb, not-true, lt-ltb, le-ltb}
 use Rattle.buffers.specs.Choices.{pick, thenSome}
 use Rattle.buffers.specs.Lists.{all}
-use Rattle.buffers.proofs.Tests.{either, and-l, and-r}
+use Rattle.buffers.proofs.Tests.{either, clash, and-l, and-r}
 use Rattle.calendar.specs.Calendar.{latest}
 use Rattle.model.specs.Settings.{Bucket}
 use Rattle.model.specs.Requests.{Verb, Request, reads, inRange}
@@ -29,34 +29,36 @@ use Rattle.outcome.specs.Steps.{carried, done}
 abbrev pub numbered : List Check → Bool
 numbered xs = all (λ x. not (eqb (x .number) 0)) xs
 
--- What is decided by conditions and an effect is the first refusal, or the effect.
-module _ (A : Type 0) (stop : ℕ → A) (go-on : Effect → A) where
-  abbrev pub act : Decision → A
-  act (refuses n) = stop n
-  act (does e) = go-on e
+-- ## Conditions in two parts
 
-  act-decide : (xs : List Check) (e : Effect) → numbered xs ≡ true → pick (eqb (firstOf xs) 0) (go-on e) (stop (firstOf xs)) ≡ act (decide xs e)
-  act-decide [] e h = refl
-  act-decide (x ∷ xs) e h =
-      elim (either (x .holds)) [
-        | inl t ↦ simp (t, not-true (eqb (x .number) 0) (and-l (not (eqb (x .number) 0)) _ h))
-        | inr t ↦ simp t (act-decide xs e (and-r (not (eqb (x .number) 0)) _ h))
-      ]
+pub decide-stop : (xs ys : List Check) (e : Effect) → (firstOf xs ≡ 0 → ⊥) → decide (xs ++ ys) e ≡ refuses (firstOf xs)
+decide-stop [] ys e z = absurd (z refl)
+decide-stop (x ∷ xs) ys e z =
+    elim (either (x .holds)) [
+      | inl t ↦ simp t
+      | inr t ↦ simp t (decide-stop xs ys e (rw t at z))
+    ]
 
-  -- The conditions in two parts.
-  pub act-parts : (xs ys : List Check) (e : Effect) → numbered xs ≡ true → act (decide (xs ++ ys) e) ≡ pick (eqb (firstOf xs) 0) (act (decide ys e)) (stop (firstOf xs))
-  act-parts [] ys e h = refl
-  act-parts (x ∷ xs) ys e h =
-      elim (either (x .holds)) [
-        | inl t ↦ simp (t, not-true (eqb (x .number) 0) (and-l (not (eqb (x .number) 0)) _ h))
-        | inr t ↦ simp t (act-parts xs ys e (and-r (not (eqb (x .number) 0)) _ h))
-      ]
+pub decide-go : (xs ys : List Check) (e : Effect) → numbered xs ≡ true → firstOf xs ≡ 0 → decide (xs ++ ys) e ≡ decide ys e
+decide-go [] ys e h z = refl
+decide-go (x ∷ xs) ys e h z =
+    elim (either (x .holds)) [
+      | inl t ↦ absurd (clash (eqb (x .number) 0) (eq-eqb (x .number) 0 (rw t at z)) (not-true (eqb (x .number) 0) (and-l (not (eqb (x .number) 0)) _ h)))
+      | inr t ↦ simp t (decide-go xs ys e (and-r (not (eqb (x .number) 0)) _ h) (rw t at z))
+    ]
+
+-- ## The outcome
 
 module _ (s : Settings) (numbers keys line answer : List ℕ) where
-  -- `done` is such an action.
-  done-act : (now : ℕ) (v : Verb) (d : Decision) → done s numbers keys now v answer d ≡ act Outcome (λ n. refused n s numbers keys answer) (λ e. carried s keys now v answer e) d
-  done-act now v (refuses n) = refl
-  done-act now v (does e) = refl
+  -- What is done is refused with the first condition that holds, or carried out.
+  done-decide : (now : ℕ) (v : Verb) (xs : List Check) (e : Effect) → numbered xs ≡ true
+      → pick (eqb (firstOf xs) 0) (carried s keys now v answer e) (refused (firstOf xs) s numbers keys answer) ≡ done s numbers keys now v answer (decide xs e)
+  done-decide now v [] e h = refl
+  done-decide now v (x ∷ xs) e h =
+      elim (either (x .holds)) [
+        | inl t ↦ simp (t, not-true (eqb (x .number) 0) (and-l (not (eqb (x .number) 0)) _ h))
+        | inr t ↦ simp t (done-decide now v xs e (and-r (not (eqb (x .number) 0)) _ h))
+      ]
 
   pub outcome-1 : whole s numbers keys ≡ false → refused 1 s numbers keys answer ≡ outcome s numbers keys line answer
   unfolding outcome refusalOf
@@ -83,7 +85,4 @@ module _ (s : Settings) (numbers keys line answer : List ℕ) where
       let a = asked (length answer) q in
       let now = nowOf (bucketOf s numbers keys) (asked (length answer) q .call) in
       simp (w, e, le-ltb _ _ l, r)
-      (done-act ((nowOf (bucketOf s numbers keys) (asked (length answer) q .call)) .stamp) (q .verb) (decision (capacity keys) (bucketOf s numbers keys) (asked (length answer) q))
-      ∙ sym (act-decide Outcome (λ n. refused n s numbers keys answer) (λ f. carried s keys ((nowOf (bucketOf s numbers keys) (asked (length answer) q .call)) .stamp) (q .verb) answer f)
-      (fieldChecks (bucketOf s numbers keys) (asked (length answer) q) ++ tableChecks (capacity keys) (bucketOf s numbers keys) (nowOf (bucketOf s numbers keys) (asked (length answer) q .call)) (q .verb))
-      (effect (bucketOf s numbers keys) (nowOf (bucketOf s numbers keys) (asked (length answer) q .call)) (q .verb)) refl))
+      (sym (done-decide (now .stamp) (q .verb) (fieldChecks b a ++ tableChecks (capacity keys) b now (q .verb)) (effect b now (q .verb)) refl))

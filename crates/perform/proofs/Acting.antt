@@ -8,8 +8,8 @@ use Rattle.model.specs.Requests as line-verb
 use Rattle.settings.specs.declared.Rule.{Rule}
 use Rattle.settings.specs.Meaning.{rulesMean}
 use Rattle.table.specs.Layout.{capacity}
-use Rattle.request.specs.declared.Verb.{Verb}
-use Rattle.request.specs.Meaning.{verbMeans}
+use Rattle.request.specs.declared.Action.{Action}
+use Rattle.request.specs.Meaning.{actionMeans}
 use Rattle.verdict.specs.declared.State.{State}
 use Rattle.verdict.specs.declared.Verdict.{Verdict}
 use Rattle.verdict.specs.Decision.{Decision, tableDecision}
@@ -19,14 +19,14 @@ use Rattle.judge.specs.Premises.{both, Asked, Sweepable, JudgesBy, JudgesOn}
 use Rattle.apply.specs.Applied.{judged}
 use Rattle.perform.specs.Steps.{Left, stepOf, Performable, Actable, Acted, SoundRules}
 
--- ## Any verb but SWEEP
+-- ## An action
 
-module _ (line : List ℕ) (s : State) (n b a : List ℕ) (v : Verb) (now : ℕ) (h : Actable line s n b a v now) (o : Verdict) (j : JudgesOn s n b line now (verbMeans line v) o) (fates : List ℕ) where
+module _ (line : List ℕ) (s : State) (n b a : List ℕ) (v : Action) (now : ℕ) (h : Actable line s n b a v now) (o : Verdict) (j : JudgesOn s n b line now (actionMeans line v) o) (fates : List ℕ) where
   pub act-performable : Performable line s n b o now fates a
   act-performable = record { ready = h .judgeable .ready; feasible = (j [] fates) .feasible; room = h .room }
 
-pub act-done : (line : List ℕ) (s : State) (n b a : List ℕ) (v : Verb) (now : ℕ) (o : Verdict) (fates : List ℕ) (x : Left) → JudgesOn s n b line now (verbMeans line v) o
-    → x ≡ stepOf s n b a (verdictMeans (judged line (s .next) now fates) (rowsIn s n b) o) → Acted line s n b a v now x
+pub act-done : (line : List ℕ) (s : State) (n b a : List ℕ) (v : line-verb.Verb) (now : ℕ) (o : Verdict) (fates : List ℕ) (x : Left) → JudgesOn s n b line now v o
+    → x ≡ stepOf s n b a (verdictMeans (judged line (s .next) now fates) (rowsIn s n b) o) → Acted s n b a v now x
 act-done line s n b a v now o fates x j e = record { is = λ rules. e ∙ ap (λ (d : Decision). stepOf s n b a d) ((j rules fates) .is) }
 
 pub ruleset acting = (act-performable, act-done)

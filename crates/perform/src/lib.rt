@@ -1,5 +1,5 @@
 // A request carried out on the table, settings apart: judged with shared borrows only, then done and answered. The definitions are in outcome.
-use request::Verb;
+use request::Action;
 use settings::Rule;
 use verdict::State;
 use verdict::Verdict;
@@ -7,6 +7,7 @@ ghost use mathlib.Core.Path.{_≡_};
 ghost use Prim.Native.Nat.{_≤_};
 ghost use lib.ListN.{length};
 ghost use Rattle.model.specs.Requests.{Sweep};
+ghost use Rattle.request.specs.Meaning.{actionMeans};
 ghost use Rattle.settings.specs.Meaning.{rulesMean};
 ghost use Rattle.table.specs.Layout.{capacity};
 ghost use Rattle.verdict.specs.Decision.{tableDecision};
@@ -59,20 +60,20 @@ fn carry_out(
     }
 }
 
-// Any verb but SWEEP; it needs no fates.
+// An action needs no fates.
 pub fn act(
     s: State,
     rows: &mut [u64],
     keys: &mut [u8],
     line: &[u8],
     answer: &mut [u8],
-    verb: Verb,
+    action: Action,
     instant: u64,
 ) -> Step
-    requires { ⌜ Actable (now line) s (now rows) (now keys) (now answer) verb instant ⌝ }
-    ensures { λ r. ⌜ Acted (now (line .entry)) s (now (rows .entry)) (now (keys .entry)) (now (answer .entry)) verb instant (left r (now (rows .exit)) (now (keys .exit)) (now (answer .exit))) ⌝ }
+    requires { ⌜ Actable (now line) s (now rows) (now keys) (now answer) action instant ⌝ }
+    ensures { λ r. ⌜ Acted s (now (rows .entry)) (now (keys .entry)) (now (answer .entry)) (actionMeans (now (line .entry)) action) instant (left r (now (rows .exit)) (now (keys .exit)) (now (answer .exit))) ⌝ }
 {
-    let v = judge::judge(rows, keys, line, s, verb, instant);
+    let v = judge::judge(rows, keys, line, s, action, instant);
     carry_out(s, rows, keys, line, answer, v, instant, b"")
 }
 
@@ -83,7 +84,7 @@ fn no_fates() -> [u8; 1024]
     [0u8; 1024]
 }
 
-// SWEEP alone needs rules and fates.
+// SWEEP needs rules and fates.
 pub fn act_sweep(
     s: State,
     rules: [Rule; 8],

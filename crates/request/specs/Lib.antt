@@ -1,4 +1,3 @@
 pub mod Grammar
 pub mod Meaning
-pub mod Bounds
 pub mod Examples

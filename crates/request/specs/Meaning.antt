@@ -8,8 +8,12 @@ use Rattle.model.specs.Requests as model
 use Rattle.request.specs.declared.Name.{Name}
 use Rattle.request.specs.declared.Retention.{Retention}
 use Rattle.request.specs.declared.Terms.{Terms}
+use Rattle.request.specs.declared.Action.{Action}
+use Rattle.request.specs.declared.Action.the-variants.{Put, Copy, Retain, SetHold, AddMarker, DeleteVersion, Get}
+use Rattle.request.specs.declared.Setting.{Setting}
+use Rattle.request.specs.declared.Setting.the-variants.{Default, Rule}
 use Rattle.request.specs.declared.Verb.{Verb}
-use Rattle.request.specs.declared.Verb.the-variants as verb
+use Rattle.request.specs.declared.Verb.the-variants.{Act, Set, Sweep}
 use Rattle.request.specs.declared.NameRead.{NameRead}
 use Rattle.request.specs.declared.NameRead.the-variants as name-read
 use Rattle.request.specs.declared.RetentionRead.{RetentionRead}
@@ -37,18 +41,26 @@ retentionMeans r = record { mode = modeMeans (r .mode); date = untilMeans (r .un
 abbrev pub termsMeans : Terms → model.Terms
 termsMeans t = record { retention = retentionMeans (t .retention); hold = holdMeans (t .hold) }
 
+-- a verb on the rows of a key
+abbrev pub actionMeans : List ℕ → Action → model.Verb
+actionMeans s (Put k body size t) = model.Put (partOf s k) body size (termsMeans t)
+actionMeans s (Copy n k t) = model.Copy (nameMeans s n) (partOf s k) (termsMeans t)
+actionMeans s (Retain n r y) = model.Retain (nameMeans s n) (retentionMeans r) y
+actionMeans s (SetHold n on) = model.Hold (nameMeans s n) on
+actionMeans s (AddMarker k y) = model.AddMarker (partOf s k) y
+actionMeans s (DeleteVersion k n y) = model.DeleteVersion (partOf s k) (model.numbered n) y
+actionMeans s (Get n) = model.Ask (model.Get (nameMeans s n))
+
+-- DEFAULT or RULE
+abbrev pub settingMeans : List ℕ → Setting → model.Setting
+settingMeans s (Default m p) = model.DefaultRetention (modeMeans m) (periodMeans p)
+settingMeans s (Rule i p current noncurrent) = model.LifecycleRule i (record { prefix = partOf s p; currentDays = current; noncurrentDays = noncurrent })
+
 -- a verb with its fields
 abbrev pub verbMeans : List ℕ → Verb → model.Verb
-verbMeans s (verb.Put k body size t) = model.Put (partOf s k) body size (termsMeans t)
-verbMeans s (verb.Copy n k t) = model.Copy (nameMeans s n) (partOf s k) (termsMeans t)
-verbMeans s (verb.Retain n r y) = model.Retain (nameMeans s n) (retentionMeans r) y
-verbMeans s (verb.SetHold n on) = model.Hold (nameMeans s n) on
-verbMeans s (verb.AddMarker k y) = model.AddMarker (partOf s k) y
-verbMeans s (verb.DeleteVersion k n y) = model.DeleteVersion (partOf s k) (model.numbered n) y
-verbMeans s (verb.SetDefault m p) = model.Set (model.DefaultRetention (modeMeans m) (periodMeans p))
-verbMeans s (verb.SetRule i p current noncurrent) = model.Set (model.LifecycleRule i (record { prefix = partOf s p; currentDays = current; noncurrentDays = noncurrent }))
-verbMeans s verb.Sweep = model.Sweep
-verbMeans s (verb.Get n) = model.Ask (model.Get (nameMeans s n))
+verbMeans s (Act a) = actionMeans s a
+verbMeans s (Set a) = model.Set (settingMeans s a)
+verbMeans s Sweep = model.Sweep
 
 -- ## Answers of readers: what some fields say together
 
@@ -79,18 +91,26 @@ saidOf s line-read.Unreadable = none
 
 -- ## Places
 
--- every key and prefix of the verb lies within the line
+-- every key of the action lies within the line
+abbrev pub ActionInside : List ℕ → Action → Type 0
+ActionInside s (Put k body size t) = Inside s k
+ActionInside s (Copy n k t) = Inside s (n .key) × Inside s k
+ActionInside s (Retain n r y) = Inside s (n .key)
+ActionInside s (SetHold n on) = Inside s (n .key)
+ActionInside s (AddMarker k y) = Inside s k
+ActionInside s (DeleteVersion k n y) = Inside s k
+ActionInside s (Get n) = Inside s (n .key)
+
+-- the prefix of a RULE does
+abbrev pub SettingInside : List ℕ → Setting → Type 0
+SettingInside s (Default m p) = Unit
+SettingInside s (Rule i p current noncurrent) = Inside s p
+
+-- so does every key and prefix of the verb
 abbrev pub VerbInside : List ℕ → Verb → Type 0
-VerbInside s (verb.Put k body size t) = Inside s k
-VerbInside s (verb.Copy n k t) = Inside s (n .key) × Inside s k
-VerbInside s (verb.Retain n r y) = Inside s (n .key)
-VerbInside s (verb.SetHold n on) = Inside s (n .key)
-VerbInside s (verb.AddMarker k y) = Inside s k
-VerbInside s (verb.DeleteVersion k n y) = Inside s k
-VerbInside s (verb.SetDefault m p) = Unit
-VerbInside s (verb.SetRule i p current noncurrent) = Inside s p
-VerbInside s verb.Sweep = Unit
-VerbInside s (verb.Get n) = Inside s (n .key)
+VerbInside s (Act a) = ActionInside s a
+VerbInside s (Set a) = SettingInside s a
+VerbInside s Sweep = Unit
 
 -- what a reader has found lies within the line: a key with its version
 abbrev pub NameWithin : List ℕ → NameRead → Type 0

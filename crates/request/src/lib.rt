@@ -32,7 +32,8 @@ pub struct Terms {
     pub hold: Hold,
 }
 
-pub enum Verb {
+// The verbs on the rows of a key.
+pub enum Action {
     // key, body, length
     Put(Place, u64, u64, Terms),
     // source, target key
@@ -45,11 +46,20 @@ pub enum Verb {
     AddMarker(Place, bool),
     // key, version, bypass
     DeleteVersion(Place, u64, bool),
-    SetDefault(Mode, Period),
-    // number, prefix, current days, noncurrent days
-    SetRule(u64, Place, u64, u64),
-    Sweep,
     Get(Name),
+}
+
+// The verbs that set what the settings hold.
+pub enum Setting {
+    Default(Mode, Period),
+    // number, prefix, current days, noncurrent days
+    Rule(u64, Place, u64, u64),
+}
+
+pub enum Verb {
+    Act(Action),
+    Set(Setting),
+    Sweep,
 }
 
 pub struct Request {

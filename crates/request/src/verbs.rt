@@ -1,8 +1,10 @@
 // The verbs with their fields, which are counted from 0 in the whole line.
+use crate::Action;
 use crate::Name;
 use crate::NameRead;
 use crate::Retention;
 use crate::RetentionRead;
+use crate::Setting;
 use crate::Terms;
 use crate::TermsRead;
 use crate::Verb;
@@ -96,7 +98,7 @@ fn read_put(line: &[u8], marks: &[usize]) -> VerbRead
     let TermsRead::Is(terms) = read_terms(line, marks) else {
         return VerbRead::Bad;
     };
-    VerbRead::Is(Verb::Put(key, body, size, terms))
+    VerbRead::Is(Verb::Act(Action::Put(key, body, size, terms)))
 }
 
 // COPY source key, version, target key, mode, date, hold.
@@ -116,7 +118,7 @@ fn read_copy(line: &[u8], marks: &[usize]) -> VerbRead
     let TermsRead::Is(terms) = read_terms(line, marks) else {
         return VerbRead::Bad;
     };
-    VerbRead::Is(Verb::Copy(source, target, terms))
+    VerbRead::Is(Verb::Act(Action::Copy(source, target, terms)))
 }
 
 // RETAIN key, version, mode, date, bypass.
@@ -136,7 +138,7 @@ fn read_retain(line: &[u8], marks: &[usize]) -> VerbRead
     let FlagRead::Is(bypass) = fields::read_bypass(text::field(line, marks, 7)) else {
         return VerbRead::Bad;
     };
-    VerbRead::Is(Verb::Retain(name, retention, bypass))
+    VerbRead::Is(Verb::Act(Action::Retain(name, retention, bypass)))
 }
 
 // HOLD key, version, ON or OFF.
@@ -153,7 +155,7 @@ fn read_set_hold(line: &[u8], marks: &[usize]) -> VerbRead
     let FlagRead::Is(on) = fields::read_switch(text::field(line, marks, 5)) else {
         return VerbRead::Bad;
     };
-    VerbRead::Is(Verb::SetHold(name, on))
+    VerbRead::Is(Verb::Act(Action::SetHold(name, on)))
 }
 
 // DELETE key, version, bypass.
@@ -174,9 +176,9 @@ fn read_delete(line: &[u8], marks: &[usize]) -> VerbRead
         return VerbRead::Bad;
     };
     let Version::Numbered(n) = version else {
-        return VerbRead::Is(Verb::AddMarker(key, bypass));
+        return VerbRead::Is(Verb::Act(Action::AddMarker(key, bypass)));
     };
-    VerbRead::Is(Verb::DeleteVersion(key, n, bypass))
+    VerbRead::Is(Verb::Act(Action::DeleteVersion(key, n, bypass)))
 }
 
 // DEFAULT mode, period.
@@ -193,7 +195,7 @@ fn read_default(line: &[u8], marks: &[usize]) -> VerbRead
     let PeriodRead::Is(period) = fields::read_period(text::field(line, marks, 4)) else {
         return VerbRead::Bad;
     };
-    VerbRead::Is(Verb::SetDefault(mode, period))
+    VerbRead::Is(Verb::Set(Setting::Default(mode, period)))
 }
 
 // RULE number, prefix, current days, noncurrent days.
@@ -216,7 +218,7 @@ fn read_rule(line: &[u8], marks: &[usize]) -> VerbRead
     let Value::Is(noncurrent) = read_number(line, marks, 6, 36500) else {
         return VerbRead::Bad;
     };
-    VerbRead::Is(Verb::SetRule(number, prefix, current, noncurrent))
+    VerbRead::Is(Verb::Set(Setting::Rule(number, prefix, current, noncurrent)))
 }
 
 // SWEEP.
@@ -241,7 +243,7 @@ fn read_get(line: &[u8], marks: &[usize]) -> VerbRead
     let NameRead::Is(name) = read_name(line, marks, 3, 4) else {
         return VerbRead::Bad;
     };
-    VerbRead::Is(Verb::Get(name))
+    VerbRead::Is(Verb::Act(Action::Get(name)))
 }
 
 // The verbs on settings, and GET, by their word.

@@ -1,36 +1,131 @@
 -- A definition by cases on an enum, at the case that the code found, and the refusal from the three tests.
 use Prim.Native.Nat.{ℕ}
-use mathlib.Core.Path.{_≡_, _∙_}
-use mathlib.Core.Bool.{Bool, true, false}
-use mathlib.Core.List.{List}
-use Rattle.buffers.specs.Choices.{pick}
+use mathlib.Core.Path.{_≡_, refl, sym, _∙_, ap}
+use mathlib.Core.Bool.{Bool, true, false, not}
+use mathlib.Core.List.{List, []}
+use mathlib.Core.Option.{Option}
+use Rattle.buffers.specs.Choices.{pick, isSome}
 use Rattle.model.specs.Settings.{Config}
+use Rattle.model.specs.Requests as model
+use Rattle.model.specs.Requests.{retentionOf}
+use Rattle.model.specs.Refusals.{oneOf, settingHalf, retentionHalf, halfGiven, needs, granted, lacksRight, pastDate}
+use Rattle.fields.specs.declared.Mode.{Mode}
+use Rattle.fields.specs.declared.Period.{Period}
 use Rattle.fields.specs.declared.Until.{Until}
 use Rattle.fields.specs.declared.Rights.{Rights}
+use Rattle.request.specs.declared.Retention.{Retention}
+use Rattle.request.specs.declared.Action.{Action}
+use Rattle.request.specs.declared.Action.the-variants as action
+use Rattle.request.specs.declared.Setting.{Setting}
+use Rattle.request.specs.declared.Setting.the-variants as setting
 use Rattle.request.specs.declared.Verb.{Verb}
-use Rattle.fields.specs.Meaning.{rightsMeans}
-use Rattle.request.specs.Meaning.{verbMeans}
-use Rattle.screen.specs.Fields.{halfBy, allowedBy, pastOf, pastBy}
-use Rattle.screen.specs.Screen.{screened}
-use Rattle.screen.proofs.Model.{screened-by}
+use Rattle.request.specs.declared.Verb.the-variants.{Act, Set, Sweep}
+use Rattle.fields.specs.Meaning.{modeMeans, untilMeans, periodMeans, rightsMeans}
+use Rattle.request.specs.Meaning.{retentionMeans, actionMeans, settingMeans, verbMeans}
+use Rattle.screen.specs.Screen.{isPast, screened}
+use Rattle.screen.proofs.Rights.{mayAct, last, act-rights}
 
-pub half-at : (v w : Verb) (r : Bool) → v ≡ w → r ≡ halfBy w → r ≡ halfBy v
-half-at v w r q h = cc
+-- ## Fields
 
-pub allowed-at : (a : Rights) (v w : Verb) (r : Bool) → v ≡ w → r ≡ allowedBy a w → r ≡ allowedBy a v
-allowed-at a v w r q h = cc
+pub one-of-at : (a b x y r : Bool) → r ≡ oneOf a b → a ≡ x → b ≡ y → r ≡ oneOf x y
+one-of-at a b x y r e f g = cc
 
-pub date-at : (now : ℕ) (d e : Until) (r : Bool) → d ≡ e → r ≡ pastOf now e → r ≡ pastOf now d
+pub half-setting : (line : List ℕ) (s u : Setting) (r : Bool) → s ≡ u → r ≡ settingHalf (settingMeans line u) → r ≡ settingHalf (settingMeans line s)
+half-setting line s u r e h = cc
+
+pub retention-at : (line : List ℕ) (a b : Action) (r : Retention) → a ≡ b → retentionMeans r ≡ retentionOf (actionMeans line b) → retentionMeans r ≡ retentionOf (actionMeans line a)
+retention-at line a b r e h = cc
+
+pub date-at : (now : ℕ) (d e : Until) (r : Bool) → d ≡ e → r ≡ isPast now (untilMeans e) → r ≡ isPast now (untilMeans d)
 date-at now d e r q h = cc
-
-pub past-at : (now : ℕ) (v w : Verb) (r : Bool) → v ≡ w → r ≡ pastBy now w → r ≡ pastBy now v
-past-at now v w r q h = cc
-
-pub screened-at : (s : Config) (a : Rights) (line : List ℕ) (now : ℕ) (v : Verb) (r : ℕ) → r ≡ pick (halfBy v) 4 (pick (allowedBy a v) (pick (pastBy now v) 6 0) 5) → r ≡ screened s (rightsMeans a) now (verbMeans line v)
-screened-at s a line now v r e = e ∙ screened-by s a line now v
 
 -- A right that is needed where a field is given.
 pub needed-at : (n m t r : Bool) → r ≡ pick n t true → n ≡ m → r ≡ pick m t true
 needed-at n m t r e q = cc
 
-pub ruleset cases = (half-at, allowed-at, date-at, past-at, screened-at, needed-at)
+pub ruleset parts = (one-of-at, half-setting, retention-at, date-at, needed-at)
+
+-- ## 4
+
+half-retention : (line : List ℕ) (a : Action) → halfGiven (actionMeans line a) ≡ retentionHalf (retentionOf (actionMeans line a))
+unfolding halfGiven
+half-retention line (action.Put k body size t) = refl
+half-retention line (action.Copy n k t) = refl
+half-retention line (action.Retain n r y) = refl
+half-retention line (action.SetHold n on) = refl
+half-retention line (action.AddMarker k y) = refl
+half-retention line (action.DeleteVersion k n y) = refl
+half-retention line (action.Get n) = refl
+
+module _ (line : List ℕ) (v : Verb) (r : Bool) where
+  pub half-act : (a : Action) (t : Retention) → v ≡ Act a → ((l : List ℕ) → retentionMeans t ≡ retentionOf (actionMeans l a)) → r ≡ retentionHalf (retentionMeans t) → r ≡ halfGiven (verbMeans line v)
+  half-act a t e f h = rw e (h ∙ ap retentionHalf (f line) ∙ sym (half-retention line a))
+
+  pub half-set : (s : Setting) → v ≡ Set s → ((l : List ℕ) → r ≡ settingHalf (settingMeans l s)) → r ≡ halfGiven (verbMeans line v)
+  unfolding halfGiven
+  half-set s e h = rw e (h line)
+
+  pub half-sweep : v ≡ Sweep → r ≡ false → r ≡ halfGiven (verbMeans line v)
+  unfolding halfGiven
+  half-sweep e h = rw e h
+
+pub ruleset halves = (refl, half-act, half-set, half-sweep)
+
+-- ## 5
+
+pub act-at : (s : Config) (line : List ℕ) (a : Rights) (x y : Action) (r : Bool) → x ≡ y → r ≡ mayAct a y → lacksRight s (rightsMeans a) (actionMeans line x) ≡ not r
+act-at s line a x y r e h = rw (e, h) (act-rights s a line y)
+
+module _ (s : Config) (line : List ℕ) (a : Rights) (v : Verb) where
+  pub act-allowed : (x : Action) (r : Bool) → v ≡ Act x → ((s′ : Config) (l : List ℕ) → lacksRight s′ (rightsMeans a) (actionMeans l x) ≡ not r) → lacksRight s (rightsMeans a) (verbMeans line v) ≡ not r
+  act-allowed x r e h = rw e (h s line)
+
+  pub set-allowed : (x : Setting) → v ≡ Set x → lacksRight s (rightsMeans a) (verbMeans line v) ≡ not (a .c)
+  unfolding lacksRight needs granted
+  set-allowed x e = rw e (ap not (last (a .c)))
+
+  pub sweep-allowed : v ≡ Sweep → lacksRight s (rightsMeans a) (verbMeans line v) ≡ not (a .c)
+  unfolding lacksRight needs granted
+  sweep-allowed e = rw e (ap not (last (a .c)))
+
+pub ruleset allowances = (act-allowed, set-allowed, sweep-allowed)
+
+-- ## 6
+
+module _ (line : List ℕ) (now : ℕ) (v : Verb) (r : Bool) where
+  pub past-act : (a : Action) (t : Retention) → v ≡ Act a → ((l : List ℕ) → retentionMeans t ≡ retentionOf (actionMeans l a)) → r ≡ isPast now (untilMeans (t .until)) → r ≡ pastDate now (verbMeans line v)
+  unfolding pastDate isPast
+  past-act a t e f h = rw e (h ∙ ap (λ (x : model.Retention). isPast now (x .date)) (f line))
+
+  pub past-set : (s : Setting) → v ≡ Set s → r ≡ false → r ≡ pastDate now (verbMeans line v)
+  unfolding pastDate
+  past-set s e h = rw e h
+
+  pub past-sweep : v ≡ Sweep → r ≡ false → r ≡ pastDate now (verbMeans line v)
+  unfolding pastDate
+  past-sweep e h = rw e h
+
+pub ruleset dates = (refl, past-act, past-set, past-sweep)
+
+-- ## The refusal
+
+module _ (s : Config) (a : Rights) (line : List ℕ) (now : ℕ) (v : Verb) (h : Bool) (eh : (l : List ℕ) → h ≡ halfGiven (verbMeans l v)) where
+  pub refused-4 : h ≡ true → 4 ≡ screened s (rightsMeans a) now (verbMeans line v)
+  unfolding screened
+  refused-4 e = simp (sym (eh line) ∙ e)
+
+  module _ (w : Bool) (ew : (g : Config) (l : List ℕ) → lacksRight g (rightsMeans a) (verbMeans l v) ≡ not w) (f : h ≡ false) where
+    pub refused-5 : w ≡ false → 5 ≡ screened s (rightsMeans a) now (verbMeans line v)
+    unfolding screened
+    refused-5 e = simp (sym (eh line) ∙ f, ew s line, e)
+
+    module _ (p : Bool) (ep : (l : List ℕ) → p ≡ pastDate now (verbMeans l v)) (t : w ≡ true) where
+      pub refused-6 : p ≡ true → 6 ≡ screened s (rightsMeans a) now (verbMeans line v)
+      unfolding screened
+      refused-6 e = simp (sym (eh line) ∙ f, ew s line, t, sym (ep line) ∙ e)
+
+      pub passed : p ≡ false → 0 ≡ screened s (rightsMeans a) now (verbMeans line v)
+      unfolding screened
+      passed e = simp (sym (eh line) ∙ f, ew s line, t, sym (ep line) ∙ e)
+
+pub ruleset refusals = (refused-4, refused-5, refused-6, passed)

@@ -1,2 +1,3 @@
-pub mod Model
+pub mod Rights
 pub mod Cases
+pub mod Lines

@@ -1,23 +1,33 @@
-// Refusals 4 to 6: those that a request's own fields decide. The definitions are in specs/.
+// Refusals 2 to 6: those that are decided without the table. The definitions are in the model and in specs/.
 use fields::Hold;
 use fields::Mode;
 use fields::Period;
 use fields::Rights;
 use fields::Until;
+use request::Action;
+use request::LineRead;
 use request::Request;
 use request::Retention;
+use request::Setting;
 use request::Terms;
 use request::Verb;
 ghost use mathlib.Core.Path.{_≡_};
 ghost use mathlib.Core.List.{List};
-ghost use Prim.Native.Nat.{ℕ};
-ghost use mathlib.Core.Bool.{true};
+ghost use Prim.Native.Nat.{ℕ, max};
+ghost use mathlib.Core.Bool.{true, not};
 ghost use Rattle.buffers.specs.Choices.{pick, isSome};
 ghost use Rattle.model.specs.Settings.{Config};
+ghost use Rattle.model.specs.Requests.{noRetention, retentionOf};
+ghost use Rattle.model.specs.Refusals.{oneOf, settingHalf, retentionHalf, halfGiven, lacksRight, pastDate};
 ghost use Rattle.fields.specs.Meaning.{modeMeans, untilMeans, holdMeans, periodMeans, rightsMeans};
-ghost use Rattle.request.specs.Meaning.{verbMeans};
-ghost use Rattle.screen.specs.Fields.{halfOf, halfBy, mayPut, mayBypass, allowedBy, pastOf, pastBy};
-ghost use Rattle.screen.specs.Screen.{screened};
+ghost use Rattle.request.specs.Meaning.{retentionMeans, actionMeans, settingMeans, verbMeans};
+ghost use Rattle.screen.specs.Screen.{mayPut, isPast, screened, Screens};
+
+// What a line comes to before the table is looked at: its refusal, or its verb and its now.
+pub enum Screened {
+    Refused(u64),
+    Passed(Verb, u64),
+}
 
 fn gives_mode(m: Mode) -> bool
     ensures { λ r. ⌜ r ≡ isSome (modeMeans m) ⌝ }
@@ -58,48 +68,67 @@ fn gives_period(p: Period) -> bool
     }
 }
 
-// Exactly one of mode and date is missing.
+// Exactly one of two fields is given.
+fn one_of(a: bool, b: bool) -> bool
+    ensures { λ r. ⌜ r ≡ oneOf a b ⌝ }
+{
+    if a {
+        return !b;
+    }
+    b
+}
+
 fn is_half(r: Retention) -> bool
-    ensures { λ x. ⌜ x ≡ halfOf r ⌝ }
+    ensures { λ x. ⌜ x ≡ retentionHalf (retentionMeans r) ⌝ }
 {
     let m = r.mode;
     let d = r.until;
-    if gives_mode(m) {
-        return !gives_date(d);
-    }
-    gives_date(d)
+    one_of(gives_mode(m), gives_date(d))
 }
 
-// Exactly one of mode and period is missing.
-fn is_half_default(m: Mode, p: Period) -> bool
-    ensures { λ x. ⌜ x ≡ halfBy (Verb.SetDefault m p) ⌝ }
+fn is_half_setting(s: Setting) -> bool
+    ensures { λ r. ⌜ ((line : List ℕ) → r ≡ settingHalf (settingMeans line s)) ⌝ }
 {
-    if gives_mode(m) {
-        return !gives_period(p);
+    match s {
+        Setting::Default(m, p) => one_of(gives_mode(m), gives_period(p)),
+        Setting::Rule(_, _, _, _) => false,
     }
-    gives_period(p)
+}
+
+fn no_retention() -> Retention
+    ensures { λ r. ⌜ retentionMeans r ≡ noRetention ⌝ }
+{
+    Retention {
+        mode: Mode::Missing,
+        until: Until::Missing,
+    }
+}
+
+// Mode and date, both missing where the action has no such fields.
+fn retention_of(a: Action) -> Retention
+    ensures { λ r. ⌜ ((line : List ℕ) → retentionMeans r ≡ retentionOf (actionMeans line a)) ⌝ }
+{
+    match a {
+        Action::Put(_, _, _, t) => t.retention,
+        Action::Copy(_, _, t) => t.retention,
+        Action::Retain(_, r, _) => r,
+        Action::SetHold(_, _) => no_retention(),
+        Action::AddMarker(_, _) => no_retention(),
+        Action::DeleteVersion(_, _, _) => no_retention(),
+        Action::Get(_) => no_retention(),
+    }
 }
 
 fn is_half_given(verb: Verb) -> bool
-    ensures { λ r. ⌜ r ≡ halfBy verb ⌝ }
+    ensures { λ r. ⌜ ((line : List ℕ) → r ≡ halfGiven (verbMeans line verb)) ⌝ }
 {
     match verb {
-        Verb::Put(_, _, _, t) => {
-            let r = t.retention;
+        Verb::Act(a) => {
+            let r = retention_of(a);
             is_half(r)
         }
-        Verb::Copy(_, _, t) => {
-            let r = t.retention;
-            is_half(r)
-        }
-        Verb::Retain(_, r, _) => is_half(r),
-        Verb::SetHold(_, _) => false,
-        Verb::AddMarker(_, _) => false,
-        Verb::DeleteVersion(_, _, _) => false,
-        Verb::SetDefault(m, p) => is_half_default(m, p),
-        Verb::SetRule(_, _, _, _) => false,
+        Verb::Set(s) => is_half_setting(s),
         Verb::Sweep => false,
-        Verb::Get(_) => false,
     }
 }
 
@@ -129,45 +158,52 @@ fn may_put(a: Rights, t: Terms) -> bool
     false
 }
 
-fn is_allowed(a: Rights, verb: Verb) -> bool
-    ensures { λ r. ⌜ r ≡ allowedBy a verb ⌝ }
+fn may_act(a: Rights, action: Action) -> bool
+    ensures { λ r. ⌜ ((s : Config) (line : List ℕ) → lacksRight s (rightsMeans a) (actionMeans line action) ≡ not r) ⌝ }
 {
-    match verb {
-        Verb::Put(_, _, _, t) => may_put(a, t),
-        Verb::Copy(_, _, t) => {
+    match action {
+        Action::Put(_, _, _, t) => may_put(a, t),
+        Action::Copy(_, _, t) => {
             if a.r {
                 return may_put(a, t);
             }
             false
         }
-        Verb::Retain(_, _, y) => {
+        Action::Retain(_, _, y) => {
             if a.t {
                 return holds_if(y, a.b);
             }
             false
         }
-        Verb::SetHold(_, _) => a.h,
-        Verb::AddMarker(_, y) => {
+        Action::SetHold(_, _) => a.h,
+        Action::AddMarker(_, y) => {
             if a.d {
                 return holds_if(y, a.b);
             }
             false
         }
-        Verb::DeleteVersion(_, _, y) => {
+        Action::DeleteVersion(_, _, y) => {
             if a.d {
                 return holds_if(y, a.b);
             }
             false
         }
-        Verb::SetDefault(_, _) => a.c,
-        Verb::SetRule(_, _, _, _) => a.c,
+        Action::Get(_) => a.r,
+    }
+}
+
+fn is_allowed(a: Rights, verb: Verb) -> bool
+    ensures { λ r. ⌜ ((s : Config) (line : List ℕ) → lacksRight s (rightsMeans a) (verbMeans line verb) ≡ not r) ⌝ }
+{
+    match verb {
+        Verb::Act(action) => may_act(a, action),
+        Verb::Set(_) => a.c,
         Verb::Sweep => a.c,
-        Verb::Get(_) => a.r,
     }
 }
 
 fn is_past(d: Until, now: u64) -> bool
-    ensures { λ r. ⌜ r ≡ pastOf now d ⌝ }
+    ensures { λ r. ⌜ r ≡ isPast now (untilMeans d) ⌝ }
 {
     match d {
         Until::Missing => false,
@@ -176,35 +212,21 @@ fn is_past(d: Until, now: u64) -> bool
 }
 
 fn is_past_date(verb: Verb, now: u64) -> bool
-    ensures { λ r. ⌜ r ≡ pastBy now verb ⌝ }
+    ensures { λ r. ⌜ ((line : List ℕ) → r ≡ pastDate now (verbMeans line verb)) ⌝ }
 {
     match verb {
-        Verb::Put(_, _, _, t) => {
-            let r = t.retention;
+        Verb::Act(a) => {
+            let r = retention_of(a);
             let d = r.until;
             is_past(d, now)
         }
-        Verb::Copy(_, _, t) => {
-            let r = t.retention;
-            let d = r.until;
-            is_past(d, now)
-        }
-        Verb::Retain(_, r, _) => {
-            let d = r.until;
-            is_past(d, now)
-        }
-        Verb::SetHold(_, _) => false,
-        Verb::AddMarker(_, _) => false,
-        Verb::DeleteVersion(_, _, _) => false,
-        Verb::SetDefault(_, _) => false,
-        Verb::SetRule(_, _, _, _) => false,
+        Verb::Set(_) => false,
         Verb::Sweep => false,
-        Verb::Get(_) => false,
     }
 }
 
 // The first of refusals 4 to 6 that holds, or 0; keys play no part.
-pub fn screen(q: Request, now: u64) -> u64
+fn screen(q: Request, now: u64) -> u64
     ensures { λ r. ⌜ ((s : Config) (line : List ℕ) → r ≡ screened s (rightsMeans (q .rights)) now (verbMeans line (q .verb))) ⌝ }
 {
     let a = q.rights;
@@ -219,4 +241,32 @@ pub fn screen(q: Request, now: u64) -> u64
         return 0;
     }
     5
+}
+
+fn larger(a: u64, b: u64) -> u64
+    ensures { λ r. ⌜ r ≡ max a b ⌝ }
+{
+    if a < b {
+        return b;
+    }
+    a
+}
+
+// Refusals 2 to 6 of a line, by the bucket's time and the length of the answer buffer.
+pub fn screen_line(time: u64, line: &[u8], room: usize) -> Screened
+    ensures { λ r. ⌜ Screens time (now (line .entry)) room r ⌝ }
+{
+    if room < 256 {
+        return Screened::Refused(2);
+    }
+    let LineRead::Reads(q) = request::read_line(line) else {
+        return Screened::Refused(3);
+    };
+    let instant = larger(time, q.clock);
+    let n = screen(q, instant);
+    if n != 0 {
+        return Screened::Refused(n);
+    }
+    let verb = q.verb;
+    Screened::Passed(verb, instant)
 }

@@ -1,5 +1,5 @@
 -- `configured` meets its contract: each way through it is one of the cited laws.
-use Rattle.configure.proofs.Configuring.{setting}
+use Rattle.configure.proofs.Configuring.{sets}
 use borrow.Author.Needs.{needs}
 use Rattle.configure.proofs.configured.Statement.{statement}
 use Rattle.configure.proofs.configured.Tie as tie
@@ -14,23 +14,7 @@ configured-spec =
     (λ c κs. search needs)
     (λ c κs. search needs)
     (λ c. search needs)
-    (λ c κs. search (needs, setting))
-    (λ c κs. search (needs, setting))
-    (λ c. search needs)
-    (λ c. search needs)
-    (λ c. search needs)
-    (λ c. search needs)
-    (λ c. search needs)
-    (λ c. search needs)
-    (λ c. search needs)
-    (λ c. search needs)
-    (λ c. search (needs, setting))
-    (λ c. search (needs, setting))
-    (λ c. search (needs, setting))
-    (λ c. search (needs, setting))
-    (λ c. search (needs, setting))
-    (λ c. search (needs, setting))
-    (λ c. search (needs, setting))
-    (λ c. search (needs, setting))
-    (λ c. search (needs, setting))
-    (λ c. search (needs, setting)))
+    (λ c κs. search (needs, sets))
+    (λ c κs. search (needs, sets))
+    (λ c. search (needs, sets))
+    (λ c. search (needs, sets)))

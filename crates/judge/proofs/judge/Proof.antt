@@ -1,5 +1,5 @@
 -- `judge` meets its contract.
-use Rattle.judge.proofs.Dispatch.{verb-ways}
+use Rattle.judge.proofs.Dispatch.{action-ways}
 use borrow.Author.Needs.{needs}
 use Rattle.judge.proofs.judge.Statement.{statement}
 use Rattle.judge.proofs.judge.Tie as tie
@@ -9,32 +9,23 @@ judge-spec =
     tie.close
     (tie.spec
     (λ c. search needs)
-    (λ c κs. search (needs, verb-ways))
+    (λ c κs. search (needs, action-ways))
     (λ c. search needs)
-    (λ c κs. search (needs, verb-ways))
+    (λ c κs. search (needs, action-ways))
     (λ c. search needs)
-    (λ c κs. search (needs, verb-ways))
+    (λ c κs. search (needs, action-ways))
     (λ c. search needs)
-    (λ c κs. search (needs, verb-ways))
+    (λ c κs. search (needs, action-ways))
     (λ c. search needs)
-    (λ c κs. search (needs, verb-ways))
+    (λ c κs. search (needs, action-ways))
     (λ c. search needs)
-    (λ c κs. search (needs, verb-ways))
+    (λ c κs. search (needs, action-ways))
     (λ c. search needs)
-    (λ c κs. search needs)
-    (λ c. search needs)
-    (λ c κs. search needs)
-    (λ c. search needs)
-    (λ c κs. search needs)
-    (λ c. search needs)
-    (λ c κs. search (needs, verb-ways))
-    (λ c us fs. search (needs, verb-ways))
-    (λ c us fs. search (needs, verb-ways))
-    (λ c us fs. search (needs, verb-ways))
-    (λ c us fs. search (needs, verb-ways))
-    (λ c us fs. search (needs, verb-ways))
-    (λ c us fs. search (needs, verb-ways))
-    (λ c us fs. search (needs, verb-ways))
-    (λ c us fs. search (needs, verb-ways))
-    (λ c us fs. search (needs, verb-ways))
-    (λ c us fs. search (needs, verb-ways)))
+    (λ c κs. search (needs, action-ways))
+    (λ c. search (needs, action-ways))
+    (λ c. search (needs, action-ways))
+    (λ c. search (needs, action-ways))
+    (λ c. search (needs, action-ways))
+    (λ c. search (needs, action-ways))
+    (λ c. search (needs, action-ways))
+    (λ c. search (needs, action-ways)))

@@ -1,7 +1,7 @@
 -- `may_put` meets its contract.
 use Rattle.buffers.proofs.Choices.{picks}
-use Rattle.screen.specs.Fields.{mayPut}
-use Rattle.screen.proofs.Cases.{cases}
+use Rattle.screen.specs.Screen.{mayPut}
+use Rattle.screen.proofs.Cases.{parts}
 use borrow.Author.Needs.{needs}
 use Rattle.screen.proofs.may_put.Statement.{statement}
 use Rattle.screen.proofs.may_put.Tie as tie
@@ -15,6 +15,6 @@ may-put-spec =
     (λ c κs. search needs)
     (λ c κs. search needs)
     (λ c κs. search needs)
-    (λ c. search (cases, picks) depth 9)
-    (λ c. search (cases, picks) depth 9)
-    (λ c. search (cases, picks) depth 9))
+    (λ c. search (parts, picks) depth 9)
+    (λ c. search (parts, picks) depth 9)
+    (λ c. search (parts, picks) depth 9))

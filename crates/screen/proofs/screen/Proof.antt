@@ -1,6 +1,5 @@
 -- `screen` meets its contract.
-use Rattle.buffers.proofs.Choices.{picks}
-use Rattle.screen.proofs.Cases.{cases}
+use Rattle.screen.proofs.Cases.{refusals}
 use borrow.Author.Needs.{needs}
 use Rattle.screen.proofs.screen.Statement.{statement}
 use Rattle.screen.proofs.screen.Tie as tie
@@ -9,10 +8,10 @@ pub screen-spec : {M : Type 1} → statement M
 screen-spec =
     tie.close
     (tie.spec
-    (λ c κs. search needs)
-    (λ c. search (cases, picks) depth 9)
-    (λ c κs. search needs)
-    (λ c κs. search needs)
-    (λ c. search (cases, picks) depth 9)
-    (λ c. search (cases, picks) depth 9)
-    (λ c. search (cases, picks) depth 9))
+    (λ c κs. search (needs, refusals))
+    (λ c. search (needs, refusals))
+    (λ c κs. search (needs, refusals))
+    (λ c κs. search (needs, refusals))
+    (λ c. search (needs, refusals))
+    (λ c. search (needs, refusals))
+    (λ c. search (needs, refusals)))
