@@ -10,7 +10,7 @@ use Rattle.buffers.specs.Texts.{bytes}
 use Rattle.buffers.specs.Writes.{Wrote}
 use Rattle.buffers.proofs.Writes.{wrote-both}
 use Rattle.text.specs.Printing.{digits}
-use Rattle.bucketrun.specs.Printed.{refusalText, printed}
+use Rattle.outcome.specs.Printed.{refusalText, printed}
 
 -- What stands at its place is written.
 part-stands : (out : List ℕ) (at k : ℕ) → at + k ≤ length out → Wrote out at (take k (drop at out)) k out (at + k)

@@ -7,7 +7,7 @@ ghost use Prim.Native.Nat.{_+_, _≤_, _<_};
 ghost use lib.ListN.{length, take, drop, replicate};
 ghost use Rattle.buffers.specs.Ranges.{Span};
 ghost use Rattle.buffers.specs.Writes.{Wrote};
-ghost use Rattle.bucketrun.specs.Printed.{printed};
+ghost use Rattle.outcome.specs.Printed.{printed};
 ghost use Rattle.bucketrun.specs.Course.{Ready, held, Goes, Kept, Left, Runs};
 
 // The length of the answer buffer; no more output than that waits when a line comes.

@@ -2,9 +2,7 @@
 use Prim.Native.Nat.{ℕ}
 use mathlib.Core.Path.{_≡_, refl}
 use mathlib.Core.List.{List, [], _∷_, _++_}
-use lib.Dec.{eqb}
 use lib.ListN.{take, replicate}
-use Rattle.buffers.specs.Choices.{pick}
 use Rattle.buffers.specs.Texts.{bytes}
 use Rattle.text.specs.Fields.{fieldOf}
 use Rattle.text.specs.Lines.{linesOf}
@@ -30,7 +28,8 @@ use Rattle.bucket.specs.Whole.{whole}
 use Rattle.fields.specs.Fields.{rightsIn, rightsOf, keyOf, prefixOf, versionOf, modeOf, untilOf, switchOf, holdOf, bypassOf, periodOf}
 use Rattle.request.specs.Grammar.{nameAt, retentionAt, termsOf, putOf, copyOf, retainOf, setHoldOf, deleteOf, defaultOf, ruleOf, sweepOf, getOf, settingByWord, verbByWord, readLine}
 use Rattle.answers.specs.Text.{fieldsText, okText, modeText, untilText, holdText}
-use Rattle.outcome.specs.Outcome.{Outcome, refusalOf, outcome}
+use Rattle.outcome.specs.Outcome.{refusalOf, outcome}
+use Rattle.outcome.specs.Printed.{printed}
 use Rattle.guarantee.specs.Calls.{Lent, freshLent, served, leaves}
 use Rattle.guarantee.specs.Lists.{call}
 
@@ -42,13 +41,12 @@ pub record Starred : Type 0 where
 pub starred : Starred
 starred = record { dates = dates; locks = locks }
 
--- What is printed of a call: the answer, or `no`, a tab, the number, a line feed.
-abbrev printedOf : Outcome → List ℕ
-printedOf o = pick (eqb (o .number) 0) (take (o .length) (o .answer)) (bytes "no\t" ++ digits (o .number) ++ bytes "\n")
-
-abbrev printed : Lent → List ℕ → List (List ℕ) → List ℕ
-printed s answer [] = []
-printed s answer (l ∷ ls) = printedOf (served s (call l answer)) ++ printed (leaves (served s (call l answer))) ((served s (call l answer)) .answer) ls
+-- What is printed of each call, which is handed what the one before it left.
+abbrev printedRun : Lent → List ℕ → List (List ℕ) → List ℕ
+printedRun s answer [] = []
+printedRun s answer (l ∷ ls) =
+    let o = served s (call l answer) in
+    printed (o .number) (take (o .length) (o .answer)) ++ printedRun (leaves o) (o .answer) ls
 
 abbrev text : List ℕ
 text =
@@ -60,7 +58,7 @@ text =
     ++ bytes "2024-03-02T00:00:00Z\td\tDELETE\tq/7\t1\tno\n"
     ++ bytes "2024-03-02T00:00:00Z\tr\tGET\tq/7\t-\n"
 
-pub printed-run : printed (freshLent 4) (replicate 256 0) (linesOf text) ≡
+pub printed-run : printedRun (freshLent 4) (replicate 256 0) (linesOf text) ≡
     bytes "ok\n"
     ++ bytes "ok\t1\n"
     ++ bytes "no\t9\n"
