@@ -1,16 +1,14 @@
 -- Each change of the table: what its function asks, and what it leaves.
-use Prim.Native.Nat.{ℕ, suc, _+_, _-_, _≤_, _<_}
+use Prim.Native.Nat.{ℕ, _+_, _-_, _≤_, _<_}
 use mathlib.Core.Path.{_≡_, refl, sym, _∙_, ap}
-use mathlib.Core.List.{List, [], _∷_}
-use mathlib.Core.Option.{Option, some, none}
+use mathlib.Core.List.{List}
+use mathlib.Core.Option.{some}
 use native.Mathlib.Omega.{arith}
-use lib.ListN.{length, drop, getD, take, set, length-set}
+use lib.ListN.{length, getD, set, length-set}
 use lib.Seq.{drop-cons}
-use Rattle.buffers.specs.Choices.{thenSome}
 use Rattle.text.specs.declared.Place.{Place}
 use Rattle.text.specs.Fields.{partOf}
 use Rattle.model.specs.Rows.{Row}
-use Rattle.model.specs.Settings.{spentNumber}
 use Rattle.table.specs.declared.Numbers.{Numbers}
 use Rattle.table.specs.Layout.{rowAt, rowsOf, capacity, Holds}
 use Rattle.table.specs.Places.{rowFrom, keyAt, Insertable, InUse}
@@ -19,9 +17,8 @@ use Rattle.table.proofs.Held.{rows-length, row-at}
 use Rattle.table.proofs.Changes.{insert-length, remove-length}
 use Rattle.search.specs.Places as places
 use Rattle.verdict.specs.declared.Change.{Change}
-use Rattle.verdict.specs.declared.Change.the-variants.{Keep, Insert, InsertSame, Rewrite, Remove, Sweep}
-use Rattle.verdict.specs.Meaning.{Judged, keyHere, changeMeans, changeTakes, Changeable}
-use Rattle.apply.specs.declared.Progress.{Progress}
+use Rattle.verdict.specs.declared.Change.the-variants.{Keep, Insert, InsertSame, Rewrite, Remove}
+use Rattle.verdict.specs.Meaning.{Judged, keyHere, Changeable}
 use Rattle.apply.specs.Applied.{judged, Applicable, Applied}
 
 -- The key of a used row, read from the list of the rows.

@@ -1,11 +1,11 @@
 -- The change of a sweep.
-use Prim.Native.Nat.{ℕ, zero, suc, _+_, _-_, _≤_, _<_}
-use mathlib.Core.Path.{_≡_, refl, sym, _∙_, ap}
-use mathlib.Core.List.{List, [], _∷_, _++_}
+use Prim.Native.Nat.{ℕ, suc, _+_, _-_, _≤_}
+use mathlib.Core.Path.{_≡_, refl, _∙_, ap}
+use mathlib.Core.List.{List, [], _∷_}
 use native.Mathlib.Omega.{arith}
 use lib.ListN.{length, take, length-append, length-take}
 use Rattle.model.specs.Rows.{Row}
-use Rattle.model.specs.Sweep.{Fate, stays, goes, gains, inPlace, marks, removes}
+use Rattle.model.specs.Sweep.{Fate, inPlace, marks, removes}
 use Rattle.model.proofs.Room.{length-in-place}
 use Rattle.table.specs.Layout.{rowsOf, capacity, Holds}
 use Rattle.table.proofs.Held.{rows-length}
@@ -13,8 +13,7 @@ use Rattle.lifecycle.specs.Fates.{fatesIn, total, carriedOut}
 use Rattle.sweep.specs.Passes as passes
 use Rattle.verdict.specs.declared.Change.{Change}
 use Rattle.verdict.specs.declared.Change.the-variants.{Sweep}
-use Rattle.verdict.specs.Meaning.{Judged, changeMeans, Changeable}
-use Rattle.apply.specs.declared.Progress.{Progress}
+use Rattle.verdict.specs.Meaning.{Judged, Changeable}
 use Rattle.apply.specs.Applied.{judged, Applicable, Applied}
 use mir.Val.{Fits}
 use mir.Syntax.{w64}

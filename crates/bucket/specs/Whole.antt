@@ -1,6 +1,6 @@
 -- 01, refusal 1: the buffers' lengths fit one c, and the whole is sound.
 use Prim.Native.Nat.{ℕ, _*_}
-use mathlib.Core.Bool.{Bool, true, false, _&&_}
+use mathlib.Core.Bool.{Bool, _&&_}
 use mathlib.Core.List.{List, []}
 use lib.Dec.{leb, ltb}
 use lib.ListN.{take, drop}

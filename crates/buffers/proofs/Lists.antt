@@ -1,14 +1,13 @@
 -- Laws of the lists of `specs/Lists.antt`.
 use Prim.Native.Nat.{ℕ, zero, suc}
 use mathlib.Core.Path.{_≡_, refl, sym, _∙_, ap, ap₂}
-use mathlib.Core.Logic.{_⊎_, inl, inr}
-use mathlib.Core.Bool.{Bool, true, false, _&&_, true≢false, false≢true}
+use mathlib.Core.Logic.{inl, inr}
+use mathlib.Core.Bool.{Bool, true, false, _&&_, false≢true}
 use mathlib.Core.List.{List, [], _∷_, _++_, nil≢cons, head-eq-of-cons-eq}
-use mathlib.Core.Option.{Option, some, none}
+use mathlib.Core.Option.{some}
 use lib.Dec.{eqb}
 use lib.ListN.{set}
 use borrow.Author.Tests.{eqb-true, eq-eqb}
-use Rattle.buffers.specs.Choices.{pick}
 use Rattle.buffers.specs.Lists.{keep, first, change, all, same}
 use Rattle.buffers.proofs.Tests.{either, and-i, and-l, and-r}
 
@@ -66,16 +65,6 @@ module _ {A : Type 0} where
           | inl u ↦ simp (t, u, s x) (keep-change p q f s xs)
           | inr u ↦ simp (t, u) (keep-change p q f s xs)
         ]
-      ]
-
-  -- ## The first element that passes a test
-
-  pub first-passes : (p : A → Bool) (xs : List A) (x : A) → first p xs ≡ some x → p x ≡ true
-  first-passes p [] x e = cc
-  first-passes p (y ∷ ys) x e =
-      elim (either (p y)) [
-        | inl t ↦ let g : some y ≡ some x = rw t at e in cc
-        | inr t ↦ first-passes p ys x (rw t at e)
       ]
 
   -- ## Every element passes a test

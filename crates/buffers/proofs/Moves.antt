@@ -4,7 +4,7 @@ use mathlib.Core.Path.{_≡_, sym, ap, _∙_}
 use mathlib.Core.List.{List, [], _∷_, _++_, append-nil}
 use native.Mathlib.Omega.{arith}
 use native.Mathlib.Numerals.{add-one}
-use lib.ListN.{length, take, drop, getD, set, replicate, length-append, length-take, length-drop, length-replicate, drop-of-length-le, take-append-drop, List·getD-append, getD-replicate}
+use lib.ListN.{length, take, drop, getD, set, replicate, length-append, length-take, length-drop, length-replicate, drop-of-length-le, List·getD-append}
 use lib.Seq.{length-take-le, take-length, drop-length, take-suc, drop-cons, append-snoc, set-at, take-at, drop-at, getD-take, getD-drop, getD-append-add}
 use Rattle.buffers.specs.Moves.{movedUp, movedDown}
 use Rattle.buffers.specs.Writes.{Wrote}

@@ -1,10 +1,7 @@
 -- Laws of tests and their conjunctions.
-use Prim.Native.Nat.{ℕ, suc}
 use mathlib.Core.Path.{_≡_, refl, sym, _∙_}
 use mathlib.Core.Logic.{_⊎_, inl, inr}
-use mathlib.Core.Bool.{Bool, true, false, not, _&&_, _||_, true≢false, false≢true}
-use native.Mathlib.Omega.{arith}
-use Rattle.buffers.specs.Choices.{pick}
+use mathlib.Core.Bool.{Bool, true, false, _&&_, _||_, true≢false, false≢true}
 
 -- a test is true or false
 pub either : (b : Bool) → (b ≡ true) ⊎ (b ≡ false)

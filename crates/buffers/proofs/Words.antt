@@ -15,11 +15,6 @@ unfolding spelled
 length-spelled zero n = refl
 length-spelled (suc k) n = ap suc (length-spelled k (n / 256))
 
-pub number-bound : (bs : List ℕ) → AllBytes bs → number bs < 256 ^ length bs
-unfolding number
-number-bound [] h = omega arith
-number-bound (b ∷ bs) h = omega (arith, number-bound bs (λ k. h (suc k)), h 0, pow-succ' 256 (length bs))
-
 -- A number that k bytes hold is spelled by them.
 pub number-spelled : (k n : ℕ) → n < 256 ^ k → number (spelled k n) ≡ n
 unfolding number spelled

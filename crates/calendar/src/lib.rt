@@ -16,7 +16,7 @@ pub struct Civil {
 const MONTHS: [u64; 12] = [0, 31, 59, 90, 120, 151, 181, 212, 243, 273, 304, 334];
 
 // Leap years are every fourth year, of the centuries every fourth.
-pub fn is_leap(year: u64) -> bool
+fn is_leap(year: u64) -> bool
     ensures { λ r. ⌜ r ≡ leap year ⌝ }
 {
     if year % 4 != 0 {

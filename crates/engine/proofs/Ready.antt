@@ -21,7 +21,6 @@ use Rattle.request.specs.declared.Verb.{Verb}
 use Rattle.request.specs.Meaning.{verbMeans}
 use Rattle.request.proofs.Ranges.{read-in-range}
 use Rattle.screen.specs.Screen.{Passes}
-use Rattle.verdict.specs.declared.State.{State}
 use Rattle.verdict.specs.State.{Ready}
 use Rattle.judge.specs.Premises.{Asked}
 use Rattle.perform.specs.Steps.{SoundRules}

@@ -1,8 +1,8 @@
 -- A line served: refused, set, or a step and the settings after it.
-use Prim.Native.Nat.{ℕ, _≤_, _<_, max}
+use Prim.Native.Nat.{ℕ, _≤_, max}
 use mathlib.Core.Path.{_≡_, refl, sym, _∙_, ap, subst⁻¹}
 use mathlib.Core.Logic.{inl, inr}
-use mathlib.Core.Bool.{Bool, true, false, _&&_}
+use mathlib.Core.Bool.{Bool, true, false}
 use mathlib.Core.List.{List}
 use mathlib.Core.Option.{Option, some, none}
 use lib.Dec.{leb, ltb}
@@ -12,7 +12,7 @@ use Rattle.buffers.proofs.Tests.{either, and-r}
 use Rattle.calendar.specs.Calendar.{latest}
 use Rattle.model.specs.Requests as model
 use Rattle.model.specs.Requests.{Set, Sweep, inRange}
-use Rattle.model.specs.Refusals.{firstOf, fieldChecks, tableChecks}
+use Rattle.model.specs.Refusals.{fieldChecks, tableChecks}
 use Rattle.settings.specs.declared.Settings.{Settings}
 use Rattle.settings.specs.Meaning.{rulesMean, prefixesAre}
 use Rattle.table.specs.Layout.{capacity}
@@ -29,7 +29,7 @@ use Rattle.screen.specs.declared.Screened.{Screened}
 use Rattle.screen.specs.declared.Screened.the-variants as screened
 use Rattle.screen.specs.Screen.{screened as fieldRefusal, lineRefusal, Stops, Passes, Screens}
 use Rattle.verdict.specs.declared.State.{State}
-use Rattle.verdict.specs.Decision.{Decision, refuses, does, effect, tableDecision, decision}
+use Rattle.verdict.specs.Decision.{Decision, refuses, does, effect, tableDecision}
 use Rattle.verdict.specs.State.{bucketBy, rowsIn}
 use Rattle.judge.specs.Premises.{both, Asked}
 use Rattle.outcome.specs.Outcome.{Outcome, refused, asked, outcome}

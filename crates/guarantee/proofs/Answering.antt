@@ -1,27 +1,26 @@
 -- The number that an answer's bytes give is the number that the model's answer gives.
-use Prim.Native.Nat.{ℕ, _+_, _≤_}
+use Prim.Native.Nat.{ℕ, _+_}
 use mathlib.Core.Path.{_≡_, refl, sym, _∙_, ap}
 use mathlib.Core.Logic.{_⊎_, inl, inr}
-use mathlib.Core.Bool.{Bool, true, false, false≢true}
+use mathlib.Core.Bool.{true, false, false≢true}
 use mathlib.Core.List.{List, [], _∷_, _++_, append-nil, append-assoc}
-use mathlib.Core.Option.{Option, some, none}
+use mathlib.Core.Option.{some}
 use native.Mathlib.Omega.{arith}
-use lib.Dec.{eqb, leb, ltb}
-use lib.ListN.{length, drop}
+use lib.Dec.{eqb, ltb}
 use borrow.Author.Tests.{eqb-true, eqb-false, ne-eqb, ltb-false}
-use Rattle.buffers.specs.Choices.{pick, thenSome}
+use Rattle.buffers.specs.Choices.{thenSome}
 use Rattle.buffers.specs.Lists.{all, same, begins}
 use Rattle.buffers.proofs.Tests.{either, and-l, and-r}
 use Rattle.buffers.proofs.Lists.{same-refl, same-path}
 use Rattle.text.specs.Numbers.{isDigit, numberOf}
 use Rattle.text.specs.Printing.{digits}
 use Rattle.text.proofs.RoundTrip.{number-back, digits-all}
-use Rattle.model.specs.Rows.{Row, isMarker}
+use Rattle.model.specs.Rows.{isMarker}
 use Rattle.model.specs.Settings.{Bucket}
-use Rattle.model.specs.Requests.{Version, numbered, Name, name, Get, Verb, Put, Copy, Retain, Hold, AddMarker, DeleteVersion, Set, Sweep, Ask}
+use Rattle.model.specs.Requests.{numbered, name, Get, Verb, Put, Copy, Retain, Hold, AddMarker, DeleteVersion, Set, Sweep, Ask}
 use Rattle.model.specs.Time.{Now}
 use Rattle.model.specs.Effects.{rowOf}
-use Rattle.model.specs.Answers.{Answer, done, removed, removedMarker, shown, made, reply, givesNumber}
+use Rattle.model.specs.Answers.{made, reply, givesNumber}
 use Rattle.model.proofs.Invariant.{removal-answers, shown-answers}
 use Rattle.answers.specs.Text.{fieldsText, okText, answerText}
 use Rattle.outcome.specs.Outcome.{written}

@@ -1,15 +1,15 @@
 -- Calls over bytes are calls on what the bytes spell.
-use Prim.Native.Nat.{ℕ, _*_, _/_, _%_, _≤_}
+use Prim.Native.Nat.{ℕ, _*_, _/_, _≤_}
 use mathlib.Core.Path.{_≡_, refl, sym, _∙_, ap, ap₂, subst⁻¹}
-use mathlib.Core.Logic.{_⊎_, inl, inr}
-use mathlib.Core.Bool.{Bool, true, false}
+use mathlib.Core.Logic.{inl, inr}
+use mathlib.Core.Bool.{true}
 use mathlib.Core.List.{List, [], _∷_, _++_}
 use mathlib.Core.Option.{Option, some, none}
 use native.Mathlib.Omega.{arith}
 use lib.Dec.{eqb}
-use lib.ListN.{length, replicate, length-replicate}
+use lib.ListN.{length, length-replicate}
 use borrow.Author.Tests.{eqb-true, eqb-false}
-use Rattle.buffers.specs.Choices.{pick, thenSome}
+use Rattle.buffers.specs.Choices.{pick}
 use Rattle.buffers.proofs.Tests.{either}
 use Rattle.model.specs.Run.{Event}
 use Rattle.model.specs.LockClause.{Kept}
@@ -18,7 +18,7 @@ use Rattle.settings.proofs.RoundTrip.{settings-length}
 use Rattle.table.specs.Layout.{capacity}
 use Rattle.request.specs.Grammar.{Said, readLine}
 use Rattle.outcome.specs.Outcome.{Outcome, asked, outcome}
-use Rattle.hub.specs.Bytes.{numbersFrom, ByteOutcome, byteOutcome, outcomeBytes, hubServed, FreshOutcome, freshSettings}
+use Rattle.hub.specs.Bytes.{numbersFrom, ByteOutcome, outcomeBytes, FreshOutcome, freshSettings}
 use Rattle.hub.proofs.Hub.{reads-as, hub-hands-on, hub-refused}
 use Rattle.hub.proofs.Fits.{whole-fits}
 use Rattle.hub.proofs.FreshBucket.{fresh-made, reads-fresh}

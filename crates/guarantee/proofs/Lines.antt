@@ -16,7 +16,7 @@ use Rattle.engine.specs.Served.{served as returned}
 use Rattle.outcome.specs.Outcome.{Outcome, outcome}
 use Rattle.outcome.proofs.Demands.{unsound-refused}
 use Rattle.outcome.proofs.Kept.{outcome-whole}
-use Rattle.guarantee.specs.Calls.{served, leaves}
+use Rattle.guarantee.specs.Calls.{leaves}
 use Rattle.guarantee.specs.Lists.{Ended, lent, ended, call, servedLines, Serving}
 use Rattle.guarantee.proofs.Demands.{unchanged}
 

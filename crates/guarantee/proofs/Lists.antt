@@ -1,11 +1,11 @@
 -- What the demands say of a list of lines that is served by one call.
 use Prim.Native.Nat.{ℕ, _≤_}
-use mathlib.Core.Path.{_≡_, refl, sym, _∙_, ap}
+use mathlib.Core.Path.{_≡_, refl}
 use mathlib.Core.List.{List, [], _∷_}
 use Rattle.text.specs.Lines.{linesOf}
 use Rattle.model.specs.LockClause.{Kept}
 use Rattle.guarantee.specs.Calls.{Lent, held, freshLent, served, leaves, left, accepted}
-use Rattle.guarantee.specs.Lists.{ended, call, servedLines, callsOf}
+use Rattle.guarantee.specs.Lists.{call, servedLines, callsOf}
 use Rattle.guarantee.proofs.LockClause.{demand-3}
 
 -- A list of lines leaves what their calls leave.

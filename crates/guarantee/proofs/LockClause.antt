@@ -1,21 +1,19 @@
 -- Demand 3, and the journal of accepted lines.
 use Prim.Native.Nat.{ℕ, _*_, _≤_}
-use mathlib.Core.Path.{_≡_, refl, sym, _∙_, ap}
-use mathlib.Core.Logic.{_⊎_, inl, inr}
-use mathlib.Core.Bool.{Bool, true, false}
+use mathlib.Core.Path.{_≡_, refl, _∙_, ap}
+use mathlib.Core.Logic.{inl, inr}
 use mathlib.Core.List.{List, [], _∷_}
-use lib.Dec.{eqb}
 use native.Mathlib.Omega.{arith}
-use lib.ListN.{length, replicate, length-replicate}
-use borrow.Author.Tests.{eqb-true, eqb-false}
+use lib.ListN.{length-replicate}
+use borrow.Author.Tests.{eqb-false}
 use Rattle.buffers.proofs.Tests.{either}
 use Rattle.text.specs.Keys.{isPrefix}
 use Rattle.blocks.specs.Blocks.{blockOf, isBlock}
-use Rattle.model.specs.Settings.{fresh, soundConfig, soundRules}
+use Rattle.model.specs.Settings.{soundConfig, soundRules}
 use Rattle.model.proofs.LockClause.{lock-clause}
 use Rattle.settings.specs.Meaning.{settingsSound}
 use Rattle.bucket.proofs.Whole.{fresh-whole}
-use Rattle.guarantee.specs.Calls.{Lent, Call, held, freshLent, served, leaves, isAccepted, left, acceptedCalls}
+use Rattle.guarantee.specs.Calls.{Lent, Call, freshLent, served, leaves, isAccepted, left, acceptedCalls}
 use Rattle.guarantee.specs.Promise.{Demand3}
 use Rattle.guarantee.proofs.Demands.{unchanged, number-is}
 use Rattle.guarantee.proofs.Runs.{Whole, linesIn, held-left, accepted-left}

@@ -1,17 +1,16 @@
 -- A list of calls on whole buffers is the model's run of their lines.
 use Prim.Native.Nat.{ℕ}
 use mathlib.Core.Path.{_≡_, refl, sym, _∙_, ap, ap₂, fun-ext}
-use mathlib.Core.Logic.{_⊎_, inl, inr}
-use mathlib.Core.Bool.{Bool, true, false}
+use mathlib.Core.Logic.{inl, inr}
+use mathlib.Core.Bool.{Bool, true}
 use mathlib.Core.List.{List, [], _∷_, _++_}
-use mathlib.Core.Option.{Option, some, none}
 use lib.Dec.{eqb}
 use lib.ListN.{length}
 use borrow.Author.Tests.{eqb-true, eqb-false, ne-eqb}
-use Rattle.buffers.specs.Choices.{pick, thenSome}
+use Rattle.buffers.specs.Choices.{pick}
 use Rattle.buffers.proofs.Tests.{either}
 use Rattle.model.specs.Settings.{Bucket}
-use Rattle.model.specs.Requests.{Line, Request, reads}
+use Rattle.model.specs.Requests.{Line, reads}
 use Rattle.model.specs.Time.{nowOf}
 use Rattle.model.specs.Refusals.{refusal}
 use Rattle.model.specs.Answers.{answerTo, givesNumber}
@@ -19,7 +18,7 @@ use Rattle.model.specs.Run as model
 use Rattle.model.specs.Run.{Event}
 use Rattle.table.specs.Layout.{capacity}
 use Rattle.bucket.specs.Whole.{whole}
-use Rattle.request.specs.Grammar.{readLine, lineOf}
+use Rattle.request.specs.Grammar.{lineOf}
 use Rattle.outcome.specs.Outcome.{asked, refusalOf}
 use Rattle.outcome.proofs.Kept.{model-refusal, accepted-bucket, accepted-capacity, outcome-whole}
 use Rattle.guarantee.specs.Calls.{Lent, Call, held, served, leaves, isAccepted, left, event, accepted, answersNumber}
@@ -97,7 +96,3 @@ accepted-left c s [] w = refl
 accepted-left c s (l ∷ ls) w =
     ap₂ (λ (x y : List Event). x ++ y) (events-after c s l w)
     (accepted-left c (leaves (served s l)) ls (whole-after c s l w) ∙ ap (λ (b : Bucket). model.accepted c b (linesIn ls)) (held-after c s l w))
-
-pub whole-left : (c : ℕ) (s : Lent) (ls : List Call) → Whole c s → Whole c (left s ls)
-whole-left c s [] w = w
-whole-left c s (l ∷ ls) w = whole-left c (leaves (served s l)) ls (whole-after c s l w)

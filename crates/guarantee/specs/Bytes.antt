@@ -1,7 +1,6 @@
 -- Calls of the C entries: the bucket travels as bytes.
 use Prim.Native.Nat.{ℕ, _*_, _/_, _≤_}
 use mathlib.Core.Path.{_≡_}
-use mathlib.Core.Bool.{Bool}
 use mathlib.Core.List.{List, [], _∷_, _++_}
 use lib.Dec.{eqb}
 use lib.ListN.{length}
@@ -11,7 +10,7 @@ use Rattle.model.specs.LockClause.{Kept}
 use Rattle.settings.specs.Bytes.{settingsOf}
 use Rattle.request.specs.Grammar.{readLine}
 use Rattle.outcome.specs.Outcome.{asked}
-use Rattle.hub.specs.Bytes.{numbersFrom, ByteOutcome, hubServed, FreshOutcome, hubFresh}
+use Rattle.hub.specs.Bytes.{numbersFrom, ByteOutcome, hubServed, hubFresh}
 use Rattle.guarantee.specs.Calls.{Lent, Call, held, answersNumber}
 
 -- The bucket as bytes: settings, rows and keys.

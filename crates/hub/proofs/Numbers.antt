@@ -20,11 +20,6 @@ use Rattle.hub.specs.Bytes.{numbersFrom, numbersBytes}
 
 -- ## Lengths
 
-pub length-numbers : (k : ℕ) (b : List ℕ) → length (numbersFrom k b) ≡ k
-unfolding numbersFrom
-length-numbers zero b = refl
-length-numbers (suc k) b = ap suc (length-numbers k (drop 8 b))
-
 pub length-bytes : (ns : List ℕ) → length (numbersBytes ns) ≡ 8 * length ns
 unfolding numbersBytes
 length-bytes [] = refl

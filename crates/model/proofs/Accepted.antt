@@ -6,7 +6,7 @@ use native.Mathlib.Omega.{arith}
 use lib.Dec.{leb, ltb}
 use borrow.Author.Tests.{not-false}
 use Rattle.buffers.specs.Choices.{pick}
-use Rattle.buffers.proofs.Tests.{and-l, and-r, and-i}
+use Rattle.buffers.proofs.Tests.{and-l, and-r}
 use Rattle.calendar.specs.Calendar.{latest}
 use Rattle.model.specs.Settings.{Bucket, sound}
 use Rattle.model.specs.Requests.{Verb, Call, Request, reads, inRange}

@@ -2,49 +2,21 @@
 use Prim.Native.Nat.{ℕ, _+_, _-_, _<_}
 use mathlib.Core.Path.{_≡_, refl}
 use mathlib.Core.Bool.{Bool, true, false}
-use mathlib.Core.List.{List, [], _∷_, _++_}
+use mathlib.Core.List.{List, [], _∷_}
 use mathlib.Core.Option.{Option, some, none}
 use lib.Dec.{lit<}
 use Rattle.buffers.specs.Texts.{bytes}
 use Rattle.text.specs.Keys.{isKeyByte, isKey, isPrefix}
 use Rattle.calendar.specs.Periods.{periodEnd, expiresAt}
-use Rattle.model.specs.Rows.{Row, governance, compliance, soundRow}
-use Rattle.model.specs.Settings.{Rule, fresh, days, soundRules, soundConfig, fits, sound}
-use Rattle.model.specs.Requests.{
-  Rights,
-  Version,
-  numbered,
-  Name,
-  name,
-  Retention,
-  noRetention,
-  Terms,
-  Period,
-  Setting,
-  DefaultRetention,
-  LifecycleRule,
-  Query,
-  Get,
-  Verb,
-  Put,
-  Copy,
-  Retain,
-  Hold,
-  AddMarker,
-  DeleteVersion,
-  Set,
-  Sweep,
-  Ask,
-  Line,
-  reads,
-  inRange,
-}
+use Rattle.model.specs.Rows.{governance, compliance, soundRow}
+use Rattle.model.specs.Settings.{fresh, days, soundRules, soundConfig, fits, sound}
+use Rattle.model.specs.Requests.{Rights, Version, numbered, name, noRetention, Terms, DefaultRetention, LifecycleRule, Get, Verb, Put, Retain, AddMarker, DeleteVersion, Set, Sweep, Ask, Line, reads, inRange}
 use Rattle.model.specs.Time.{defaultEnd}
 use Rattle.model.specs.Locks.{locked, admits}
 use Rattle.model.specs.Effects.{added, removed as rowsRemoved, rowsAfter, setConfig, configAfter}
 use Rattle.model.specs.Refusals.{halfGiven, needs, granted, lacksRight, pastDate, missing, namesMarker, barred, tooLate, spends, full, refusal}
-use Rattle.model.specs.Answers.{Answer, done, made, marked, removed, sweptCounts, shown, reply}
-use Rattle.model.specs.Run.{Event, Reply, no, ok, replies, run, accepted}
+use Rattle.model.specs.Answers.{done, made, marked, removed, sweptCounts, shown, reply}
+use Rattle.model.specs.Run.{Reply, no, ok, replies, run, accepted}
 use Rattle.model.specs.LockClause.{Held, InCompliance, InGovernance, OnHold}
 use Rattle.model.proofs.LockClause.{lock-clause}
 

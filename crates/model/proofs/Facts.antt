@@ -1,21 +1,19 @@
 -- Facts on conditions and on a list of lines: the first condition that holds, version numbers, and time.
-use Prim.Native.Nat.{ℕ, _≤_, max}
+use Prim.Native.Nat.{ℕ, _≤_}
 use mathlib.Core.Path.{_≡_, refl, sym, _∙_, ap, ap₂}
 use mathlib.Core.Logic.{_⊎_, inl, inr}
-use mathlib.Core.Bool.{Bool, true, false, not, _&&_}
-use mathlib.Core.List.{List, [], _∷_, _++_, cons≢nil, tail-eq-of-cons-eq}
+use mathlib.Core.Bool.{Bool, true, not}
+use mathlib.Core.List.{List, [], _∷_, cons≢nil, tail-eq-of-cons-eq}
 use native.Mathlib.Omega.{arith}
-use native.Mathlib.Nat.{le-trans}
 use lib.Dec.{eqb, leb}
-use borrow.Author.Tests.{eq-eqb, ne-eqb, leb-true, not-true}
-use Rattle.buffers.specs.Choices.{pick}
+use borrow.Author.Tests.{eq-eqb, leb-true}
 use Rattle.buffers.specs.Lists.{all}
 use Rattle.buffers.proofs.Tests.{either, and-i, and-l, and-r}
 use Rattle.model.specs.Rows.{Row}
-use Rattle.model.specs.Settings.{Bucket, fresh, sound}
-use Rattle.model.specs.Requests.{Line, unreadable, reads}
-use Rattle.model.specs.Refusals.{Check, check, firstOf, FirstHolds, checks, refusal}
-use Rattle.model.specs.Run.{Event, serve, run, accepted}
+use Rattle.model.specs.Settings.{fresh}
+use Rattle.model.specs.Requests.{Line}
+use Rattle.model.specs.Refusals.{Check, check, firstOf, FirstHolds}
+use Rattle.model.specs.Run.{run, accepted}
 use Rattle.model.specs.LockClause.{timeAfter, versions, distinct}
 use Rattle.model.proofs.Versions.{cons-none}
 use Rattle.model.proofs.LockClause.{good-fresh}

@@ -1,44 +1,24 @@
 -- What holds of the bucket and the accepted lines after every line: a version number stands at most once, below the next number, with what it was made with.
-use Prim.Native.Nat.{ℕ, _+_, _≤_, _<_, max}
+use Prim.Native.Nat.{ℕ, _+_, _≤_, _<_}
 use mathlib.Core.Path.{_≡_, refl, sym, _∙_, ap}
 use mathlib.Core.Logic.{_⊎_, inl, inr}
-use mathlib.Core.Bool.{Bool, true, false, not, _&&_, true≢false, false≢true}
+use mathlib.Core.Bool.{Bool, true, false, not, true≢false}
 use mathlib.Core.List.{List, [], _∷_, _++_}
 use mathlib.Core.Option.{Option, some, none}
 use native.Mathlib.Omega.{arith}
 use lib.Dec.{eqb, leb}
-use borrow.Author.Tests.{eqb-true, eqb-false, eq-eqb, ne-eqb, leb-true, leb-false, not-false}
+use borrow.Author.Tests.{eqb-true, eqb-false, ne-eqb, leb-true, leb-false}
 use Rattle.buffers.specs.Choices.{pick, thenSome, isSome, orZero}
-use Rattle.buffers.proofs.Tests.{either, and-both}
+use Rattle.buffers.proofs.Tests.{either}
 use Rattle.model.specs.Rows.{Row, isMarker}
 use Rattle.model.specs.Settings.{Bucket, fresh}
-use Rattle.model.specs.Requests.{
-  Version,
-  numbered,
-  Name,
-  name,
-  Terms,
-  Query,
-  Get,
-  Verb,
-  Put,
-  Copy,
-  Retain,
-  Hold,
-  AddMarker,
-  DeleteVersion,
-  Set,
-  Sweep,
-  Ask,
-  Call,
-  Request,
-}
+use Rattle.model.specs.Requests.{Version, Name, name, Terms, Get, Verb, Put, Copy, Retain, Hold, AddMarker, DeleteVersion, Set, Sweep, Ask, Call, Request}
 use Rattle.model.specs.Time.{Now, nowOf}
-use Rattle.model.specs.Effects.{rowOf, isNamed, setRetention, setHold, holdNumber, newRow, added, rowsAfter, after}
+use Rattle.model.specs.Effects.{rowOf, setRetention, setHold, holdNumber, newRow, added, rowsAfter, after}
 use Rattle.model.specs.Refusals.{missing, namesMarker}
 use Rattle.model.specs.Answers.{done, removed, removedMarker, shown, reply, answerTo, givesNumber}
 use Rattle.model.specs.Run.{Event}
-use Rattle.model.specs.LockClause.{timeAfter, Making, answers, makingBy, makingAfter, madeWith, makingOf, versions, Held}
+use Rattle.model.specs.LockClause.{timeAfter, Making, answers, makingBy, madeWith, makingOf, versions, Held}
 use Rattle.model.proofs.Versions.{insert-other, insert-new, found-some, found-one, change-none, keep-none, swept-none, swept-new}
 use Rattle.model.proofs.Accepted.{Accepted}
 use Rattle.model.proofs.Line.{Change, kept, relocked, reheld, dropped, changed}

@@ -1,14 +1,14 @@
 -- What an accepted line does to the only row of a version.
 use Prim.Native.Nat.{ℕ, _<_}
-use mathlib.Core.Path.{_≡_, refl, sym, _∙_}
-use mathlib.Core.Logic.{_⊎_, inl, inr}
-use mathlib.Core.Bool.{Bool, true, false, not, _&&_, true≢false}
+use mathlib.Core.Path.{_≡_, refl, _∙_}
+use mathlib.Core.Logic.{inl, inr}
+use mathlib.Core.Bool.{Bool, true, false, not, _&&_}
 use mathlib.Core.List.{List, [], _∷_}
-use mathlib.Core.Option.{Option, some, none}
+use mathlib.Core.Option.{some, none}
 use native.Mathlib.Omega.{arith}
 use lib.Dec.{eqb}
 use borrow.Author.Tests.{eq-eqb, ne-eqb, not-false}
-use Rattle.buffers.specs.Choices.{pick, thenSome, orZero}
+use Rattle.buffers.specs.Choices.{thenSome, orZero}
 use Rattle.buffers.proofs.Tests.{either, and-l, and-r}
 use Rattle.model.specs.Rows.{Row}
 use Rattle.model.specs.Settings.{Bucket}

@@ -1,18 +1,17 @@
 -- The lock clause: one induction over the list of lines.
-use Prim.Native.Nat.{ℕ, _<_, max}
-use mathlib.Core.Path.{_≡_, refl, sym, _∙_, ap}
-use mathlib.Core.Logic.{_⊎_, inl, inr}
-use mathlib.Core.Bool.{Bool, true, false, not, _&&_}
+use Prim.Native.Nat.{ℕ, _<_}
+use mathlib.Core.Path.{_≡_}
+use mathlib.Core.Logic.{inl, inr}
+use mathlib.Core.Bool.{true, not}
 use mathlib.Core.List.{List, [], _∷_, _++_, append-assoc, append-nil, nil≢cons}
 use native.Mathlib.Omega.{arith}
 use lib.Dec.{eqb}
 use borrow.Author.Tests.{eqb-true, not-true}
 use Rattle.buffers.specs.Choices.{pick}
-use Rattle.buffers.specs.Lists.{all}
 use Rattle.buffers.proofs.Tests.{either}
 use Rattle.model.specs.Rows.{Row, governance, compliance}
 use Rattle.model.specs.Settings.{Bucket, fresh}
-use Rattle.model.specs.Requests.{Verb, Call, Request, Line, unreadable, reads}
+use Rattle.model.specs.Requests.{Verb, Call, Line, unreadable, reads}
 use Rattle.model.specs.Time.{nowOf}
 use Rattle.model.specs.Effects.{after}
 use Rattle.model.specs.Refusals.{refusal}

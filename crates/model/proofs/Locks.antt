@@ -1,47 +1,26 @@
 -- The three locks outlast every accepted line that they should, and the line that puts a version under a lock leaves it so.
 use Prim.Native.Nat.{ℕ, _≤_, _<_}
-use mathlib.Core.Path.{_≡_, refl, sym, _∙_, ap}
+use mathlib.Core.Path.{_≡_, sym, _∙_}
 use mathlib.Core.Logic.{_⊎_, inl, inr}
-use mathlib.Core.Bool.{Bool, true, false, not, _&&_, _||_, true≢false, false≢true}
-use mathlib.Core.List.{List, [], _∷_, nil≢cons}
+use mathlib.Core.Bool.{Bool, true, false, _&&_, true≢false, false≢true}
+use mathlib.Core.List.{List, nil≢cons}
 use mathlib.Core.Option.{Option, some, none}
 use native.Mathlib.Omega.{arith}
-use lib.Dec.{eqb, leb, ltb}
-use borrow.Author.Tests.{eqb-true, eqb-false, ne-eqb, leb-true, leb-false, lt-ltb}
-use Rattle.buffers.specs.Choices.{pick, thenSome, isSome, orZero}
-use Rattle.buffers.proofs.Tests.{either, and-both, and-l, and-r, or-one, or-none}
-use Rattle.model.specs.Rows.{Row, governance, compliance, isMode}
-use Rattle.model.specs.Settings.{Config, Bucket}
-use Rattle.model.specs.Requests.{
-  Name,
-  Retention,
-  Terms,
-  Verb,
-  Put,
-  Copy,
-  Retain,
-  Hold,
-  AddMarker,
-  DeleteVersion,
-  Set,
-  Sweep,
-  Ask,
-  Call,
-  isThe,
-  bypassOf,
-  isModeField,
-}
-use Rattle.model.specs.Time.{Now, nowOf, defaultEnd, newMode, newUntil}
+use lib.Dec.{eqb, leb}
+use borrow.Author.Tests.{eqb-true, leb-true, leb-false, lt-ltb}
+use Rattle.buffers.specs.Choices.{isSome, orZero}
+use Rattle.buffers.proofs.Tests.{either, and-l, and-r, or-one, or-none}
+use Rattle.model.specs.Rows.{Row, governance, compliance}
+use Rattle.model.specs.Settings.{Bucket}
+use Rattle.model.specs.Requests.{Retention, Verb, Call, isThe, bypassOf, isModeField}
+use Rattle.model.specs.Time.{nowOf}
 use Rattle.model.specs.Locks.{locked, noEarlier, admits}
-use Rattle.model.specs.Effects.{rowOf, isNamed, setRetention, setHold, holdNumber, newHold, rowsAfter, after}
-use Rattle.model.specs.Refusals.{missing, namesMarker}
-use Rattle.model.specs.Answers.{reply}
+use Rattle.model.specs.Effects.{setRetention, setHold, holdNumber, rowsAfter, after}
 use Rattle.model.specs.Run.{Event}
-use Rattle.model.specs.LockClause.{answers, namesIn, holdOff, gives, putsBy, isOn, holdsBy, versions, Held, InCompliance, InGovernance, OnHold}
-use Rattle.model.proofs.Versions.{change-version, found-named}
+use Rattle.model.specs.LockClause.{namesIn, holdOff, versions, Held, InCompliance, InGovernance, OnHold}
 use Rattle.model.proofs.Accepted.{Accepted}
 use Rattle.model.proofs.Line.{Change, kept, relocked, reheld, dropped, changed}
-use Rattle.model.proofs.Invariant.{Invariant, asked, event, with, Found, find, made-before, put-held, copy-held}
+use Rattle.model.proofs.Invariant.{Invariant, asked, with, made-before}
 
 -- ## A lock that lasts
 

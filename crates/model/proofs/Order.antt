@@ -1,16 +1,15 @@
 -- The order of keys and of rows, and that each change of the table keeps it.
-use Prim.Native.Nat.{ℕ, _<_}
+use Prim.Native.Nat.{ℕ}
 use mathlib.Core.Path.{_≡_, refl, sym, _∙_}
 use mathlib.Core.Logic.{_⊎_, inl, inr}
-use mathlib.Core.Bool.{Bool, true, false, _&&_, _||_, true≢false, false≢true}
+use mathlib.Core.Bool.{Bool, true, false, true≢false, false≢true}
 use mathlib.Core.List.{List, [], _∷_}
 use native.Mathlib.Omega.{arith}
 use lib.Dec.{eqb, ltb}
 use borrow.Author.Tests.{eqb-true, eqb-false, eq-eqb, ltb-true, ltb-false, lt-ltb, le-ltb}
-use Rattle.buffers.specs.Choices.{pick}
 use Rattle.buffers.specs.Lists.{all, keep, change, same}
 use Rattle.buffers.proofs.Tests.{either, and-i, and-l, and-r, or-l, or-r, or-one, or-none}
-use Rattle.buffers.proofs.Lists.{same-path, same-refl, all-as, all-keep, all-change}
+use Rattle.buffers.proofs.Lists.{same-path, all-as, all-keep, all-change}
 use Rattle.model.specs.Rows.{Row, before, ahead, ordered}
 use Rattle.model.specs.Effects.{insert}
 

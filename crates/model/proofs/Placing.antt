@@ -1,44 +1,28 @@
 -- The line that puts a version under a lock leaves its row so.
 use Prim.Native.Nat.{ℕ, _<_}
-use mathlib.Core.Path.{_≡_, refl, sym, _∙_, ap}
-use mathlib.Core.Logic.{_⊎_, inl, inr}
-use mathlib.Core.Bool.{Bool, true, false, not, _&&_, _||_, true≢false, false≢true}
-use mathlib.Core.List.{List, [], _∷_}
+use mathlib.Core.Path.{_≡_, refl, sym, _∙_}
+use mathlib.Core.Logic.{inl, inr}
+use mathlib.Core.Bool.{Bool, true, false, _&&_, false≢true}
+use mathlib.Core.List.{List}
 use mathlib.Core.Option.{Option, some, none}
 use native.Mathlib.Omega.{arith}
 use lib.Dec.{eqb}
 use borrow.Author.Tests.{eqb-true, ne-eqb}
-use Rattle.buffers.specs.Choices.{pick, thenSome, isSome, orZero}
+use Rattle.buffers.specs.Choices.{thenSome, orZero}
 use Rattle.buffers.specs.Lists.{change}
-use Rattle.buffers.proofs.Tests.{and-both, and-l, and-r, or-one}
+use Rattle.buffers.proofs.Tests.{and-l, and-r, or-one}
 use Rattle.model.specs.Rows.{Row}
 use Rattle.model.specs.Settings.{Bucket}
-use Rattle.model.specs.Requests.{
-  Name,
-  Retention,
-  Terms,
-  Verb,
-  Put,
-  Copy,
-  Retain,
-  Hold,
-  AddMarker,
-  DeleteVersion,
-  Set,
-  Sweep,
-  Ask,
-  Call,
-  isThe,
-}
+use Rattle.model.specs.Requests.{Name, Retention, Verb, Put, Copy, Retain, Hold, AddMarker, DeleteVersion, Set, Sweep, Ask, Call, isThe}
 use Rattle.model.specs.Time.{nowOf, defaultEnd, newMode, newUntil}
-use Rattle.model.specs.Effects.{rowOf, isNamed, setRetention, setHold, holdNumber, newHold, newRow, rowsAfter, after}
+use Rattle.model.specs.Effects.{rowOf, isNamed, setRetention, setHold, holdNumber, newHold, rowsAfter, after}
 use Rattle.model.specs.Refusals.{missing, namesMarker}
 use Rattle.model.specs.Answers.{reply}
 use Rattle.model.specs.Run.{Event}
-use Rattle.model.specs.LockClause.{answers, makes, gives, putsBy, isOn, holdsBy, makingOf, madeWith, versions, Held, OnHold}
+use Rattle.model.specs.LockClause.{answers, makes, gives, putsBy, isOn, holdsBy, makingOf, Held, OnHold}
 use Rattle.model.proofs.Versions.{change-version, found-named}
 use Rattle.model.proofs.Accepted.{Accepted}
-use Rattle.model.proofs.Invariant.{Invariant, asked, event, with, Found, find, made-before, put-held, copy-held, copyRow}
+use Rattle.model.proofs.Invariant.{Invariant, asked, event, with, Found, find, made-before, put-held, copy-held}
 use Rattle.model.proofs.Locks.{the-is}
 
 pub held-as : {b : Bucket} {es : List Event} {v : ℕ} {L M : Row → Type 0} → Held b es v L → ((x : Row) → L x → M x) → Held b es v M

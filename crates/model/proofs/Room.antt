@@ -1,20 +1,18 @@
 -- How many rows a line leaves: the used ones, less those removed, plus those added.
 use Prim.Native.Nat.{ℕ, _+_}
-use mathlib.Core.Path.{_≡_, refl, sym, _∙_, ap}
-use mathlib.Core.Logic.{_⊎_, inl, inr}
-use mathlib.Core.Bool.{Bool, true, false, not, _&&_, true≢false}
-use mathlib.Core.List.{List, [], _∷_, _++_}
+use mathlib.Core.Path.{_≡_, refl, sym, ap}
+use mathlib.Core.Logic.{inl, inr}
+use mathlib.Core.Bool.{Bool, true, false, not, true≢false}
+use mathlib.Core.List.{List, [], _∷_}
 use mathlib.Core.Option.{Option, some, none}
 use native.Mathlib.Omega.{arith}
-use lib.Dec.{eqb}
 use lib.ListN.{length, length-append}
-use Rattle.buffers.specs.Choices.{pick, thenSome, isSome}
 use Rattle.buffers.specs.Lists.{all, keep, first, change}
 use Rattle.buffers.proofs.Tests.{either, and-l, and-r}
-use Rattle.buffers.proofs.Lists.{all-first, all-as, first-passes}
+use Rattle.buffers.proofs.Lists.{all-first, all-as}
 use Rattle.model.specs.Rows.{Row, before, ahead, ordered}
 use Rattle.model.specs.Settings.{Rule, Bucket}
-use Rattle.model.specs.Requests.{Name, name, Verb, Put, Copy, Retain, Hold, AddMarker, DeleteVersion, Set, Sweep, Ask}
+use Rattle.model.specs.Requests.{name, Verb, Put, Copy, Retain, Hold, AddMarker, DeleteVersion, Set, Sweep, Ask}
 use Rattle.model.specs.Time.{Now}
 use Rattle.model.specs.Sweep.{Fate, stays, goes, gains, fate, inPlace, marks, removes, swept, counted}
 use Rattle.model.specs.Effects.{rowOf, sameVersion, isNamed, insert, added, removed, rowsAfter}

@@ -1,53 +1,23 @@
 -- An accepted line leaves a sound bucket sound, and so does every list of lines.
-use Prim.Native.Nat.{ℕ, _+_, _≤_, _<_, max}
-use mathlib.Core.Path.{_≡_, refl, sym, _∙_}
-use mathlib.Core.Logic.{_⊎_, inl, inr}
-use mathlib.Core.Bool.{Bool, true, false, not, _&&_, _||_, true≢false, false≢true}
+use Prim.Native.Nat.{ℕ, _+_, _≤_}
+use mathlib.Core.Path.{_≡_, refl}
+use mathlib.Core.Logic.{inl, inr}
+use mathlib.Core.Bool.{Bool, true, false, _&&_, true≢false}
 use mathlib.Core.List.{List, [], _∷_}
 use mathlib.Core.Option.{Option, some, none}
 use native.Mathlib.Omega.{arith}
 use lib.Dec.{eqb, leb, ltb}
 use lib.ListN.{length, set, length-set}
-use borrow.Author.Tests.{eqb-true, eqb-false, ltb-true, ltb-false, leb-true, le-leb, not-true, not-false}
-use Rattle.buffers.specs.Choices.{pick, thenSome, isSome, orZero}
+use borrow.Author.Tests.{eqb-true, ltb-false, leb-true, le-leb, not-false}
+use Rattle.buffers.specs.Choices.{pick, isSome, orZero}
 use Rattle.buffers.specs.Lists.{all}
-use Rattle.buffers.proofs.Tests.{either, and-i, and-l, and-r, or-l, or-r}
+use Rattle.buffers.proofs.Tests.{either, and-i, and-l, and-r, or-r}
 use Rattle.buffers.proofs.Lists.{all-as, all-keep, all-first, all-set}
 use Rattle.text.specs.Keys.{isKey, isPrefix}
 use Rattle.calendar.specs.Calendar.{latest}
-use Rattle.model.specs.Rows.{Row, isMarker, isMode, ordered, soundData, soundRow, bodies, largestSize}
-use Rattle.model.specs.Settings.{Rule, Default, Config, Settings, Bucket, fresh, absentRule, spentNumber, isDays, isSet, isPeriod, soundDefault, soundRule, soundRules, soundConfig, soundSettings, fits, sound}
-use Rattle.model.specs.Requests.{
-  Name,
-  name,
-  Retention,
-  Terms,
-  Period,
-  Setting,
-  DefaultRetention,
-  LifecycleRule,
-  Verb,
-  Put,
-  Copy,
-  Retain,
-  Hold,
-  AddMarker,
-  DeleteVersion,
-  Set,
-  Sweep,
-  Ask,
-  Call,
-  Request,
-  Line,
-  unreadable,
-  reads,
-  isModeField,
-  isPeriodField,
-  isName,
-  isRetention,
-  isSetting,
-  inRange,
-}
+use Rattle.model.specs.Rows.{Row, isMode, ordered, soundData, soundRow, bodies, largestSize}
+use Rattle.model.specs.Settings.{Rule, Config, Bucket, fresh, absentRule, spentNumber, isDays, isSet, soundDefault, soundRule, soundRules, soundConfig, fits, sound}
+use Rattle.model.specs.Requests.{Name, Retention, Terms, Period, Setting, DefaultRetention, LifecycleRule, Verb, Put, Copy, Retain, Hold, AddMarker, DeleteVersion, Set, Sweep, Ask, Call, Request, Line, unreadable, reads, isModeField, isPeriodField, isName, isRetention, isSetting, inRange}
 use Rattle.model.specs.Time.{Now, nowOf}
 use Rattle.model.specs.Sweep.{marks, counted}
 use Rattle.model.specs.Effects.{rowOf, isNamed, setRetention, setHold, holdNumber, added, rowsAfter, defaultFrom, setConfig, configAfter, after}

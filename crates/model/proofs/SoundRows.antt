@@ -1,13 +1,13 @@
 -- Sound rows: their parts, and that what a line adds or changes is sound.
 use Prim.Native.Nat.{ℕ, _+_, _≤_, _<_}
-use mathlib.Core.Path.{_≡_, refl, sym, _∙_, ap}
-use mathlib.Core.Logic.{_⊎_, inl, inr}
-use mathlib.Core.Bool.{Bool, true, false, not, _&&_, _||_, true≢false, false≢true}
+use mathlib.Core.Path.{_≡_, refl, sym}
+use mathlib.Core.Logic.{inl, inr}
+use mathlib.Core.Bool.{Bool, true, false, not, _&&_, _||_, true≢false}
 use mathlib.Core.List.{List, [], _∷_}
 use mathlib.Core.Option.{Option, some, none}
 use native.Mathlib.Omega.{arith}
 use lib.Dec.{eqb, leb, ltb}
-use borrow.Author.Tests.{eqb-true, eqb-false, eq-eqb, ne-eqb, ltb-true, ltb-false, leb-true, leb-false, lt-ltb, le-leb, not-true, not-false}
+use borrow.Author.Tests.{eqb-true, eq-eqb, ne-eqb, ltb-true, ltb-false, leb-true, leb-false, lt-ltb, le-leb}
 use Rattle.buffers.specs.Choices.{pick, thenSome, isSome, orZero}
 use Rattle.buffers.specs.Lists.{all, first, change, same}
 use Rattle.buffers.proofs.Tests.{either, clash, and-i, and-l, and-r, or-l, or-r, or-one}
@@ -16,7 +16,7 @@ use Rattle.text.specs.Keys.{isKey}
 use Rattle.calendar.specs.Calendar.{latest}
 use Rattle.calendar.proofs.Periods.{period-positive}
 use Rattle.model.specs.Rows.{Row, isData, isMarker, isMode, governance, compliance, bodies, largestSize, before, ahead, ordered, soundRetention, soundData, soundMarker, soundRow}
-use Rattle.model.specs.Settings.{Default, Config, Settings, hasDefault, isPeriod, soundDefault}
+use Rattle.model.specs.Settings.{Config, Settings, hasDefault, isPeriod, soundDefault}
 use Rattle.model.specs.Requests.{Name, Retention, Terms, isModeField, isDateField, isRetention}
 use Rattle.model.specs.Time.{defaultEnd, newMode, newUntil}
 use Rattle.model.specs.Sweep.{marker}

@@ -10,7 +10,7 @@ use lib.Dec.{eqb}
 use borrow.Author.Tests.{eqb-true, eqb-false, eq-eqb, ne-eqb}
 use Rattle.buffers.specs.Choices.{pick}
 use Rattle.buffers.specs.Lists.{keep, first, change, same}
-use Rattle.buffers.proofs.Tests.{either, and-i, and-l, and-r}
+use Rattle.buffers.proofs.Tests.{either, and-i, and-r}
 use Rattle.buffers.proofs.Lists.{keep-yes, keep-no, keep-append, keep-head, keep-keep, keep-change, same-refl}
 use Rattle.model.specs.Rows.{Row, isData, before}
 use Rattle.model.specs.Settings.{Rule}

@@ -1,31 +1,12 @@
 -- 01, "Request lines": what an accepted line answers after `ok`, as values.
 use Prim.Native.Nat.{ℕ}
-use mathlib.Core.Bool.{Bool, true, false}
-use mathlib.Core.List.{List}
-use mathlib.Core.Option.{Option, some, none}
+use mathlib.Core.Bool.{Bool, false}
+use mathlib.Core.Option.{some}
 use lib.Dec.{eqb}
 use Rattle.buffers.specs.Choices.{pick, thenSome}
 use Rattle.model.specs.Rows.{Row, isMarker}
 use Rattle.model.specs.Settings.{Bucket}
-use Rattle.model.specs.Requests.{
-  Version,
-  numbered,
-  Name,
-  name,
-  Query,
-  Get,
-  Verb,
-  Put,
-  Copy,
-  Retain,
-  Hold,
-  AddMarker,
-  DeleteVersion,
-  Set,
-  Sweep,
-  Ask,
-  Request,
-}
+use Rattle.model.specs.Requests.{Version, numbered, name, Get, Verb, Put, Copy, Retain, Hold, AddMarker, DeleteVersion, Set, Sweep, Ask, Request}
 use Rattle.model.specs.Time.{Now, nowOf}
 use Rattle.model.specs.Effects.{rowOf, added}
 use Rattle.model.specs.Effects.{removed as rowsRemoved}

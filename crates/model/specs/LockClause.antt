@@ -9,30 +9,8 @@ use lib.Dec.{eqb}
 use Rattle.buffers.specs.Choices.{pick, thenSome, isSome}
 use Rattle.buffers.specs.Lists.{keep, all}
 use Rattle.model.specs.Rows.{Row, governance, compliance}
-use Rattle.model.specs.Settings.{Config, Bucket, fresh}
-use Rattle.model.specs.Requests.{
-  Version,
-  numbered,
-  Name,
-  Retention,
-  Terms,
-  Setting,
-  Query,
-  Get,
-  Verb,
-  Put,
-  Copy,
-  Retain,
-  Hold,
-  AddMarker,
-  DeleteVersion,
-  Set,
-  Sweep,
-  Ask,
-  Line,
-  isThe,
-  bypassOf,
-}
+use Rattle.model.specs.Settings.{Bucket, fresh}
+use Rattle.model.specs.Requests.{Retention, Verb, Put, Copy, Retain, Hold, AddMarker, DeleteVersion, Set, Sweep, Ask, Line, isThe, bypassOf}
 use Rattle.model.specs.Time.{nowOf, defaultEnd}
 use Rattle.model.specs.Effects.{rowOf}
 use Rattle.model.specs.Refusals.{namedRow}

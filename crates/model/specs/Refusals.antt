@@ -1,56 +1,16 @@
 -- 01, "The twelve refusals": each condition by its own name, and the list of them in 01's order.
 use Prim.Native.Nat.{ℕ, _+_}
 use mathlib.Core.Path.{_≡_}
-use mathlib.Core.Bool.{Bool, true, false, not, _&&_, _||_}
+use mathlib.Core.Bool.{Bool, true, false, not, _&&_}
 use mathlib.Core.List.{List, [], _∷_, _++_}
-use mathlib.Core.Option.{Option, some, none}
-use lib.Dec.{eqb, leb, ltb}
+use mathlib.Core.Option.{Option, none}
+use lib.Dec.{leb, ltb}
 use Rattle.buffers.specs.Choices.{pick, thenSome, isSome}
 use Rattle.buffers.specs.Lists.{all}
 use Rattle.calendar.specs.Calendar.{latest}
 use Rattle.model.specs.Rows.{Row, isMarker}
 use Rattle.model.specs.Settings.{Config, Bucket, hasDefault, spentNumber, fits, sound}
-use Rattle.model.specs.Requests.{
-  Letter,
-  reading,
-  writing,
-  deleting,
-  retaining,
-  holding,
-  bypassing,
-  configuring,
-  Rights,
-  has,
-  Name,
-  Retention,
-  Terms,
-  Setting,
-  DefaultRetention,
-  LifecycleRule,
-  Query,
-  Get,
-  Verb,
-  Put,
-  Copy,
-  Retain,
-  Hold,
-  AddMarker,
-  DeleteVersion,
-  Set,
-  Sweep,
-  Ask,
-  Call,
-  Request,
-  Line,
-  unreadable,
-  reads,
-  roomOf,
-  nameOf,
-  termsOf,
-  retentionOf,
-  bypassOf,
-  inRange,
-}
+use Rattle.model.specs.Requests.{Letter, reading, writing, deleting, retaining, holding, bypassing, configuring, Rights, has, Retention, Terms, Setting, DefaultRetention, LifecycleRule, Get, Verb, Put, Copy, Retain, Hold, AddMarker, DeleteVersion, Set, Sweep, Ask, Call, Request, Line, unreadable, reads, roomOf, nameOf, termsOf, retentionOf, inRange}
 use Rattle.model.specs.Time.{Now, nowOf, defaultEnd}
 use Rattle.model.specs.Locks.{locked, admits}
 use Rattle.model.specs.Effects.{rowOf, added, rowsAfter}

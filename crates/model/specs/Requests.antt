@@ -1,7 +1,7 @@
 -- 01, "Request lines": what a line asks for, once it is read. A field with `-` is `none`.
 use Prim.Native.Nat.{ℕ}
 use mathlib.Core.Bool.{Bool, true, false, _&&_}
-use mathlib.Core.List.{List, [], _∷_}
+use mathlib.Core.List.{List}
 use mathlib.Core.Option.{Option, some, none}
 use lib.Dec.{eqb, leb, ltb}
 use Rattle.text.specs.Keys.{isKey, isPrefix}

@@ -1,6 +1,6 @@
 -- A list of lines: each is handed the bucket that the one before it left.
 use Prim.Native.Nat.{ℕ}
-use mathlib.Core.Bool.{Bool, true, false}
+use mathlib.Core.Bool.{Bool}
 use mathlib.Core.List.{List, [], _∷_, _++_}
 use lib.Dec.{eqb}
 use Rattle.buffers.specs.Choices.{pick}

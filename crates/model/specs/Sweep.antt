@@ -1,10 +1,10 @@
 -- 01, SWEEP: what becomes of each row, judged on the table before the line, and what stands in its place after it.
 use Prim.Native.Nat.{ℕ, _+_}
-use mathlib.Core.Bool.{Bool, true, false, not, _&&_}
+use mathlib.Core.Bool.{Bool, false, not, _&&_}
 use mathlib.Core.List.{List, [], _∷_, _++_}
 use mathlib.Core.Option.{Option, some, none}
 use lib.Dec.{eqb, leb}
-use Rattle.buffers.specs.Choices.{pick, thenSome}
+use Rattle.buffers.specs.Choices.{pick}
 use Rattle.buffers.specs.Lists.{keep, any, same, begins}
 use Rattle.calendar.specs.Periods.{expiresAt}
 use Rattle.model.specs.Rows.{Row, isData}

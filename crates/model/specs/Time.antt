@@ -1,7 +1,5 @@
 -- 01, "Time and dates" and PUT: the now of a line, and the retention that a new row gets.
 use Prim.Native.Nat.{ℕ, max}
-use mathlib.Core.Bool.{Bool, true, false}
-use mathlib.Core.Option.{Option, some, none}
 use Rattle.buffers.specs.Choices.{pick, thenSome, orZero}
 use Rattle.calendar.specs.Periods.{periodEnd}
 use Rattle.model.specs.Settings.{Bucket, Config, hasDefault}

@@ -1,7 +1,7 @@
 -- Settings whose prefixes are what they are written as come back from what they mean.
 use Prim.Native.Nat.{ℕ}
-use mathlib.Core.Path.{_≡_, refl, sym, _∙_, ap, ap₂}
-use mathlib.Core.Bool.{Bool, true}
+use mathlib.Core.Path.{_≡_, refl, sym}
+use mathlib.Core.Bool.{true}
 use mathlib.Core.List.{List, [], _∷_}
 use Rattle.buffers.proofs.Tests.{and-l, and-r}
 use Rattle.buffers.proofs.Lists.{same-path}

@@ -1,28 +1,26 @@
 -- The outcome of a line along its conditions: the first that holds refuses, else what is decided is done.
 use Prim.Native.Nat.{ℕ, _≤_, _<_}
-use mathlib.Core.Path.{_≡_, refl, sym, _∙_, ap}
-use mathlib.Core.Logic.{_⊎_, inl, inr}
+use mathlib.Core.Path.{_≡_, refl, sym}
+use mathlib.Core.Logic.{inl, inr}
 use mathlib.Core.Bool.{Bool, true, false, not, _&&_}
 use mathlib.Core.List.{List, [], _∷_, _++_}
 use mathlib.Core.Option.{Option, some, none}
-use native.Mathlib.Omega.{arith}
-use lib.Dec.{eqb, leb, ltb}
+use lib.Dec.{eqb, leb}
 use lib.ListN.{length}
-use borrow.Author.Tests.{eqb-false, eq-eqb, not-true, lt-ltb, le-ltb}
-use Rattle.buffers.specs.Choices.{pick, thenSome}
+use borrow.Author.Tests.{eq-eqb, not-true, lt-ltb, le-ltb}
+use Rattle.buffers.specs.Choices.{pick}
 use Rattle.buffers.specs.Lists.{all}
 use Rattle.buffers.proofs.Tests.{either, clash, and-l, and-r}
 use Rattle.calendar.specs.Calendar.{latest}
-use Rattle.model.specs.Settings.{Bucket}
-use Rattle.model.specs.Requests.{Verb, Request, reads, inRange}
-use Rattle.model.specs.Time.{Now, nowOf}
-use Rattle.model.specs.Refusals.{Check, firstOf, fieldChecks, tableChecks, lacksRight, halfGiven, pastDate}
+use Rattle.model.specs.Requests.{Verb, inRange}
+use Rattle.model.specs.Time.{nowOf}
+use Rattle.model.specs.Refusals.{Check, firstOf, fieldChecks, tableChecks}
 use Rattle.settings.specs.declared.Settings.{Settings}
 use Rattle.table.specs.Layout.{capacity}
 use Rattle.bucket.specs.Whole.{bucketOf, whole}
-use Rattle.request.specs.Grammar.{Said, readLine, lineOf}
-use Rattle.verdict.specs.Decision.{Effect, Decision, refuses, does, decide, effect, tableDecision, decision}
-use Rattle.outcome.specs.Outcome.{Outcome, refused, asked, refusalOf, outcome}
+use Rattle.request.specs.Grammar.{Said, readLine}
+use Rattle.verdict.specs.Decision.{Effect, refuses, decide, effect, decision}
+use Rattle.outcome.specs.Outcome.{refused, asked, refusalOf, outcome}
 use Rattle.outcome.specs.Steps.{carried, done}
 
 -- every number of the conditions is one of a refusal

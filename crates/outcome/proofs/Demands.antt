@@ -1,15 +1,14 @@
 -- Of every outcome: its number is 0 or a refusal's, a refusal is the first condition that holds, and it leaves everything as it was.
 use Prim.Native.Nat.{ℕ, _≤_}
 use mathlib.Core.Path.{_≡_, refl, sym, _∙_, ap}
-use mathlib.Core.Logic.{_⊎_, inl, inr}
+use mathlib.Core.Logic.{inl, inr}
 use mathlib.Core.Bool.{Bool, true, false}
-use mathlib.Core.List.{List, [], _∷_, _++_}
+use mathlib.Core.List.{List}
 use mathlib.Core.Option.{Option, some, none}
 use native.Mathlib.Omega.{arith}
 use lib.Dec.{eqb, ltb}
 use lib.ListN.{length}
 use borrow.Author.Tests.{eqb-true, eqb-false, ne-eqb}
-use Rattle.buffers.specs.Choices.{pick, thenSome}
 use Rattle.buffers.proofs.Tests.{either}
 use Rattle.model.specs.Requests.{unreadable, reads}
 use Rattle.model.specs.Refusals.{Check, FirstHolds, checks}

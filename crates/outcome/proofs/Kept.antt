@@ -1,15 +1,14 @@
 -- What a line leaves of a whole bucket is whole again.
 use Prim.Native.Nat.{ℕ, _≤_}
-use mathlib.Core.Path.{_≡_, refl, sym, _∙_, ap}
-use mathlib.Core.Logic.{_⊎_, inl, inr}
-use mathlib.Core.Bool.{Bool, true, false, _&&_, false≢true}
+use mathlib.Core.Path.{_≡_, refl, sym, _∙_}
+use mathlib.Core.Logic.{inl, inr}
+use mathlib.Core.Bool.{true, false, false≢true}
 use mathlib.Core.List.{List, [], _∷_}
 use mathlib.Core.Option.{Option, some, none}
 use native.Mathlib.Omega.{arith}
 use lib.Dec.{eqb, ltb}
 use lib.ListN.{length}
 use borrow.Author.Tests.{eqb-true, eqb-false, ltb-false}
-use Rattle.buffers.specs.Choices.{pick}
 use Rattle.buffers.specs.Lists.{all}
 use Rattle.buffers.proofs.Tests.{either, and-i, and-l, and-r}
 use Rattle.text.specs.Keys.{isPrefix}
@@ -17,19 +16,19 @@ use Rattle.blocks.specs.Blocks.{blockOf, keyIn, isBlock}
 use Rattle.blocks.proofs.Blocks.{key-back, block-block}
 use Rattle.model.specs.Rows.{Row}
 use Rattle.model.specs.Settings as model
-use Rattle.model.specs.Settings.{soundRule, soundRules, soundConfig, sound}
-use Rattle.model.specs.Requests.{Request, reads}
+use Rattle.model.specs.Settings.{soundRule, soundRules, soundConfig}
+use Rattle.model.specs.Requests.{reads}
 use Rattle.model.specs.Effects.{after}
 use Rattle.model.specs.Refusals.{refusal}
-use Rattle.model.proofs.Sound.{Whole, whole as sound-whole, sound-after}
+use Rattle.model.proofs.Sound.{whole as sound-whole, sound-after}
 use Rattle.settings.specs.declared.Settings.{Settings}
 use Rattle.settings.specs.Meaning.{rulesMean, settingsMean, prefixesAre}
 use Rattle.table.specs.Layout.{keysOf, capacity}
 use Rattle.bucket.specs.Whole.{bucketOf, whole}
 use Rattle.table.proofs.Held.{read-back, keys-length}
-use Rattle.bucket.proofs.Whole.{WholeParts, whole-parts, sound-parts, whole-of}
+use Rattle.bucket.proofs.Whole.{whole-parts, sound-parts, whole-of}
 use Rattle.request.specs.Grammar.{Said, readLine, lineOf}
-use Rattle.outcome.specs.Outcome.{rulesFrom, settingsFrom, Outcome, refused, accepted, asked, refusalOf, outcome}
+use Rattle.outcome.specs.Outcome.{rulesFrom, settingsFrom, accepted, asked, refusalOf, outcome}
 use Rattle.outcome.proofs.Demands.{refused-unchanged, unreadable-refused, accepted-line}
 
 -- A prefix has at most 63 bytes.

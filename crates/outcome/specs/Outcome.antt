@@ -1,6 +1,5 @@
 -- What a line does to settings, buffers and answer buffer of any contents (demand 2).
 use Prim.Native.Nat.{ℕ}
-use mathlib.Core.Bool.{Bool, true, false}
 use mathlib.Core.List.{List, [], _∷_, _++_}
 use lib.Dec.{eqb}
 use lib.ListN.{length, drop}

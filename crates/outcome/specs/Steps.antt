@@ -3,8 +3,7 @@ use Prim.Native.Nat.{ℕ, _+_}
 use mathlib.Core.List.{List}
 use lib.ListN.{length}
 use Rattle.model.specs.Settings as model
-use Rattle.model.specs.Requests.{Verb, Request}
-use Rattle.model.specs.Time.{nowOf}
+use Rattle.model.specs.Requests.{Verb}
 use Rattle.model.specs.Effects.{configAfter}
 use Rattle.settings.specs.declared.Settings.{Settings}
 use Rattle.settings.specs.Meaning.{settingsMean}

@@ -1,6 +1,5 @@
 -- 01, "Request lines": what a line's bytes say. Fields are counted from 0: clock, rights, verb, then the verb's fields.
 use Prim.Native.Nat.{ℕ}
-use mathlib.Core.Bool.{Bool, true, false}
 use mathlib.Core.List.{List}
 use mathlib.Core.Option.{Option, some, none}
 use lib.Dec.{eqb, ltb}
@@ -12,32 +11,7 @@ use Rattle.text.specs.Numbers.{numberOf}
 use Rattle.text.specs.Fields.{fieldOf, tabsIn}
 use Rattle.dates.specs.Reading.{readDate}
 use Rattle.model.specs.Rows.{largestSize}
-use Rattle.model.specs.Requests.{
-  Rights,
-  Version,
-  Name,
-  name,
-  Retention,
-  Terms,
-  Setting,
-  DefaultRetention,
-  LifecycleRule,
-  Query,
-  Get,
-  Verb,
-  Put,
-  Copy,
-  Retain,
-  Hold,
-  AddMarker,
-  DeleteVersion,
-  Set,
-  Sweep,
-  Ask,
-  Line,
-  unreadable,
-  reads,
-}
+use Rattle.model.specs.Requests.{Rights, Name, name, Retention, Terms, DefaultRetention, LifecycleRule, Get, Verb, Put, Copy, Retain, Hold, AddMarker, DeleteVersion, Set, Sweep, Ask, Line, unreadable, reads}
 use Rattle.fields.specs.Fields.{rightsOf, keyOf, prefixOf, versionOf, modeOf, untilOf, switchOf, holdOf, bypassOf, periodOf}
 
 -- ## Fields that several verbs have

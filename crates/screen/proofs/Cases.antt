@@ -2,25 +2,21 @@
 use Prim.Native.Nat.{ℕ}
 use mathlib.Core.Path.{_≡_, refl, sym, _∙_, ap}
 use mathlib.Core.Bool.{Bool, true, false, not}
-use mathlib.Core.List.{List, []}
-use mathlib.Core.Option.{Option}
-use Rattle.buffers.specs.Choices.{pick, isSome}
+use mathlib.Core.List.{List}
+use Rattle.buffers.specs.Choices.{pick}
 use Rattle.model.specs.Settings.{Config}
 use Rattle.model.specs.Requests as model
 use Rattle.model.specs.Requests.{retentionOf}
 use Rattle.model.specs.Refusals.{oneOf, settingHalf, retentionHalf, halfGiven, needs, granted, lacksRight, pastDate}
-use Rattle.fields.specs.declared.Mode.{Mode}
-use Rattle.fields.specs.declared.Period.{Period}
 use Rattle.fields.specs.declared.Until.{Until}
 use Rattle.fields.specs.declared.Rights.{Rights}
 use Rattle.request.specs.declared.Retention.{Retention}
 use Rattle.request.specs.declared.Action.{Action}
 use Rattle.request.specs.declared.Action.the-variants as action
 use Rattle.request.specs.declared.Setting.{Setting}
-use Rattle.request.specs.declared.Setting.the-variants as setting
 use Rattle.request.specs.declared.Verb.{Verb}
 use Rattle.request.specs.declared.Verb.the-variants.{Act, Set, Sweep}
-use Rattle.fields.specs.Meaning.{modeMeans, untilMeans, periodMeans, rightsMeans}
+use Rattle.fields.specs.Meaning.{untilMeans, rightsMeans}
 use Rattle.request.specs.Meaning.{retentionMeans, actionMeans, settingMeans, verbMeans}
 use Rattle.screen.specs.Screen.{isPast, screened}
 use Rattle.screen.proofs.Rights.{mayAct, last, act-rights}

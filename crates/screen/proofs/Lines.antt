@@ -1,12 +1,10 @@
 -- A line by the length of the answer buffer, by what it reads as, and by its own fields.
 use Prim.Native.Nat.{ℕ, _≤_, _<_, max}
-use mathlib.Core.Path.{_≡_, sym, _∙_, ap}
+use mathlib.Core.Path.{_≡_, sym, _∙_}
 use mathlib.Core.List.{List}
-use mathlib.Core.Option.{some, none}
+use mathlib.Core.Option.{some}
 use native.Mathlib.Omega.{arith}
-use lib.Dec.{ltb}
 use borrow.Author.Tests.{lt-ltb, le-ltb}
-use Rattle.buffers.specs.Choices.{pick, thenSome}
 use Rattle.model.specs.Settings.{Config}
 use Rattle.fields.specs.Meaning.{rightsMeans}
 use Rattle.request.specs.declared.Request.{Request}

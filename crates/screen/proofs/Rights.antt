@@ -1,6 +1,6 @@
 -- Refusal 5: the rights of an action in the code's order of tests are those that the model needs.
 use Prim.Native.Nat.{ℕ}
-use mathlib.Core.Path.{_≡_, refl, sym, _∙_, ap}
+use mathlib.Core.Path.{_≡_, refl, _∙_, ap}
 use mathlib.Core.Bool.{Bool, true, false, not, _&&_}
 use mathlib.Core.List.{List, [], _∷_}
 use Rattle.buffers.specs.Choices.{pick, isSome}

@@ -1,8 +1,6 @@
 -- What the settings stand for in the model, and when they are sound.
-use Prim.Native.Nat.{ℕ}
 use mathlib.Core.Bool.{Bool, _&&_}
 use mathlib.Core.List.{List, [], _∷_}
-use lib.ListN.{replicate}
 use Rattle.buffers.specs.Lists.{all}
 use Rattle.blocks.specs.Blocks.{keyIn, isBlock}
 use Rattle.model.specs.Settings as model

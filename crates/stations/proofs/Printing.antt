@@ -1,5 +1,5 @@
 -- What a line that is printed leaves is its outcome.
-use Prim.Native.Nat.{ℕ, _-_}
+use Prim.Native.Nat.{ℕ}
 use mathlib.Core.Path.{_≡_, ap}
 use mathlib.Core.List.{List}
 use Rattle.settings.specs.declared.Settings.{Settings}

@@ -14,7 +14,7 @@ use Rattle.buffers.proofs.Parts.{part-back}
 use Rattle.blocks.specs.Blocks.{blockOf, keyIn}
 use Rattle.model.specs.Rows.{Row}
 use Rattle.table.specs.declared.Numbers.{Numbers}
-use Rattle.table.specs.Layout.{numbersOfRow, rowsOf, rowAt, capacity, Holds}
+use Rattle.table.specs.Layout.{numbersOfRow, rowsOf, capacity, Holds}
 use Rattle.table.specs.Changes.{insertAt, removeAt}
 use Rattle.table.specs.Places.{rowFrom, numbersIn, keyAt, Insertable, InUse}
 use Rattle.table.specs.Moves.{opened, closed}

@@ -1,9 +1,9 @@
--- The fields of a line: the loops that find them, and what is true of them.
+-- The fields of a line, and the loops that find them.
 use Prim.Native.Nat.{ℕ, zero, suc, _+_, _-_, _≤_, _<_}
 use mathlib.Core.Path.{_≡_, refl, sym, ap, _∙_}
 use mathlib.Core.Logic.{inl, inr}
 use mathlib.Core.Bool.{Bool, true, false}
-use mathlib.Core.List.{List, [], _∷_, _++_, nil≢cons}
+use mathlib.Core.List.{List, [], _∷_}
 use native.Mathlib.Omega.{arith}
 use lib.Dec.{eqb}
 use lib.ListN.{length, getD, take, drop, length-drop}
@@ -11,9 +11,7 @@ use borrow.Author.Tests.{eq-eqb, ne-eqb, eqb-true, eqb-false}
 use Rattle.buffers.specs.Choices.{pick}
 use Rattle.buffers.proofs.Tests.{either}
 use Rattle.text.specs.declared.Place.{Place}
-use Rattle.text.specs.Fields.{onFirst, fields, tabbed, fieldOf, tabAt, tabsIn, startOf, endOf, placeOf, partOf, Found}
-use Rattle.text.specs.Keys.{has}
-use Rattle.text.proofs.Scans.{next}
+use Rattle.text.specs.Fields.{onFirst, fields, fieldOf, tabAt, startOf, endOf, placeOf, partOf, Found}
 
 -- ## The first byte and its field
 
@@ -173,43 +171,3 @@ part-cut s p = let q : p .start + p .len - p .start ≡ p .len = omega arith in 
 
 pub field-found : (s : List ℕ) (i : ℕ) (p : Place) (t : List ℕ) → Found s i p → t ≡ partOf s p → t ≡ fieldOf s i
 field-found s i p t f e = e ∙ ap (λ (x : Place). partOf s x) (f .is) ∙ place-field s i
-
--- ## What is true of fields
-
--- A line is its fields, parted by tabs.
-pub fields-tabbed : (s : List ℕ) → tabbed (fields s) ≡ 9 ∷ s
-fields-tabbed [] = refl
-fields-tabbed (b ∷ s) =
-    elim (either (eqb b 9)) [
-      | inl t ↦ rw t (ap (λ (l : List ℕ). 9 ∷ l) (fields-tabbed s) ∙ rw (eqb-true b 9 t))
-      | inr t ↦ rw t (on (fields s) (fields-tabbed s))
-    ]
-  where
-    on : (fs : List (List ℕ)) → tabbed fs ≡ 9 ∷ s → tabbed (onFirst b fs) ≡ 9 ∷ b ∷ s
-    on [] e = absurd (nil≢cons e)
-    on (f ∷ fs) e = let q : f ++ tabbed fs ≡ s = cc in cc
-
--- A line has one field more than tabs.
-pub fields-count : (s : List ℕ) → length (fields s) ≡ suc (tabsIn s)
-fields-count [] = refl
-fields-count (b ∷ s) = go (eqb b 9) (fields-count s)
-  where
-    on : (fs : List (List ℕ)) → length fs ≡ suc (tabsIn s) → length (onFirst b fs) ≡ suc (tabsIn s)
-    on [] e = absurd (omega arith)
-    on (f ∷ fs) e = e
-
-    go : (t : Bool) → length (fields s) ≡ suc (tabsIn s) → length (pick t ([] ∷ fields s) (onFirst b (fields s))) ≡ suc (pick t 1 0 + tabsIn s)
-    go true e = omega arith
-    go false e = let q = on (fields s) e in omega arith
-
--- A field has no tab in it.
-pub field-no-tab : (s : List ℕ) (i : ℕ) → has (fieldOf s i) 9 ≡ false
-unfolding fieldOf
-field-no-tab [] zero = refl
-field-no-tab [] (suc i) = refl
-field-no-tab (b ∷ s) zero =
-    elim (either (eqb b 9)) [
-      | inl t ↦ rw (field-zero b s, t)
-      | inr t ↦ rw (field-zero b s, t, t) (field-no-tab s 0)
-    ]
-field-no-tab (b ∷ s) (suc i) = rw (field-suc b s i) (field-no-tab s (suc i - tabAt b))

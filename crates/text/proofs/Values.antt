@@ -1,7 +1,7 @@
 -- A definition by `thenSome`, followed where the code has taken a `Value` apart.
 use Prim.Native.Nat.{ℕ}
 use mathlib.Core.Path.{_≡_}
-use mathlib.Core.Option.{Option, some, none}
+use mathlib.Core.Option.{Option}
 use Rattle.buffers.specs.Choices.{thenSome}
 use Rattle.text.specs.declared.Value.{Value}
 use Rattle.text.specs.declared.Value.the-variants.{Is, Bad}

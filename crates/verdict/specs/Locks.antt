@@ -1,11 +1,9 @@
 -- The retention of a new row, as the code answers it.
-use Prim.Native.Nat.{ℕ, _≤_}
-use mathlib.Core.Path.{_≡_}
-use mathlib.Core.Bool.{Bool, true, false}
+use Prim.Native.Nat.{ℕ}
 use mathlib.Core.Option.{Option, some, none}
 use Rattle.buffers.specs.Choices.{pick}
 use Rattle.model.specs.Requests.{Retention}
-use Rattle.model.specs.Settings.{Rule, Config}
+use Rattle.model.specs.Settings.{Config}
 use Rattle.model.specs.Time.{newMode, newUntil}
 use Rattle.model.specs.Refusals.{defaultTooLate}
 use Rattle.verdict.specs.declared.NewLock.{NewLock}

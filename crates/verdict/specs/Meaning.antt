@@ -1,18 +1,16 @@
 -- What a verdict of the code stands for, and what a plan needs to be carried out.
 use Prim.Native.Nat.{ℕ, _+_, _≤_, _<_}
 use mathlib.Core.Path.{_≡_}
-use mathlib.Core.List.{List, [], _∷_}
+use mathlib.Core.List.{List, []}
 use mathlib.Core.Option.{Option, some, none}
 use lib.ListN.{length, take, set}
 use Rattle.buffers.specs.Choices.{thenSome}
-use Rattle.text.specs.declared.Place.{Place}
 use Rattle.text.specs.Fields.{partOf}
 use Rattle.model.specs.Rows.{Row}
 use Rattle.model.specs.Settings.{spentNumber}
 use Rattle.model.specs.Sweep.{marks, removes}
 use Rattle.model.specs.Requests.{Version, numbered, Name}
 use Rattle.model.specs.Effects.{rowOf}
-use Rattle.table.specs.declared.Numbers.{Numbers}
 use Rattle.table.specs.Places.{rowFrom}
 use Rattle.table.specs.Changes.{insertAt, removeAt}
 use Rattle.search.specs.declared.Found.{Found}
@@ -21,12 +19,11 @@ use Rattle.lifecycle.specs.Fates.{fatesIn, total, carriedOut}
 use Rattle.answers.specs.Meaning.{textOf, Printable}
 use Rattle.verdict.specs.declared.Change.{Change}
 use Rattle.verdict.specs.declared.Change.the-variants.{Keep, Insert, InsertSame, Rewrite, Remove, Sweep}
-use Rattle.verdict.specs.declared.Plan.{Plan}
 use Rattle.verdict.specs.declared.Verdict.{Verdict}
 use Rattle.verdict.specs.declared.Verdict.the-variants.{Refused, Accepted}
 use Rattle.verdict.specs.declared.Looked.{Looked}
 use Rattle.verdict.specs.declared.Looked.the-variants.{Absent, Present}
-use Rattle.verdict.specs.Decision.{Effect, Decision, refuses, does}
+use Rattle.verdict.specs.Decision.{Decision, refuses, does}
 
 -- ## Verdicts
 

@@ -1,7 +1,7 @@
 -- The state that a line is judged on: the buffers' rows, and what of the settings plays a part.
 use Prim.Native.Nat.{ℕ, _≤_}
 use mathlib.Core.Path.{_≡_}
-use mathlib.Core.Bool.{Bool, true}
+use mathlib.Core.Bool.{true}
 use mathlib.Core.List.{List}
 use Rattle.buffers.specs.Lists.{all}
 use Rattle.model.specs.Rows.{Row, ordered, soundRow}

@@ -11,7 +11,7 @@ ghost use mathlib.Core.Path.{_≡_};
 ghost use mathlib.Core.List.{List};
 ghost use mathlib.Core.Option.{Option, none};
 ghost use Prim.Native.Nat.{ℕ, _≤_};
-ghost use Rattle.buffers.specs.Choices.{isSome, orZero};
+ghost use Rattle.buffers.specs.Choices.{isSome};
 ghost use Rattle.calendar.specs.Calendar.{latest};
 ghost use Rattle.model.specs.Settings.{Rule};
 ghost use Rattle.model.specs.Requests.{name, isThe};

@@ -1,7 +1,6 @@
 -- `is_locked` meets its contract.
 use mathlib.Core.Path.{refl}
 use Rattle.model.specs.Locks.{locked}
-use borrow.Author.Needs.{needs}
 use Rattle.lifecycle.proofs.is_locked.Statement.{statement}
 use Rattle.lifecycle.proofs.is_locked.Tie as tie
 
