@@ -5,11 +5,11 @@ use mathlib.Core.List.{List, [], _∷_}
 use native.Mathlib.Omega.{arith}
 use lib.ListN.{length, take, length-append, length-take}
 use Rattle.model.specs.Rows.{Row}
-use Rattle.model.specs.Sweep.{Fate, inPlace, marks, removes}
+use Rattle.model.specs.Sweep.{Fate, inPlace, marks, removes, total, carriedOut}
 use Rattle.model.proofs.Room.{length-in-place}
 use Rattle.table.specs.Layout.{rowsOf, capacity, Holds}
 use Rattle.table.proofs.Held.{rows-length}
-use Rattle.lifecycle.specs.Fates.{fatesIn, total, carriedOut}
+use Rattle.lifecycle.specs.Fates.{fatesIn}
 use Rattle.sweep.specs.Passes as passes
 use Rattle.verdict.specs.declared.Change.{Change}
 use Rattle.verdict.specs.declared.Change.the-variants.{Sweep}

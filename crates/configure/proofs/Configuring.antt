@@ -11,6 +11,7 @@ use Rattle.text.specs.declared.Place.{Place}
 use Rattle.buffers.proofs.Tests.{and-l, and-r}
 use Rattle.text.specs.Fields.{partOf}
 use Rattle.text.specs.Keys.{isPrefix}
+use Rattle.text.proofs.Keys.{prefix-short}
 use Rattle.model.specs.Settings as model
 use Rattle.model.specs.Settings.{isDays}
 use Rattle.model.specs.Requests.{Set}
@@ -24,7 +25,6 @@ use Rattle.request.specs.declared.Setting.{Setting}
 use Rattle.request.specs.declared.Setting.the-variants as setting
 use Rattle.fields.specs.Meaning.{modeMeans, periodMeans, Inside}
 use Rattle.request.specs.Meaning.{settingMeans}
-use Rattle.outcome.proofs.Kept.{prefix-short}
 use Rattle.configure.specs.Configured.{Settable, Configured}
 
 pub default-set : (s r : Settings) (line : List ℕ) (x : Setting) (m : Mode) (p : Period) (mode count unit : ℕ) → x ≡ setting.Default m p → Settable line s x

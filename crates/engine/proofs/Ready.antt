@@ -5,7 +5,6 @@ use mathlib.Core.Bool.{true, _&&_}
 use mathlib.Core.List.{List}
 use native.Mathlib.Omega.{arith}
 use lib.Dec.{leb}
-use lib.ListN.{length}
 use borrow.Author.Tests.{leb-true}
 use Rattle.buffers.proofs.Tests.{and-l, and-r}
 use Rattle.calendar.specs.Calendar.{latest}
@@ -20,11 +19,10 @@ use Rattle.bucket.proofs.Whole.{whole-parts}
 use Rattle.request.specs.declared.Verb.{Verb}
 use Rattle.request.specs.Meaning.{verbMeans}
 use Rattle.request.proofs.Ranges.{read-in-range}
-use Rattle.screen.specs.Screen.{Passes}
 use Rattle.verdict.specs.State.{Ready}
 use Rattle.judge.specs.Premises.{Asked}
 use Rattle.perform.specs.Steps.{SoundRules}
-use Rattle.engine.specs.Served.{stateOf}
+use Rattle.engine.specs.Served.{stateOf, Passing}
 
 config-parts : (s : Settings) → soundConfig (settingsMean s .config) ≡ true → (soundDefault (settingsMean s .config .default) ≡ true) × (soundRules (settingsMean s .config .rules) ≡ true)
 unfolding soundConfig
@@ -53,12 +51,13 @@ whole-rules s n b e =
     record { prefixes = p .prefixes; sound = (config-parts s (w .config-sound)) .1 }
 
 -- A line that passes the screen is judged on such a bucket.
-module _ (s : Settings) (n b line a : List ℕ) (w : whole s n b ≡ true) (v : Verb) (now : ℕ) (p : Passes (s .time) line (length a) v now) where
-  pub line-ranges : (leb (p .clock) latest && inRange (verbMeans line v)) ≡ true
-  line-ranges = read-in-range line _ (p .says)
+module _ (s : Settings) (n b line a : List ℕ) (v : Verb) (now : ℕ) (p : Passing s n b line a v now) where
+  pub line-ranges : (leb (p .passes .clock) latest && inRange (verbMeans line v)) ≡ true
+  line-ranges = read-in-range line _ (p .passes .says)
 
   pub line-asked : Asked (stateOf s) n b now (verbMeans line v)
   line-asked =
-      let t = leb-true (s .time) 253402300799999 ((sound-whole (capacity b) (bucketOf s n b) ((whole-parts s n b w) .is-sound)) .time-fits) in
-      let c = leb-true (p .clock) latest (and-l _ _ line-ranges) in
-      record { ready = ready s n b w; instant = omega (arith, p .now-is); since = omega (arith, p .now-is); in-range = and-r (leb (p .clock) latest) _ line-ranges }
+      let q = p .passes in
+      let t = leb-true (s .time) latest ((sound-whole (capacity b) (bucketOf s n b) ((whole-parts s n b (p .is-whole)) .is-sound)) .time-fits) in
+      let c = leb-true (q .clock) latest (and-l _ _ line-ranges) in
+      record { ready = ready s n b (p .is-whole); instant = omega (arith, q .now-is); since = omega (arith, q .now-is); in-range = and-r (leb (q .clock) latest) _ line-ranges }

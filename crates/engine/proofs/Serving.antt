@@ -25,9 +25,10 @@ use Rattle.request.specs.declared.Verb.the-variants as verb
 use Rattle.request.specs.Grammar.{Said, readLine}
 use Rattle.request.specs.Meaning.{actionMeans, settingMeans, verbMeans}
 use Rattle.request.proofs.Ranges.{read-in-range}
+use Rattle.request.proofs.Actions.{action-unset}
 use Rattle.screen.specs.declared.Screened.{Screened}
 use Rattle.screen.specs.declared.Screened.the-variants as screened
-use Rattle.screen.specs.Screen.{screened as fieldRefusal, lineRefusal, Stops, Passes, Screens}
+use Rattle.screen.specs.Screen.{screened as fieldRefusal, lineRefusal, Stops, Screens}
 use Rattle.verdict.specs.declared.State.{State}
 use Rattle.verdict.specs.Decision.{Decision, refuses, does, effect, tableDecision}
 use Rattle.verdict.specs.State.{bucketBy, rowsIn}
@@ -39,11 +40,11 @@ use Rattle.outcome.proofs.Deciding.{decide-stop, decide-go, outcome-1, outcome-
 use Rattle.configure.specs.Configured.{Settable}
 use Rattle.perform.specs.declared.Step.{Step}
 use Rattle.perform.specs.declared.Step.the-variants.{Refused, Accepted}
-use Rattle.perform.specs.Steps.{Left, left, stepOf, Actable, Acted}
+use Rattle.perform.specs.Steps.{Left, left, stepOf, Actable, Acted, SoundRules}
 use Rattle.engine.specs.declared.Served.{Served}
-use Rattle.engine.specs.Served.{served, stateOf, settled, Settles, Sets}
-use Rattle.engine.proofs.Ready.{line-ranges, line-asked}
-use Rattle.engine.proofs.Settling.{refused-is, action-unset, sweep-unset, setting-acted}
+use Rattle.engine.specs.Served.{served, stateOf, Passing, settled, Settles, Sets}
+use Rattle.engine.proofs.Ready.{whole-rules, line-ranges, line-asked}
+use Rattle.engine.proofs.Settling.{refused-is, unset, setting-acted}
 
 -- ## Refusals
 
@@ -94,64 +95,84 @@ settled-done : (s : Settings) (n b a : List ℕ) (now : ℕ) (v : model.Verb) (d
 settled-done s n b a now v (refuses k) = refl
 settled-done s n b a now v (does e) = refl
 
-module _ (s : Settings) (n b line a : List ℕ) (w : whole s n b ≡ true) (o : Screened) (h : Screens (s .time) line (length a) o) (v : Verb) (now : ℕ) (e : o ≡ screened.Passed v now) where
-  passes : Passes (s .time) line (length a) v now
-  passes = rw e at h
-
+module _ (s : Settings) (n b line a : List ℕ) (v : Verb) (now : ℕ) (p : Passing s n b line a v now) where
   prefixes : prefixesAre (s .rules) ≡ true
-  prefixes = (whole-parts s n b w) .prefixes
+  prefixes = (whole-parts s n b (p .is-whole)) .prefixes
 
   asks : Asked (stateOf s) n b now (verbMeans line v)
-  asks = line-asked s n b line a w v now passes
-
-  pub line-room : 256 ≤ length a
-  line-room = passes .room-fits
+  asks = line-asked s n b line a v now p
 
   -- What it comes to is what the table decides.
   decided : (x : Outcome) (y : Left) → x ≡ settled s now (verbMeans line v) y
       → y ≡ stepOf (stateOf s) n b a (tableDecision (capacity b) (bucketOf s n b) (both now) (verbMeans line v)) → x ≡ outcome s n b line a
   decided x y g i =
+      let q = p .passes in
       g ∙ ap (λ (z : Left). settled s now (verbMeans line v) z) i
       ∙ settled-done s n b a now (verbMeans line v) (tableDecision (capacity b) (bucketOf s n b) (both now) (verbMeans line v))
-      ∙ said-passes s n b line a w _ now (passes .room-fits) (passes .says) (passes .now-is) (passes .passes (bucketOf s n b .settings .config))
+      ∙ said-passes s n b line a (p .is-whole) _ now (q .room-fits) (q .says) (q .now-is) (q .passes (bucketOf s n b .settings .config))
 
-  -- It sets something.
+-- An action.
+module _ (s : Settings) (n b line a : List ℕ) (x : Action) (now : ℕ) (p : Passing s n b line a (verb.Act x) now) (st : State) (e : st ≡ stateOf s) where
+  pub line-actable : Actable line st n b a x now
+  line-actable = rw e (record { judgeable = asks s n b line a (verb.Act x) now p; inside = p .passes .inside; room = p .passes .room-fits })
+
+  pub line-acted : (step : Step) (n′ b′ a′ : List ℕ) (r : Served) → Acted st n b a (actionMeans line x) now (left step n′ b′ a′) → Settles s now step r → served r n′ b′ a′ ≡ outcome s n b line a
+  line-acted step n′ b′ a′ r i g =
+      decided s n b line a (verb.Act x) now p (served r n′ b′ a′) (left step n′ b′ a′)
+      (g .is (actionMeans line x) n′ b′ a′ (unset s (actionMeans line x) (action-unset line x) (prefixes s n b line a (verb.Act x) now p)))
+      ((rw e at i) .is (rulesMean (s .rules)))
+
+-- SWEEP.
+module _ (s : Settings) (n b line a : List ℕ) (now : ℕ) (p : Passing s n b line a verb.Sweep now) where
+  pub line-rules : SoundRules (s .rules)
+  line-rules = whole-rules s n b (p .is-whole)
+
+  pub line-room : 256 ≤ length a
+  line-room = p .passes .room-fits
+
+  module _ (st : State) (e : st ≡ stateOf s) where
+    pub line-sweeps : Asked st n b now Sweep
+    line-sweeps = rw e (asks s n b line a verb.Sweep now p)
+
+    pub line-swept : (step : Step) (n′ b′ a′ : List ℕ) (r : Served) → left step n′ b′ a′ ≡ stepOf st n b a (tableDecision (capacity b) (bucketBy st (rulesMean (s .rules)) (rowsIn st n b)) (both now) Sweep)
+        → Settles s now step r → served r n′ b′ a′ ≡ outcome s n b line a
+    line-swept step n′ b′ a′ r i g =
+        decided s n b line a verb.Sweep now p (served r n′ b′ a′) (left step n′ b′ a′) (g .is Sweep n′ b′ a′ (unset s Sweep refl (prefixes s n b line a verb.Sweep now p))) (rw e at i)
+
+pub ruleset actions = (line-actable, line-acted)
+
+pub ruleset sweeps = (line-rules, line-room, line-sweeps, line-swept)
+
+-- A line that the screen passes, by its verb.
+module _ (s : Settings) (n b line a : List ℕ) (w : whole s n b ≡ true) (o : Screened) (h : Screens (s .time) line (length a) o) (v : Verb) (now : ℕ) (e : o ≡ screened.Passed v now) where
+  pub line-passes : (u : Verb) → v ≡ u → Passing s n b line a u now
+  line-passes u f = record { is-whole = w; passes = rw f at (rw e at h) }
+
+  pub line-fits : 256 ≤ length a
+  line-fits = (line-passes v refl) .passes .room-fits
+
+  -- DEFAULT and RULE.
   module _ (x : Setting) (f : v ≡ verb.Set x) where
+    p : Passing s n b line a (verb.Set x) now
+    p = line-passes (verb.Set x) f
+
     pub line-settable : Settable line s x
     unfolding inRange
-    line-settable = record { prefixes = prefixes; in-range = rw f at (and-r (leb (passes .clock) latest) _ (line-ranges s n b line a w v now passes)); inside = rw f at (passes .inside) }
+    line-settable =
+        record {
+          prefixes = prefixes s n b line a (verb.Set x) now p;
+          in-range = and-r (leb (p .passes .clock) latest) _ (line-ranges s n b line a (verb.Set x) now p);
+          inside = p .passes .inside;
+        }
 
     pub line-set : (r : Served) (a′ : List ℕ) → Sets s now (Set (settingMeans line x)) a r a′ → served r n b a′ ≡ outcome s n b line a
     line-set r a′ g =
-        let y = left (Accepted (record { length = r .length; used = s .used; next = s .next })) n b a′ in
-        decided (served r n b a′) y (rw (f, g .number-is, g .settings-are))
-        (rw f ((setting-acted (stateOf s) n b now a a′ (r .length) (settingMeans line x) (rw f at asks) (g .wrote)) .is (rulesMean (s .rules))))
+        decided s n b line a (verb.Set x) now p (served r n b a′) (left (Accepted (record { length = r .length; used = s .used; next = s .next })) n b a′)
+        (rw (g .number-is, g .settings-are))
+        ((setting-acted (stateOf s) n b now a a′ (r .length) (settingMeans line x) (asks s n b line a (verb.Set x) now p) (g .wrote)) .is (rulesMean (s .rules)))
 
-  -- It comes to a step.
-  module _ (st : State) (es : st ≡ stateOf s) where
-    module _ (x : Action) (f : v ≡ verb.Act x) where
-      pub line-actable : Actable line st n b a x now
-      line-actable = rw es (record { judgeable = rw f at asks; inside = rw f at (passes .inside); room = passes .room-fits })
-
-      pub line-acted : (step : Step) (n′ b′ a′ : List ℕ) (r : Served) → Acted st n b a (actionMeans line x) now (left step n′ b′ a′) → Settles s now step r → served r n′ b′ a′ ≡ outcome s n b line a
-      line-acted step n′ b′ a′ r i g =
-          decided (served r n′ b′ a′) (left step n′ b′ a′) (rw f (g .is (actionMeans line x) n′ b′ a′ (action-unset s line x prefixes)))
-          (rw f ((rw es at i) .is (rulesMean (s .rules))))
-
-    module _ (f : v ≡ verb.Sweep) where
-      pub line-sweeps : Asked st n b now Sweep
-      line-sweeps = rw es (rw f at asks)
-
-      pub line-swept : (step : Step) (n′ b′ a′ : List ℕ) (r : Served) → left step n′ b′ a′ ≡ stepOf st n b a (tableDecision (capacity b) (bucketBy st (rulesMean (s .rules)) (rowsIn st n b)) (both now) Sweep)
-          → Settles s now step r → served r n′ b′ a′ ≡ outcome s n b line a
-      line-swept step n′ b′ a′ r i g =
-          decided (served r n′ b′ a′) (left step n′ b′ a′) (rw f (g .is Sweep n′ b′ a′ (sweep-unset s prefixes))) (rw f (rw es at i))
-
-pub whole-at : (s : Settings) (n b : List ℕ) (w : Bool) → w ≡ whole s n b → w ≡ true → whole s n b ≡ true
-whole-at s n b w e f = sym e ∙ f
+pub ruleset lines = (line-stopped, line-passes, line-fits, line-settable, line-set)
 
 -- For callers: the answer stands within its buffer.
 pub answer-fits : (s : Settings) (n b line a n′ b′ a′ : List ℕ) (r : Served) → served r n′ b′ a′ ≡ outcome s n b line a → r .length ≤ length a′
 answer-fits s n b line a n′ b′ a′ r q = subst⁻¹ (λ (o : Outcome). o .length ≤ length (o .answer)) q (outcome-fits s n b line a)
-
-pub ruleset lines = (line-stopped, line-room, line-settable, line-set, line-actable, line-acted, line-sweeps, line-swept)

@@ -3,19 +3,17 @@ use Prim.Native.Nat.{ℕ}
 use mathlib.Core.Path.{_≡_, refl, sym, _∙_, ap}
 use mathlib.Core.Bool.{true}
 use mathlib.Core.List.{List}
+use mathlib.Core.Option.{none}
 use native.Mathlib.Omega.{arith}
 use Rattle.buffers.specs.Writes.{Wrote}
 use Rattle.model.specs.Settings as model
-use Rattle.model.specs.Requests.{Setting, Verb, Set, Sweep}
+use Rattle.model.specs.Requests.{Setting, Verb, Set, settingOf}
 use Rattle.model.specs.Effects.{configAfter}
 use Rattle.settings.specs.declared.Settings.{Settings}
 use Rattle.settings.specs.Meaning.{settingsMean, prefixesAre}
 use Rattle.settings.specs.Changes.{withProgress}
 use Rattle.table.specs.Layout.{rowsOf, capacity}
 use Rattle.table.proofs.Held.{rows-length}
-use Rattle.request.specs.declared.Action.{Action}
-use Rattle.request.specs.declared.Action.the-variants as action
-use Rattle.request.specs.Meaning.{actionMeans}
 use Rattle.answers.specs.declared.Answer.the-variants as answer
 use Rattle.answers.specs.Meaning.{textOf}
 use Rattle.verdict.specs.declared.State.{State}
@@ -57,20 +55,10 @@ module _ (s : Settings) (now : ℕ) (step : Step) where
 
 pub ruleset steps = (settles-refused, settles-accepted)
 
--- An action and SWEEP set nothing.
-pub action-unset : (s : Settings) (line : List ℕ) (x : Action) → prefixesAre (s .rules) ≡ true → Configured s (actionMeans line x) s
+-- A verb that sets nothing leaves the settings.
+pub unset : (s : Settings) (v : Verb) → settingOf v ≡ none → prefixesAre (s .rules) ≡ true → Configured s v s
 unfolding configAfter
-action-unset s line (action.Put k body size t) h = record { config = refl; prefixes = h }
-action-unset s line (action.Copy n k t) h = record { config = refl; prefixes = h }
-action-unset s line (action.Retain n r y) h = record { config = refl; prefixes = h }
-action-unset s line (action.SetHold n on) h = record { config = refl; prefixes = h }
-action-unset s line (action.AddMarker k y) h = record { config = refl; prefixes = h }
-action-unset s line (action.DeleteVersion k n y) h = record { config = refl; prefixes = h }
-action-unset s line (action.Get n) h = record { config = refl; prefixes = h }
-
-pub sweep-unset : (s : Settings) → prefixesAre (s .rules) ≡ true → Configured s Sweep s
-unfolding configAfter
-sweep-unset s h = record { config = refl; prefixes = h }
+unset s v e h = record { config = rw e; prefixes = h }
 
 -- ## DEFAULT and RULE
 

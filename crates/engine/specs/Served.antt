@@ -1,12 +1,17 @@
 -- What a call returned and left, as an outcome; the state that it judges by; and what a step comes to with the settings.
 use Prim.Native.Nat.{ℕ}
 use mathlib.Core.Path.{_≡_}
+use mathlib.Core.Bool.{true}
 use mathlib.Core.List.{List}
+use lib.ListN.{length}
 use Rattle.buffers.specs.Writes.{Wrote}
 use Rattle.model.specs.Requests.{Verb}
 use Rattle.model.specs.Effects.{configAfter}
 use Rattle.settings.specs.declared.Settings.{Settings}
 use Rattle.settings.specs.Meaning.{settingsMean}
+use Rattle.bucket.specs.Whole.{whole}
+use Rattle.request.specs.declared.Verb as request
+use Rattle.screen.specs.Screen.{Passes}
 use Rattle.answers.specs.declared.Answer.the-variants.{Done}
 use Rattle.answers.specs.Meaning.{textOf}
 use Rattle.verdict.specs.declared.State.{State}
@@ -24,6 +29,11 @@ served r numbers keys answer =
 -- what of the settings a line is judged by
 abbrev pub stateOf : Settings → State
 stateOf s = record { time = s .time; used = s .used; next = s .next; mode = s .mode; count = s .count; unit = s .unit }
+
+-- The bucket is whole, and the line passes the screen: it says this verb, and this is its now.
+pub record Passing (s : Settings) (numbers keys line answer : List ℕ) (v : request.Verb) (now : ℕ) : Type 0 where
+  pub is-whole : whole s numbers keys ≡ true
+  pub passes : Passes (s .time) line (length answer) v now
 
 -- what a call returns and leaves after a request came to a step; an accepted line makes now the bucket's time
 abbrev pub settle : Settings → ℕ → Verb → Step → List ℕ → List ℕ → List ℕ → Outcome

@@ -1,6 +1,7 @@
 // The engine: a line is read, screened, set or carried out, and answered. The definitions are in outcome.
 use answers::Answer;
 use perform::Step;
+use request::Action;
 use request::Setting;
 use request::Verb;
 use screen::Screened;
@@ -12,10 +13,11 @@ ghost use Prim.Native.Nat.{_≤_};
 ghost use lib.ListN.{length};
 ghost use Rattle.bucket.specs.Whole.{whole};
 ghost use Rattle.model.specs.Requests.{Set};
+ghost use Rattle.request.specs.declared.Verb.the-variants as verb;
 ghost use Rattle.request.specs.Meaning.{settingMeans};
 ghost use Rattle.outcome.specs.Outcome.{outcome};
 ghost use Rattle.configure.specs.Configured.{Settable};
-ghost use Rattle.engine.specs.Served.{served, stateOf, Settles, Sets};
+ghost use Rattle.engine.specs.Served.{served, stateOf, Passing, Settles, Sets};
 
 // What a call returns: 0 or the refusal, the answer's length, and the settings afterwards.
 pub struct Served {
@@ -87,6 +89,42 @@ fn serve_setting(
     }
 }
 
+// An action is performed on the table.
+fn serve_action(
+    s: Settings,
+    rows: &mut [u64],
+    keys: &mut [u8],
+    line: &[u8],
+    answer: &mut [u8],
+    action: Action,
+    instant: u64,
+) -> Served
+    requires { ⌜ Passing s (now rows) (now keys) (now line) (now answer) (verb.Act action) instant ⌝ }
+    ensures { λ r. ⌜ served r (now (rows .exit)) (now (keys .exit)) (now (answer .exit)) ≡ outcome s (now (rows .entry)) (now (keys .entry)) (now (line .entry)) (now (answer .entry)) ⌝ }
+{
+    let state = state_of(s);
+    let step = perform::act(state, rows, keys, line, answer, action, instant);
+    settle(s, step, instant)
+}
+
+// SWEEP is performed on the table, by the rules.
+fn serve_sweep(
+    s: Settings,
+    rows: &mut [u64],
+    keys: &mut [u8],
+    line: &[u8],
+    answer: &mut [u8],
+    instant: u64,
+) -> Served
+    requires { ⌜ Passing s (now rows) (now keys) (now line) (now answer) verb.Sweep instant ⌝ }
+    ensures { λ r. ⌜ served r (now (rows .exit)) (now (keys .exit)) (now (answer .exit)) ≡ outcome s (now (rows .entry)) (now (keys .entry)) (now (line .entry)) (now (answer .entry)) ⌝ }
+{
+    let state = state_of(s);
+    let rules = s.rules;
+    let step = perform::act_sweep(state, rules, rows, keys, line, answer, instant);
+    settle(s, step, instant)
+}
+
 // Serves a line on a bucket that is whole.
 pub fn serve_whole(
     s: Settings,
@@ -101,18 +139,9 @@ pub fn serve_whole(
     match screen::screen_line(s.time, line, answer.len()) {
         Screened::Refused(n) => refused(n, s),
         Screened::Passed(verb, instant) => match verb {
-            Verb::Act(action) => {
-                let state = state_of(s);
-                let step = perform::act(state, rows, keys, line, answer, action, instant);
-                settle(s, step, instant)
-            }
+            Verb::Act(action) => serve_action(s, rows, keys, line, answer, action, instant),
             Verb::Set(setting) => serve_setting(s, line, answer, setting, instant),
-            Verb::Sweep => {
-                let state = state_of(s);
-                let rules = s.rules;
-                let step = perform::act_sweep(state, rules, rows, keys, line, answer, instant);
-                settle(s, step, instant)
-            }
+            Verb::Sweep => serve_sweep(s, rows, keys, line, answer, instant),
         },
     }
 }

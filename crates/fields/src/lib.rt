@@ -4,10 +4,10 @@ use text::Place;
 use text::Value;
 ghost use mathlib.Core.Path.{_≡_};
 ghost use Prim.Native.Nat.{_<_};
-ghost use Rattle.buffers.specs.Choices.{orZero, thenSome};
+ghost use Rattle.buffers.specs.Choices.{isSome, orZero, thenSome};
 ghost use Rattle.text.specs.Fields.{fieldOf, Split};
 ghost use Rattle.fields.specs.Fields.{lettersOnce, rightsIn, rightsOf, keyOf, prefixOf, versionOf, modeOf, untilOf, switchOf, holdOf, bypassOf, periodOf};
-ghost use Rattle.fields.specs.Meaning.{modeMeans, untilMeans, periodMeans, rightsMeans, rightsFrom, versionFrom, modeFrom, untilFrom, flagFrom, holdFrom, periodFrom, KeyAt};
+ghost use Rattle.fields.specs.Meaning.{modeMeans, untilMeans, holdMeans, periodMeans, rightsMeans, rightsFrom, versionFrom, modeFrom, untilFrom, flagFrom, holdFrom, periodFrom, KeyAt};
 
 // A mode, `-` for missing.
 pub enum Mode {
@@ -278,6 +278,49 @@ pub fn read_period(text: &[u8]) -> PeriodRead
         return PeriodRead::Is(Period::Years(n));
     }
     PeriodRead::Bad
+}
+
+// A mode is given.
+pub fn gives_mode(m: Mode) -> bool
+    ensures { λ r. ⌜ r ≡ isSome (modeMeans m) ⌝ }
+{
+    match m {
+        Mode::Missing => false,
+        Mode::Governance => true,
+        Mode::Compliance => true,
+    }
+}
+
+// A date is given.
+pub fn gives_date(d: Until) -> bool
+    ensures { λ r. ⌜ r ≡ isSome (untilMeans d) ⌝ }
+{
+    match d {
+        Until::Missing => false,
+        Until::Given(_) => true,
+    }
+}
+
+// A hold is given; OFF is one.
+pub fn gives_hold(h: Hold) -> bool
+    ensures { λ r. ⌜ r ≡ isSome (holdMeans h) ⌝ }
+{
+    match h {
+        Hold::Missing => false,
+        Hold::Off => true,
+        Hold::On => true,
+    }
+}
+
+// A period is given.
+pub fn gives_period(p: Period) -> bool
+    ensures { λ r. ⌜ r ≡ isSome (periodMeans p) ⌝ }
+{
+    match p {
+        Period::Missing => false,
+        Period::Days(_) => true,
+        Period::Years(_) => true,
+    }
 }
 
 // The mode as a row has it, 0 where it is missing.

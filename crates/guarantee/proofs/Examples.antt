@@ -14,7 +14,7 @@ use Rattle.calendar.specs.Periods.{periodEnd, expiresAt}
 use Rattle.dates.specs.Examples.{Starred as Dates, starred as dates}
 use Rattle.dates.specs.Printing.{dateText, printDate}
 use Rattle.dates.specs.Reading.{digitOf, twoDigits, fourDigits, dayNumber, dayAt, secondOfDay, secondAt, placeOf, milliseconds, fractionOf, readDate}
-use Rattle.model.proofs.Examples.{Starred as Locks, starred as locks}
+use Rattle.model.proofs.Examples.{Starred as Locks, examples}
 use Rattle.model.specs.Answers.{reply}
 use Rattle.model.specs.Effects.{added, removed, rowsAfter, setConfig, configAfter}
 use Rattle.model.specs.Locks.{locked, admits}
@@ -39,7 +39,7 @@ pub record Starred : Type 0 where
   pub locks : Locks
 
 pub starred : Starred
-starred = record { dates = dates; locks = locks }
+starred = record { dates = dates; locks = examples .starred }
 
 -- What is printed of each call, which is handed what the one before it left.
 abbrev printedRun : Lent → List ℕ → List (List ℕ) → List ℕ

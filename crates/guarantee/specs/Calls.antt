@@ -1,13 +1,13 @@
 -- Calls of the engine on lent buffers: each is handed what the one before it left.
 use Prim.Native.Nat.{ℕ, _*_}
-use mathlib.Core.Bool.{Bool, true, false, _&&_}
+use mathlib.Core.Bool.{Bool, _&&_}
 use mathlib.Core.List.{List, [], _∷_, _++_}
 use lib.Dec.{eqb}
 use lib.ListN.{length, replicate}
-use Rattle.buffers.specs.Choices.{pick, thenSome}
+use Rattle.buffers.specs.Choices.{pick, thenSome, isSome}
 use Rattle.buffers.specs.Lists.{begins}
 use Rattle.model.specs.Settings.{Bucket}
-use Rattle.model.specs.Requests.{numbered, Verb, Put, Copy, Retain, Hold, AddMarker, DeleteVersion, Set, Sweep, Ask}
+use Rattle.model.specs.Requests.{numbered, Verb, termsOf}
 use Rattle.model.specs.Answers.{made}
 use Rattle.model.specs.Run.{Event}
 use Rattle.settings.specs.declared.Settings.{Settings}
@@ -64,17 +64,9 @@ acceptedCalls s (l ∷ ls) = pick (isAccepted s l) (l ∷ acceptedCalls (leaves 
 
 -- ## What accepted calls say
 
--- A PUT or COPY.
+-- A PUT or COPY: it has lock fields.
 abbrev pub makesVersion : Verb → Bool
-makesVersion (Put k body size t) = true
-makesVersion (Copy n k t) = true
-makesVersion (Retain n r y) = false
-makesVersion (Hold n on) = false
-makesVersion (AddMarker k y) = false
-makesVersion (DeleteVersion k v y) = false
-makesVersion (Set s) = false
-makesVersion Sweep = false
-makesVersion (Ask q) = false
+makesVersion w = isSome (termsOf w)
 
 -- The line is a PUT or COPY, and the answer buffer begins with `ok`, a tab, this number and a line feed.
 abbrev pub answersNumber : Verb → List ℕ → ℕ → Bool

@@ -17,6 +17,7 @@ use Rattle.buffers.proofs.Lists.{same-path}
 use Rattle.text.specs.declared.Place.{Place}
 use Rattle.text.specs.Fields.{partOf}
 use Rattle.text.specs.Keys.{isKey}
+use Rattle.text.proofs.Keys.{key-short}
 use Rattle.model.specs.Rows.{Row, largestSize, bodies}
 use Rattle.model.specs.Settings.{Rule, Config, fits}
 use Rattle.model.specs.Requests.{Name, Retention, Terms, Verb, Put, Copy, AddMarker, isRetention, isName, inRange}
@@ -55,7 +56,7 @@ use Rattle.verdict.specs.Locks.{Pair, newLock, lockMeans}
 use Rattle.verdict.specs.Meaning.{Judged, keyHere, changeMeans, changeTakes, Feasible, Judges, Looks}
 use Rattle.verdict.proofs.Looking.{ready-searchable}
 use Rattle.judge.specs.Premises.{both, Asked, JudgesBy, JudgesOn}
-use Rattle.judge.proofs.Deciding.{Open, refuse-10, refuse-11, refuse-12, accept, looked, data-sound, key-short}
+use Rattle.judge.proofs.Deciding.{Open, refuse-10, refuse-11, refuse-12, accept, looked, data-sound}
 use Rattle.judge.proofs.Leaves.{count-most}
 use Rattle.judge.proofs.Naming.{not-there, is-marker}
 

@@ -1,17 +1,13 @@
 -- The six conditions on the table decide: the first that holds refuses, and where none does the plan is carried out.
 use Prim.Native.Nat.{ℕ, _+_, _≤_, _<_}
 use mathlib.Core.Path.{_≡_, sym, subst, _∙_}
-use mathlib.Core.Logic.{inl, inr}
 use mathlib.Core.Bool.{true, false}
 use mathlib.Core.List.{List}
 use mathlib.Core.Option.{some, none}
 use native.Mathlib.Omega.{arith}
-use lib.Dec.{eqb, ltb}
 use lib.ListN.{length}
-use borrow.Author.Tests.{lt-ltb, le-ltb, le-leb, lt-leb, eq-eqb, ne-eqb, ltb-false}
-use Rattle.buffers.proofs.Tests.{either, clash}
+use borrow.Author.Tests.{lt-ltb, le-ltb, le-leb, lt-leb, eq-eqb, ne-eqb}
 use Rattle.buffers.proofs.Lists.{all-first}
-use Rattle.text.specs.Keys.{isKey, isPrefix}
 use Rattle.model.specs.Rows.{Row, soundRow, soundData}
 use Rattle.model.specs.Settings.{Rule, Bucket, spentNumber, fits}
 use Rattle.model.specs.Requests.{Name, Verb, nameOf}
@@ -139,17 +135,3 @@ pub data-sound : (s : State) (numbers keys : List ℕ) (m : Name) (i : ℕ) (n :
 data-sound s numbers keys m i n ready h k =
     let x = rowFrom n (keyHere (rowsIn s numbers keys) i) in
     (row-data (s .next) (s .time) x (all-first (soundRow (s .next) (s .time)) _ (rowsIn s numbers keys) x (ready .rows-sound) (h .0)) (ne-eqb (n .kind) 2 k)) .1
-
--- ## Keys
-
--- A key has at most 63 bytes.
-pub key-short : (k : List ℕ) → isKey k ≡ true → length k ≤ 63
-unfolding isKey isPrefix
-key-short k e =
-    elim (either (eqb (length k) 0)) [
-      | inl h ↦ absurd (clash (isKey k) e (rw h))
-      | inr h ↦ elim (either (ltb 63 (length k))) [
-        | inl g ↦ absurd (clash (isKey k) e (simp (h, g)))
-        | inr g ↦ ltb-false 63 (length k) g
-      ]
-    ]

@@ -17,7 +17,7 @@ use Rattle.blocks.proofs.Blocks.{block-block}
 use Rattle.model.specs.Rows.{Row, soundRow}
 use Rattle.model.specs.Settings as model
 use Rattle.model.specs.Requests.{Setting, Verb, Set, Sweep}
-use Rattle.model.specs.Sweep.{marks, removes, swept, counted}
+use Rattle.model.specs.Sweep.{marks, removes, swept, counted, fates}
 use Rattle.model.specs.Effects.{added, removed, rowsAfter}
 use Rattle.model.specs.Refusals.{missing, namesMarker, barred, tooLate}
 use Rattle.model.specs.Answers.{reply}
@@ -30,9 +30,8 @@ use Rattle.table.proofs.Held.{rows-length, held-numbers, held-keys, held-block,
 use Rattle.search.proofs.Positions.{rows-row, all-row}
 use Rattle.lifecycle.specs.declared.Counts.{Counts}
 use Rattle.lifecycle.specs.Days.{fewDays}
-use Rattle.lifecycle.specs.Fates.{fatesIn, fates}
+use Rattle.lifecycle.specs.Fates.{fatesIn}
 use Rattle.lifecycle.specs.Judging.{Judgeable, JudgedRows}
-use Rattle.lifecycle.proofs.Fates.{carried-out, total-counted}
 use Rattle.answers.specs.declared.Answer.the-variants.{Done, Swept}
 use Rattle.verdict.specs.declared.State.{State}
 use Rattle.verdict.specs.declared.Verdict.the-variants.{Refused, Accepted}
@@ -129,9 +128,9 @@ module _ (s : State) (numbers keys line : List ℕ) (now : ℕ) (us : List model
         (rw (judged .added .is) at left)
         (record { change = change.Sweep (n .removed) (n .added); answer = Swept (n .removed) (n .added) })
         (omega arith)
-        (rw f (carried-out us now now (s .next) none (rowsIn s numbers keys)))
+        (rw f)
         a
         (rw (a, r))
-        ((rw (f, total-counted) r, rw (f, total-counted) a, omega arith, omega arith, left, omega (arith, judged .long, fit .long)), tt)
+        ((rw f r, rw f a, omega arith, omega arith, left, omega (arith, judged .long, fit .long)), tt)
 
 pub ruleset sweep-ways = (sweep-asks, sweep-spent, sweep-full, sweep-done)

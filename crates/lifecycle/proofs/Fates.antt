@@ -1,34 +1,20 @@
--- The fates carried out are the model's sweep, and what they count is what it counts.
+-- Fates as numbers, and how many they count.
 use Prim.Native.Nat.{ℕ, _+_, _-_, _≤_, _<_}
 use mathlib.Core.Path.{_≡_, refl, sym, ap, _∙_}
 use mathlib.Core.Logic.{inl, inr}
 use mathlib.Core.List.{List, [], _∷_, _++_}
-use mathlib.Core.Option.{Option, some}
 use native.Mathlib.Omega.{arith}
 use lib.Dec.{eqb}
 use borrow.Author.Tests.{ne-eqb}
 use Rattle.buffers.proofs.Tests.{either}
-use Rattle.model.specs.Rows.{Row}
-use Rattle.model.specs.Settings.{Rule}
-use Rattle.model.specs.Sweep.{Fate, stays, fate, inPlace, marks, removes, swept, counted}
-use Rattle.lifecycle.specs.Fates.{fateOf, fatesIn, fates, total, carriedOut}
+use Rattle.model.specs.Sweep.{Fate, stays, marks, removes, total}
+use Rattle.lifecycle.specs.Fates.{fateOf, fatesIn}
 use native.Mathlib.Numerals.{add-one}
 use lib.ListN.{length, getD, take, drop}
 use lib.Seq.{take-suc, take-add}
 use Rattle.buffers.specs.Ranges.{Within}
 use Rattle.buffers.specs.Words.{number}
 use Rattle.lifecycle.specs.Judging.{Counted, Passed}
-
-pub carried-out : (rules : List Rule) (judge stamp n : ℕ) (y : Option Row) (xs : List Row)
-    → carriedOut stamp n (fates rules judge y xs) xs ≡ swept rules (record { judge = judge; stamp = stamp }) n y xs
-carried-out rules judge stamp n y [] = refl
-carried-out rules judge stamp n y (x ∷ xs) =
-    ap (λ (l : List Row). inPlace (fate rules judge y x) stamp n x ++ l)
-    (carried-out rules judge stamp (n + marks (fate rules judge y x)) (some x) xs)
-
-pub total-counted : (of : Fate → ℕ) (rules : List Rule) (judge : ℕ) (y : Option Row) (xs : List Row) → total of (fates rules judge y xs) ≡ counted of rules judge y xs
-total-counted of rules judge y [] = refl
-total-counted of rules judge y (x ∷ xs) = ap (λ (n : ℕ). of (fate rules judge y x) + n) (total-counted of rules judge (some x) xs)
 
 -- ## The number of a fate
 

@@ -14,7 +14,7 @@ use Rattle.buffers.proofs.Lists.{same-path}
 use Rattle.blocks.specs.Blocks.{keyIn, isBlock}
 use Rattle.model.specs.Rows.{Row}
 use Rattle.model.specs.Settings as model
-use Rattle.model.specs.Sweep.{fate, marks, removes}
+use Rattle.model.specs.Sweep.{fate, fates}
 use Rattle.table.specs.Layout.{rowAt, rowsOf}
 use Rattle.table.specs.Places.{keyAt}
 use Rattle.table.proofs.Held.{rows-length, row-at}
@@ -26,10 +26,10 @@ use Rattle.lifecycle.proofs.Parts.{block-short, part-first}
 use Rattle.lifecycle.proofs.Choosing.{chosen-now}
 use Rattle.lifecycle.specs.declared.Counts.{Counts}
 use Rattle.lifecycle.specs.Days.{fewDays}
-use Rattle.lifecycle.specs.Fates.{fateOf, fatesIn, fates}
+use Rattle.lifecycle.specs.Fates.{fateOf, fatesIn}
 use Rattle.lifecycle.specs.Judging.{currentBy, noncurrentBy, rowBefore, sameKey, Known, Keys, Readable, Dated, Left, JudgedRow, JudgedAll, Counted, JudgedRows}
 use Rattle.lifecycle.proofs.Days.{current-most, noncurrent-most}
-use Rattle.lifecycle.proofs.Fates.{total-counted, fates-append}
+use Rattle.lifecycle.proofs.Fates.{fates-append}
 use Rattle.lifecycle.proofs.RowFates.{current-is, noncurrent-is}
 
 -- ## The key of the row before
@@ -212,8 +212,8 @@ judged-laid p d us t xs u entry exit r l h c =
     record {
       fates-are = e;
       long = h .long;
-      removed = record { is = c .gone .is ∙ rw e (total-counted removes us t none xs); most = c .gone .most };
-      added = record { is = c .come .is ∙ rw e (total-counted marks us t none xs); most = c .come .most };
+      removed = record { is = rw e at (c .gone .is); most = c .gone .most };
+      added = record { is = rw e at (c .come .is); most = c .come .most };
     }
 
 pub ruleset laid-cases = (laid-few, left-first, judged-laid)

@@ -14,7 +14,7 @@ use Rattle.blocks.specs.Blocks.{isBlock}
 use Rattle.model.specs.Rows.{Row, isData}
 use Rattle.model.specs.Settings as model
 use Rattle.model.specs.Locks.{locked}
-use Rattle.model.specs.Sweep.{Fate, stays, goes, gains, fate, marks, removes, counted}
+use Rattle.model.specs.Sweep.{Fate, stays, goes, gains, fate, marks, removes, counted, fates, total}
 use Rattle.settings.specs.declared.Rule.{Rule}
 use Rattle.settings.specs.Meaning.{rulesMean, prefixesAre}
 use Rattle.table.specs.Layout.{rowAt}
@@ -25,7 +25,7 @@ use Rattle.lifecycle.specs.Least.{limitsOf}
 use Rattle.lifecycle.specs.Flat.{ChosenBy}
 use Rattle.lifecycle.specs.declared.Counts.{Counts}
 use Rattle.lifecycle.specs.Days.{over, fewDays}
-use Rattle.lifecycle.specs.Fates.{fateOf, fatesIn, fates, total}
+use Rattle.lifecycle.specs.Fates.{fateOf, fatesIn}
 
 -- ## A row's fate by its key's days
 

@@ -5,6 +5,7 @@ use mathlib.Core.Bool.{Bool, true, false}
 use mathlib.Core.List.{List, [], _∷_}
 use mathlib.Core.Option.{Option, some, none}
 use lib.Dec.{lit<}
+use lib.ListN.{take}
 use Rattle.buffers.specs.Texts.{bytes}
 use Rattle.text.specs.Keys.{isKeyByte, isKey, isPrefix}
 use Rattle.calendar.specs.Periods.{periodEnd, expiresAt}
@@ -49,18 +50,6 @@ lines =
     ∷ line 1709337600000 (Ask (Get (name key none)))
     ∷ []
 
-pub whole-run : replies 1024 fresh lines ≡
-    ok done
-    ∷ ok (made (numbered 1))
-    ∷ no 9
-    ∷ ok (marked (numbered 2))
-    ∷ ok (shown (record { number = 1; kind = 1; created = 1709251200000; body = 41; size = 300; mode = 2; until = 1709337600000; hold = 0; key = key }))
-    ∷ ok (removed (numbered 1))
-    ∷ no 8
-    ∷ []
-unfolding isKeyByte isKey isPrefix periodEnd expiresAt soundRow soundRules soundConfig fits sound inRange defaultEnd locked admits added rowsRemoved rowsAfter setConfig configAfter halfGiven needs granted lacksRight pastDate missing namesMarker barred tooLate spends full refusal reply
-whole-run = refl
-
 -- ## The starred examples
 
 -- D, and a PUT under COMPLIANCE until D.
@@ -93,10 +82,6 @@ pub record Starred : Type 0 where
   -- otherwise 6.
   pub no-later-now : second putUntil (line (D - 1) (retainUntil (D - 1))) ≡ ok (made (numbered 1)) ∷ no 6 ∷ []
 
-pub starred : Starred
-unfolding isKeyByte isKey isPrefix periodEnd expiresAt soundRow soundRules soundConfig fits sound inRange defaultEnd locked admits added rowsRemoved rowsAfter setConfig configAfter halfGiven needs granted lacksRight pastDate missing namesMarker barred tooLate spends full refusal reply
-starred = record { before-date = refl; at-date = refl; same-date = refl; earlier-date = refl; no-later-now = refl }
-
 -- ## SWEEP
 
 -- SWEEP at creation plus current days marks; 1 ms before, it doesn't.
@@ -108,28 +93,11 @@ sweptAt t =
     ∷ line t Sweep
     ∷ [])
 
-pub sweep-marks : sweptAt 86400001 ≡ ok done ∷ ok (made (numbered 1)) ∷ ok (sweptCounts 0 1) ∷ []
-unfolding isKeyByte isKey isPrefix periodEnd expiresAt soundRow soundRules soundConfig fits sound inRange defaultEnd locked admits added rowsRemoved rowsAfter setConfig configAfter halfGiven needs granted lacksRight pastDate missing namesMarker barred tooLate spends full refusal reply
-sweep-marks = refl
-
-pub sweep-waits : sweptAt 86400000 ≡ ok done ∷ ok (made (numbered 1)) ∷ ok (sweptCounts 0 0) ∷ []
-unfolding isKeyByte isKey isPrefix periodEnd expiresAt soundRow soundRules soundConfig fits sound inRange defaultEnd locked admits added rowsRemoved rowsAfter setConfig configAfter halfGiven needs granted lacksRight pastDate missing namesMarker barred tooLate spends full refusal reply
-sweep-waits = refl
-
 -- ## The lock clause at lists of lines
 
 -- After a DELETE that is refused and a marker, version 1, under COMPLIANCE by the default, is still held.
 abbrev four : List Line
-four =
-    line 1709251200000 (Set (DefaultRetention (some compliance) (some (record { count = 1; unit = days }))))
-    ∷ line 1709251200000 (Put key 41 300 plain)
-    ∷ line 1709294400000 (DeleteVersion key (numbered 1) true)
-    ∷ line 1709294400000 (AddMarker key false)
-    ∷ []
-
-pub compliance-held : Held (run 1024 fresh four) (accepted 1024 fresh four) 1 (InCompliance 1709337600000)
-unfolding isKeyByte isKey isPrefix periodEnd expiresAt soundRow soundRules soundConfig fits sound inRange defaultEnd locked admits added rowsRemoved rowsAfter setConfig configAfter halfGiven needs granted lacksRight pastDate missing namesMarker barred tooLate spends full refusal reply
-compliance-held = (lock-clause 1024 four) .inCompliance (_ ∷ []) (_ ∷ []) _ 1 1709337600000 refl refl (lit< tt)
+four = take 4 lines
 
 -- A GOVERNANCE lock outlasts a RETAIN of its own that lengthens it, and a refused one that shortens it.
 abbrev governed : List Line
@@ -139,10 +107,6 @@ governed =
     ∷ line 3 (Retain (name key none) (record { mode = some governance; date = some D }) false)
     ∷ []
 
-pub governance-held : Held (run 1 fresh governed) (accepted 1 fresh governed) 1 (InGovernance D)
-unfolding isKeyByte isKey isPrefix periodEnd expiresAt soundRow soundRules soundConfig fits sound inRange defaultEnd locked admits added rowsRemoved rowsAfter setConfig configAfter halfGiven needs granted lacksRight pastDate missing namesMarker barred tooLate spends full refusal reply
-governance-held = (lock-clause 1 governed) .inGovernance [] (_ ∷ []) _ 1 D refl refl refl (lit< tt)
-
 -- A hold outlasts a DELETE with bypass.
 abbrev on-hold : List Line
 on-hold =
@@ -150,6 +114,34 @@ on-hold =
     ∷ line 2 (DeleteVersion key (numbered 1) true)
     ∷ []
 
-pub hold-held : Held (run 1 fresh on-hold) (accepted 1 fresh on-hold) 1 OnHold
+-- ## The examples, computed
+
+pub record Examples : Type 0 where
+  pub whole-run : replies 1024 fresh lines ≡
+      ok done
+      ∷ ok (made (numbered 1))
+      ∷ no 9
+      ∷ ok (marked (numbered 2))
+      ∷ ok (shown (record { number = 1; kind = 1; created = 1709251200000; body = 41; size = 300; mode = 2; until = 1709337600000; hold = 0; key = key }))
+      ∷ ok (removed (numbered 1))
+      ∷ no 8
+      ∷ []
+  pub starred : Starred
+  pub sweep-marks : sweptAt 86400001 ≡ ok done ∷ ok (made (numbered 1)) ∷ ok (sweptCounts 0 1) ∷ []
+  pub sweep-waits : sweptAt 86400000 ≡ ok done ∷ ok (made (numbered 1)) ∷ ok (sweptCounts 0 0) ∷ []
+  pub compliance-held : Held (run 1024 fresh four) (accepted 1024 fresh four) 1 (InCompliance 1709337600000)
+  pub governance-held : Held (run 1 fresh governed) (accepted 1 fresh governed) 1 (InGovernance D)
+  pub hold-held : Held (run 1 fresh on-hold) (accepted 1 fresh on-hold) 1 OnHold
+
+pub examples : Examples
 unfolding isKeyByte isKey isPrefix periodEnd expiresAt soundRow soundRules soundConfig fits sound inRange defaultEnd locked admits added rowsRemoved rowsAfter setConfig configAfter halfGiven needs granted lacksRight pastDate missing namesMarker barred tooLate spends full refusal reply
-hold-held = (lock-clause 1 on-hold) .onHold [] [] _ 1 refl refl refl
+examples =
+    record {
+      whole-run = refl;
+      starred = record { before-date = refl; at-date = refl; same-date = refl; earlier-date = refl; no-later-now = refl };
+      sweep-marks = refl;
+      sweep-waits = refl;
+      compliance-held = (lock-clause 1024 four) .inCompliance (_ ∷ []) (_ ∷ []) _ 1 1709337600000 refl refl (lit< tt);
+      governance-held = (lock-clause 1 governed) .inGovernance [] (_ ∷ []) _ 1 D refl refl refl (lit< tt);
+      hold-held = (lock-clause 1 on-hold) .onHold [] [] _ 1 refl refl refl;
+    }

@@ -102,7 +102,7 @@ module _ (c : ℕ) (b : Bucket) (g : Call) (now : Now) (s : Whole c b) (l : b .s
           let d : soundData x ≡ true = (row-data _ _ x (all-first (soundRow (b .settings .next) (b .settings .time)) _ (b .rows) x (s .rows-sound) q) (rw q at (p .no-marker))) .1 in
           let r : (isName n && (isKey k && isRetention (t .retention))) ≡ true = p .in-range in
           all-insert _ _ (b .rows)
-          (new-sound (b .settings) (now .stamp) k _ _ t (s .from-one) (search (and-l, and-r)) (rw q (search (and-l, and-r))) (rw q (search (and-l, and-r))) (config-default (b .settings .config) (s .config-sound)) (search (and-l, and-r)) (p .not-half) (p .future) (p .in-time))
+          (new-sound (b .settings) (now .stamp) k _ _ t (s .from-one) (search (and-l, and-r)) (rw q (search and-l)) (rw q (search (and-l, and-r))) (config-default (b .settings .config) (s .config-sound)) (search (and-l, and-r)) (p .not-half) (p .future) (p .in-time))
           (later-rows c b _ (now .stamp) s (omega arith) l)
 
   rows-retain : (n : Name) (r : Retention) (y : Bool) → Accepted c b g now (Retain n r y) → (m : ℕ) → b .settings .next ≤ m → all (soundRow m (now .stamp)) (rowsAfter b now (Retain n r y)) ≡ true

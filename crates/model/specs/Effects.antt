@@ -9,7 +9,7 @@ use Rattle.buffers.specs.Choices.{pick, thenSome, orZero}
 use Rattle.buffers.specs.Lists.{keep, first, change, same}
 use Rattle.model.specs.Rows.{Row, before}
 use Rattle.model.specs.Settings.{Default, Config, Settings, Bucket, absentRule, isSet}
-use Rattle.model.specs.Requests.{Version, numbered, Name, Terms, Period, Setting, DefaultRetention, LifecycleRule, name, Verb, Put, Copy, Retain, Hold, AddMarker, DeleteVersion, Set, Sweep, Ask, Request}
+use Rattle.model.specs.Requests.{Version, numbered, Name, Terms, Period, Setting, DefaultRetention, LifecycleRule, name, Verb, Put, Copy, Retain, Hold, AddMarker, DeleteVersion, Set, Sweep, Ask, Request, settingOf}
 use Rattle.model.specs.Time.{Now, nowOf, newMode, newUntil}
 use Rattle.model.specs.Sweep.{marker, marks, removes, swept, counted}
 
@@ -118,15 +118,7 @@ setConfig (DefaultRetention m p) s = record { default = defaultFrom m p; rules =
 setConfig (LifecycleRule i u) s = record { default = s .default; rules = set (s .rules) i (pick (isSet u) u absentRule) }
 
 unfoldable pub configAfter : Config → Verb → Config
-configAfter s (Put k body size t) = s
-configAfter s (Copy n k t) = s
-configAfter s (Retain n r y) = s
-configAfter s (Hold n on) = s
-configAfter s (AddMarker k y) = s
-configAfter s (DeleteVersion k v y) = s
-configAfter s (Set a) = setConfig a s
-configAfter s Sweep = s
-configAfter s (Ask q) = s
+configAfter s v = thenSome (settingOf v) s (λ a. setConfig a s)
 
 -- Now becomes the bucket's time.
 abbrev pub after : Bucket → Request → Bucket

@@ -10,7 +10,7 @@ use Rattle.buffers.specs.Lists.{all}
 use Rattle.calendar.specs.Calendar.{latest}
 use Rattle.model.specs.Rows.{Row, isMarker}
 use Rattle.model.specs.Settings.{Config, Bucket, hasDefault, spentNumber, fits, sound}
-use Rattle.model.specs.Requests.{Letter, reading, writing, deleting, retaining, holding, bypassing, configuring, Rights, has, Retention, Terms, Setting, DefaultRetention, LifecycleRule, Get, Verb, Put, Copy, Retain, Hold, AddMarker, DeleteVersion, Set, Sweep, Ask, Call, Request, Line, unreadable, reads, roomOf, nameOf, termsOf, retentionOf, inRange}
+use Rattle.model.specs.Requests.{Letter, reading, writing, deleting, retaining, holding, bypassing, configuring, Rights, has, Retention, Terms, Setting, DefaultRetention, LifecycleRule, Get, Verb, Put, Copy, Retain, Hold, AddMarker, DeleteVersion, Set, Sweep, Ask, Call, Request, Line, unreadable, reads, roomOf, nameOf, termsOf, retentionOf, settingOf, inRange}
 use Rattle.model.specs.Time.{Now, nowOf, defaultEnd}
 use Rattle.model.specs.Locks.{locked, admits}
 use Rattle.model.specs.Effects.{rowOf, added, rowsAfter}
@@ -34,15 +34,7 @@ abbrev pub retentionHalf : Retention → Bool
 retentionHalf r = oneOf (isSome (r .mode)) (isSome (r .date))
 
 unfoldable pub halfGiven : Verb → Bool
-halfGiven (Put k body size t) = retentionHalf (t .retention)
-halfGiven (Copy n k t) = retentionHalf (t .retention)
-halfGiven (Retain n r y) = retentionHalf r
-halfGiven (Hold n on) = false
-halfGiven (AddMarker k y) = false
-halfGiven (DeleteVersion k v y) = false
-halfGiven (Set s) = settingHalf s
-halfGiven Sweep = false
-halfGiven (Ask q) = false
+halfGiven v = thenSome (settingOf v) (retentionHalf (retentionOf v)) settingHalf
 
 -- ## 5. A needed right is missing
 
@@ -82,8 +74,11 @@ lacksRight s who v = not (all (λ n. granted s who (n .letter) (n .key)) (needs 
 
 -- ## 6. A given date is not after now
 
+abbrev pub isPast : ℕ → Option ℕ → Bool
+isPast now d = thenSome d false (λ t. leb t now)
+
 unfoldable pub pastDate : ℕ → Verb → Bool
-pastDate now v = thenSome (retentionOf v .date) false (λ d. leb d now)
+pastDate now v = isPast now (retentionOf v .date)
 
 -- ## 7. The named key or version has no row
 

@@ -145,6 +145,18 @@ retentionOf (Set s) = noRetention
 retentionOf Sweep = noRetention
 retentionOf (Ask a) = noRetention
 
+-- What DEFAULT or RULE sets.
+abbrev pub settingOf : Verb → Option Setting
+settingOf (Put k body size t) = none
+settingOf (Copy n k t) = none
+settingOf (Retain n r y) = none
+settingOf (Hold n on) = none
+settingOf (AddMarker k y) = none
+settingOf (DeleteVersion k v y) = none
+settingOf (Set s) = some s
+settingOf Sweep = none
+settingOf (Ask a) = none
+
 -- Bypass, no where the verb has no such field.
 abbrev pub bypassOf : Verb → Bool
 bypassOf (Put k body size t) = false

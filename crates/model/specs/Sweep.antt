@@ -59,13 +59,25 @@ removes stays = 0
 removes goes = 1
 removes gains = 0
 
--- The table after a sweep, from the row after y on; markers are numbered in key order.
-abbrev pub swept : List Rule → Now → ℕ → Option Row → List Row → List Row
-swept rules now n y [] = []
-swept rules now n y (x ∷ xs) =
-    inPlace (fate rules (now .judge) y x) (now .stamp) n x ++ swept rules now (n + marks (fate rules (now .judge) y x)) (some x) xs
+-- The fates of the rows after y, judged on the table before the line.
+abbrev pub fates : List Rule → ℕ → Option Row → List Row → List Fate
+fates rules now y [] = []
+fates rules now y (x ∷ xs) = fate rules now y x ∷ fates rules now (some x) xs
 
--- How many a sweep counts of its fates: markers added, rows removed.
+-- How many the fates count: markers added, rows removed.
+abbrev pub total : (Fate → ℕ) → List Fate → ℕ
+total of [] = 0
+total of (f ∷ fs) = of f + total of fs
+
+-- The rows that the fates leave; markers are numbered from n on, in key order.
+abbrev pub carriedOut : ℕ → ℕ → List Fate → List Row → List Row
+carriedOut created n [] xs = []
+carriedOut created n (f ∷ fs) [] = []
+carriedOut created n (f ∷ fs) (x ∷ xs) = inPlace f created n x ++ carriedOut created (n + marks f) fs xs
+
+-- A sweep of the rows after y: how many it counts, and the rows that it leaves.
 abbrev pub counted : (Fate → ℕ) → List Rule → ℕ → Option Row → List Row → ℕ
-counted of rules now y [] = 0
-counted of rules now y (x ∷ xs) = of (fate rules now y x) + counted of rules now (some x) xs
+counted of rules now y xs = total of (fates rules now y xs)
+
+abbrev pub swept : List Rule → Now → ℕ → Option Row → List Row → List Row
+swept rules now n y xs = carriedOut (now .stamp) n (fates rules (now .judge) y xs) xs

@@ -2,16 +2,16 @@
 use Prim.Native.Nat.{ℕ, _≤_}
 use mathlib.Core.Path.{_≡_, refl, sym, _∙_}
 use mathlib.Core.Logic.{inl, inr}
-use mathlib.Core.Bool.{true, false, false≢true}
+use mathlib.Core.Bool.{true}
 use mathlib.Core.List.{List, [], _∷_}
 use mathlib.Core.Option.{Option, some, none}
 use native.Mathlib.Omega.{arith}
-use lib.Dec.{eqb, ltb}
+use lib.Dec.{eqb}
 use lib.ListN.{length}
-use borrow.Author.Tests.{eqb-true, eqb-false, ltb-false}
+use borrow.Author.Tests.{eqb-true, eqb-false}
 use Rattle.buffers.specs.Lists.{all}
 use Rattle.buffers.proofs.Tests.{either, and-i, and-l, and-r}
-use Rattle.text.specs.Keys.{isPrefix}
+use Rattle.text.proofs.Keys.{prefix-short}
 use Rattle.blocks.specs.Blocks.{blockOf, keyIn, isBlock}
 use Rattle.blocks.proofs.Blocks.{key-back, block-block}
 use Rattle.model.specs.Rows.{Row}
@@ -30,15 +30,6 @@ use Rattle.bucket.proofs.Whole.{whole-parts, sound-parts, whole-of}
 use Rattle.request.specs.Grammar.{Said, readLine, lineOf}
 use Rattle.outcome.specs.Outcome.{rulesFrom, settingsFrom, accepted, asked, refusalOf, outcome}
 use Rattle.outcome.proofs.Demands.{refused-unchanged, unreadable-refused, accepted-line}
-
--- A prefix has at most 63 bytes.
-pub prefix-short : (k : List ℕ) → isPrefix k ≡ true → length k ≤ 63
-unfolding isPrefix
-prefix-short k e =
-    elim (either (ltb 63 (length k))) [
-      | inl t ↦ absurd (false≢true (rw t at e))
-      | inr t ↦ ltb-false 63 (length k) t
-    ]
 
 rule-means : (k : List ℕ) (c n : ℕ) (us vs : List model.Rule) → length k ≤ 63 → vs ≡ us → record { prefix = keyIn (blockOf k); currentDays = c; noncurrentDays = n } ∷ vs ≡ record { prefix = k; currentDays = c; noncurrentDays = n } ∷ us
 rule-means k c n us vs l e = rw (key-back k l, e)

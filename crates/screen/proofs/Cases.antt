@@ -7,18 +7,18 @@ use Rattle.buffers.specs.Choices.{pick}
 use Rattle.model.specs.Settings.{Config}
 use Rattle.model.specs.Requests as model
 use Rattle.model.specs.Requests.{retentionOf}
-use Rattle.model.specs.Refusals.{oneOf, settingHalf, retentionHalf, halfGiven, needs, granted, lacksRight, pastDate}
+use Rattle.model.specs.Refusals.{oneOf, settingHalf, retentionHalf, halfGiven, needs, granted, lacksRight, isPast, pastDate}
 use Rattle.fields.specs.declared.Until.{Until}
 use Rattle.fields.specs.declared.Rights.{Rights}
 use Rattle.request.specs.declared.Retention.{Retention}
 use Rattle.request.specs.declared.Action.{Action}
-use Rattle.request.specs.declared.Action.the-variants as action
 use Rattle.request.specs.declared.Setting.{Setting}
 use Rattle.request.specs.declared.Verb.{Verb}
 use Rattle.request.specs.declared.Verb.the-variants.{Act, Set, Sweep}
 use Rattle.fields.specs.Meaning.{untilMeans, rightsMeans}
 use Rattle.request.specs.Meaning.{retentionMeans, actionMeans, settingMeans, verbMeans}
-use Rattle.screen.specs.Screen.{isPast, screened}
+use Rattle.request.proofs.Actions.{action-unset}
+use Rattle.screen.specs.Screen.{screened}
 use Rattle.screen.proofs.Rights.{mayAct, last, act-rights}
 
 -- ## Fields
@@ -45,13 +45,7 @@ pub ruleset parts = (one-of-at, half-setting, retention-at, date-at, needed-at)
 
 half-retention : (line : List ℕ) (a : Action) → halfGiven (actionMeans line a) ≡ retentionHalf (retentionOf (actionMeans line a))
 unfolding halfGiven
-half-retention line (action.Put k body size t) = refl
-half-retention line (action.Copy n k t) = refl
-half-retention line (action.Retain n r y) = refl
-half-retention line (action.SetHold n on) = refl
-half-retention line (action.AddMarker k y) = refl
-half-retention line (action.DeleteVersion k n y) = refl
-half-retention line (action.Get n) = refl
+half-retention line a = rw (action-unset line a)
 
 module _ (line : List ℕ) (v : Verb) (r : Bool) where
   pub half-act : (a : Action) (t : Retention) → v ≡ Act a → ((l : List ℕ) → retentionMeans t ≡ retentionOf (actionMeans l a)) → r ≡ retentionHalf (retentionMeans t) → r ≡ halfGiven (verbMeans line v)
@@ -90,7 +84,7 @@ pub ruleset allowances = (act-allowed, set-allowed, sweep-allowed)
 
 module _ (line : List ℕ) (now : ℕ) (v : Verb) (r : Bool) where
   pub past-act : (a : Action) (t : Retention) → v ≡ Act a → ((l : List ℕ) → retentionMeans t ≡ retentionOf (actionMeans l a)) → r ≡ isPast now (untilMeans (t .until)) → r ≡ pastDate now (verbMeans line v)
-  unfolding pastDate isPast
+  unfolding pastDate
   past-act a t e f h = rw e (h ∙ ap (λ (x : model.Retention). isPast now (x .date)) (f line))
 
   pub past-set : (s : Setting) → v ≡ Set s → r ≡ false → r ≡ pastDate now (verbMeans line v)

@@ -3,8 +3,8 @@ use Prim.Native.Nat.{ℕ, _≤_, max}
 use mathlib.Core.Path.{_≡_}
 use mathlib.Core.Bool.{Bool, true, false}
 use mathlib.Core.List.{List, [], _∷_}
-use mathlib.Core.Option.{Option, some}
-use lib.Dec.{leb, ltb}
+use mathlib.Core.Option.{some}
+use lib.Dec.{ltb}
 use Rattle.buffers.specs.Choices.{pick, thenSome, isSome}
 use Rattle.model.specs.Settings.{Config}
 use Rattle.model.specs.Requests as model
@@ -25,10 +25,6 @@ mayPut a t =
     (pick (pick (isSome (modeMeans (t .retention .mode))) (a .t) true)
     (pick (isSome (holdMeans (t .hold))) (a .h) true)
     false) false
-
--- a date that is given, and not after now
-unfoldable pub isPast : ℕ → Option ℕ → Bool
-isPast now d = thenSome d false (λ t. leb t now)
 
 -- the first of 4, 5 and 6 that holds, or 0
 unfoldable pub screened : Config → model.Rights → ℕ → model.Verb → ℕ

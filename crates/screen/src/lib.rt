@@ -1,7 +1,5 @@
 // Refusals 2 to 6: those that are decided without the table. The definitions are in the model and in specs/.
-use fields::Hold;
 use fields::Mode;
-use fields::Period;
 use fields::Rights;
 use fields::Until;
 use request::Action;
@@ -15,57 +13,18 @@ ghost use mathlib.Core.Path.{_≡_};
 ghost use mathlib.Core.List.{List};
 ghost use Prim.Native.Nat.{ℕ, max};
 ghost use mathlib.Core.Bool.{true, not};
-ghost use Rattle.buffers.specs.Choices.{pick, isSome};
+ghost use Rattle.buffers.specs.Choices.{pick};
 ghost use Rattle.model.specs.Settings.{Config};
 ghost use Rattle.model.specs.Requests.{noRetention, retentionOf};
-ghost use Rattle.model.specs.Refusals.{oneOf, settingHalf, retentionHalf, halfGiven, lacksRight, pastDate};
-ghost use Rattle.fields.specs.Meaning.{modeMeans, untilMeans, holdMeans, periodMeans, rightsMeans};
+ghost use Rattle.model.specs.Refusals.{oneOf, settingHalf, retentionHalf, halfGiven, lacksRight, isPast, pastDate};
+ghost use Rattle.fields.specs.Meaning.{untilMeans, rightsMeans};
 ghost use Rattle.request.specs.Meaning.{retentionMeans, actionMeans, settingMeans, verbMeans};
-ghost use Rattle.screen.specs.Screen.{mayPut, isPast, screened, Screens};
+ghost use Rattle.screen.specs.Screen.{mayPut, screened, Screens};
 
 // What a line comes to before the table is looked at: its refusal, or its verb and its now.
 pub enum Screened {
     Refused(u64),
     Passed(Verb, u64),
-}
-
-fn gives_mode(m: Mode) -> bool
-    ensures { λ r. ⌜ r ≡ isSome (modeMeans m) ⌝ }
-{
-    match m {
-        Mode::Missing => false,
-        Mode::Governance => true,
-        Mode::Compliance => true,
-    }
-}
-
-fn gives_date(d: Until) -> bool
-    ensures { λ r. ⌜ r ≡ isSome (untilMeans d) ⌝ }
-{
-    match d {
-        Until::Missing => false,
-        Until::Given(_) => true,
-    }
-}
-
-fn gives_hold(h: Hold) -> bool
-    ensures { λ r. ⌜ r ≡ isSome (holdMeans h) ⌝ }
-{
-    match h {
-        Hold::Missing => false,
-        Hold::Off => true,
-        Hold::On => true,
-    }
-}
-
-fn gives_period(p: Period) -> bool
-    ensures { λ r. ⌜ r ≡ isSome (periodMeans p) ⌝ }
-{
-    match p {
-        Period::Missing => false,
-        Period::Days(_) => true,
-        Period::Years(_) => true,
-    }
 }
 
 // Exactly one of two fields is given.
@@ -83,14 +42,14 @@ fn is_half(r: Retention) -> bool
 {
     let m = r.mode;
     let d = r.until;
-    one_of(gives_mode(m), gives_date(d))
+    one_of(fields::gives_mode(m), fields::gives_date(d))
 }
 
 fn is_half_setting(s: Setting) -> bool
     ensures { λ r. ⌜ ((line : List ℕ) → r ≡ settingHalf (settingMeans line s)) ⌝ }
 {
     match s {
-        Setting::Default(m, p) => one_of(gives_mode(m), gives_period(p)),
+        Setting::Default(m, p) => one_of(fields::gives_mode(m), fields::gives_period(p)),
         Setting::Rule(_, _, _, _) => false,
     }
 }
@@ -150,8 +109,8 @@ fn may_put(a: Rights, t: Terms) -> bool
     let m = lock.mode;
     let h = t.hold;
     if a.w {
-        if holds_if(gives_mode(m), a.t) {
-            return holds_if(gives_hold(h), a.h);
+        if holds_if(fields::gives_mode(m), a.t) {
+            return holds_if(fields::gives_hold(h), a.h);
         }
         return false;
     }

@@ -8,10 +8,10 @@ use native.Mathlib.Nat.{add-zero}
 use lib.ListN.{length, getD, take, drop, set, replicate, length-append, length-set, take-append-drop, length-drop}
 use lib.Seq.{take-suc, take-at, drop-at, length-take-le, take-set-le, set-split, append-snoc, drop-append-add, take-append-le, take-take}
 use Rattle.model.specs.Rows.{Row}
-use Rattle.model.specs.Sweep.{Fate, stays, goes, gains, inPlace, marker, marks}
+use Rattle.model.specs.Sweep.{Fate, stays, goes, gains, inPlace, marker, marks, total, carriedOut}
 use Rattle.table.specs.Layout.{Holds, numbersOfRow, rowsOf, keysFit, capacity}
 use Rattle.table.proofs.Held.{rows-length}
-use Rattle.lifecycle.specs.Fates.{fateOf, fatesIn, total, carriedOut}
+use Rattle.lifecycle.specs.Fates.{fateOf, fatesIn}
 use Rattle.sweep.specs.Passes.{kept, unlessGone, Place, Put, Thinned}
 use Rattle.sweep.proofs.Flat.{free, padded, padded-length, Lay, lay-numbers, lay-keys, lay-put, lay-set, lay-row, lay-block, holds-lay, lay-holds}
 use Rattle.sweep.proofs.Passes.{fates-append, fates-length, total-append, marks-few, kept-append, kept-marks, carried-append, carried-length, carried-fit}

@@ -10,9 +10,9 @@ use lib.ListN.{length, length-append}
 use Rattle.buffers.proofs.Tests.{and-l, and-r}
 use Rattle.buffers.proofs.Lists.{all-append}
 use Rattle.model.specs.Rows.{Row}
-use Rattle.model.specs.Sweep.{Fate, stays, goes, gains, inPlace, marker, marks, removes}
+use Rattle.model.specs.Sweep.{Fate, stays, goes, gains, inPlace, marker, marks, removes, total, carriedOut}
 use Rattle.table.specs.Layout.{keysFit}
-use Rattle.lifecycle.specs.Fates.{fateOf, fatesIn, total, carriedOut}
+use Rattle.lifecycle.specs.Fates.{fateOf, fatesIn}
 use Rattle.sweep.specs.Passes.{kept, unlessGone}
 
 -- ## One list after another

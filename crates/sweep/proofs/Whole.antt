@@ -5,10 +5,9 @@ use mathlib.Core.List.{List}
 use native.Mathlib.Omega.{arith}
 use lib.ListN.{length, take}
 use lib.Seq.{length-take-le}
-use Rattle.model.specs.Sweep.{removes}
+use Rattle.model.specs.Sweep.{removes, total, carriedOut}
 use Rattle.table.specs.Layout.{Holds, rowsOf, capacity}
 use Rattle.table.proofs.Held.{rows-length, held-capacity, held-rows, held-again}
-use Rattle.lifecycle.specs.Fates.{total, carriedOut}
 use Rattle.sweep.specs.Passes.{kept, fatesOf, Judged, Thinned, Left}
 use Rattle.sweep.proofs.Passes.{fates-length, kept-length, kept-all, two-passes}
 

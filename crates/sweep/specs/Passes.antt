@@ -5,9 +5,9 @@ use mathlib.Core.List.{List, [], _∷_, _++_}
 use lib.ListN.{length, take}
 use Rattle.buffers.specs.Writes.{placed}
 use Rattle.model.specs.Rows.{Row}
-use Rattle.model.specs.Sweep.{Fate, stays, goes, gains, marks, removes}
+use Rattle.model.specs.Sweep.{Fate, stays, goes, gains, marks, removes, total}
 use Rattle.table.specs.Layout.{Holds, rowsOf, capacity}
-use Rattle.lifecycle.specs.Fates.{fatesIn, total}
+use Rattle.lifecycle.specs.Fates.{fatesIn}
 
 -- a thing in a list of its own, unless it goes
 abbrev pub unlessGone : {A : Type 0} → Fate → A → List A

@@ -4,9 +4,8 @@ ghost use mathlib.Core.List.{[], _++_};
 ghost use Prim.Native.Nat.{_+_, _-_, _*_, _≤_};
 ghost use lib.ListN.{length, take, drop, replicate};
 ghost use Rattle.buffers.specs.Writes.{Wrote};
-ghost use Rattle.model.specs.Sweep.{marker, removes};
+ghost use Rattle.model.specs.Sweep.{marker, removes, total, carriedOut};
 ghost use Rattle.table.specs.Layout.{Holds, numbersOfRow, rowsOf, capacity};
-ghost use Rattle.lifecycle.specs.Fates.{total, carriedOut};
 ghost use Rattle.sweep.specs.Passes.{kept, fatesOf, Judged, Thinned, Left, Place, Put};
 
 // Copies all of `src` into `out` from `at` on, and returns the place after it.

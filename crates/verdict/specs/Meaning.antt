@@ -8,14 +8,14 @@ use Rattle.buffers.specs.Choices.{thenSome}
 use Rattle.text.specs.Fields.{partOf}
 use Rattle.model.specs.Rows.{Row}
 use Rattle.model.specs.Settings.{spentNumber}
-use Rattle.model.specs.Sweep.{marks, removes}
+use Rattle.model.specs.Sweep.{marks, removes, total, carriedOut}
 use Rattle.model.specs.Requests.{Version, numbered, Name}
 use Rattle.model.specs.Effects.{rowOf}
 use Rattle.table.specs.Places.{rowFrom}
 use Rattle.table.specs.Changes.{insertAt, removeAt}
 use Rattle.search.specs.declared.Found.{Found}
 use Rattle.search.specs.Places as places
-use Rattle.lifecycle.specs.Fates.{fatesIn, total, carriedOut}
+use Rattle.lifecycle.specs.Fates.{fatesIn}
 use Rattle.answers.specs.Meaning.{textOf, Printable}
 use Rattle.verdict.specs.declared.Change.{Change}
 use Rattle.verdict.specs.declared.Change.the-variants.{Keep, Insert, InsertSame, Rewrite, Remove, Sweep}

@@ -11,7 +11,6 @@ ghost use mathlib.Core.Path.{_≡_};
 ghost use mathlib.Core.List.{List};
 ghost use mathlib.Core.Option.{Option, none};
 ghost use Prim.Native.Nat.{ℕ, _≤_};
-ghost use Rattle.buffers.specs.Choices.{isSome};
 ghost use Rattle.calendar.specs.Calendar.{latest};
 ghost use Rattle.model.specs.Settings.{Rule};
 ghost use Rattle.model.specs.Requests.{name, isThe};
@@ -135,17 +134,6 @@ fn gives_compliance(m: Mode) -> bool
     }
 }
 
-// A mode is given.
-fn gives_mode(m: Mode) -> bool
-    ensures { λ x. ⌜ x ≡ isSome (modeMeans m) ⌝ }
-{
-    match m {
-        Mode::Missing => false,
-        Mode::Governance => true,
-        Mode::Compliance => true,
-    }
-}
-
 // A date is given, and it is no earlier than `than`.
 fn is_no_earlier(d: Until, than: u64) -> bool
     ensures { λ x. ⌜ x ≡ noEarlier than (untilMeans d) ⌝ }
@@ -171,5 +159,5 @@ pub fn is_admitted(n: Numbers, now: u64, bypass: bool, r: Retention) -> bool
     if bypass {
         return true;
     }
-    gives_mode(mode) & is_no_earlier(until, n.until)
+    fields::gives_mode(mode) & is_no_earlier(until, n.until)
 }

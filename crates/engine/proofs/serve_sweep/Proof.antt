@@ -1,0 +1,17 @@
+-- `serve_sweep` meets its contract: each way through it is one of the cited laws.
+use Rattle.engine.proofs.Serving.{sweeps}
+use borrow.Author.Needs.{needs}
+use Rattle.engine.proofs.serve_sweep.Statement.{statement}
+use Rattle.engine.proofs.serve_sweep.Tie as tie
+
+pub serve-sweep-spec : {M : Type 1} → statement M
+serve-sweep-spec =
+    tie.close
+    (tie.spec
+    (λ c κs. search needs)
+    (λ c κs. search (needs, sweeps))
+    (λ c κs. search needs)
+    (λ c. search needs)
+    (λ c. search needs)
+    (λ c. search needs)
+    (λ c. search (needs, sweeps)))

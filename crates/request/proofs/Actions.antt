@@ -1,0 +1,18 @@
+-- An action sets nothing.
+use Prim.Native.Nat.{ℕ}
+use mathlib.Core.Path.{_≡_, refl}
+use mathlib.Core.List.{List}
+use mathlib.Core.Option.{none}
+use Rattle.model.specs.Requests.{settingOf}
+use Rattle.request.specs.declared.Action.{Action}
+use Rattle.request.specs.declared.Action.the-variants.{Put, Copy, Retain, SetHold, AddMarker, DeleteVersion, Get}
+use Rattle.request.specs.Meaning.{actionMeans}
+
+pub action-unset : (line : List ℕ) (a : Action) → settingOf (actionMeans line a) ≡ none
+action-unset line (Put k body size t) = refl
+action-unset line (Copy n k t) = refl
+action-unset line (Retain n r y) = refl
+action-unset line (SetHold n on) = refl
+action-unset line (AddMarker k y) = refl
+action-unset line (DeleteVersion k n y) = refl
+action-unset line (Get n) = refl
