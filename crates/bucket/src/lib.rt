@@ -21,7 +21,7 @@ fn retention_is_sound(mode: u64, until: u64) -> bool
     if mode == 0 {
         return until == 0;
     }
-    ((mode == 1) | (mode == 2)) & ((1 <= until) & (until <= 253402300799999))
+    ((mode == 1) | (mode == 2)) & ((1 <= until) & (until <= calendar::LATEST))
 }
 
 // Whether the last five of a row's eight numbers are those of data.

@@ -8,8 +8,8 @@ use lib.Dec.{eqb}
 use lib.ListN.{length}
 use Rattle.buffers.specs.Choices.{pick, thenSome}
 use Rattle.settings.specs.declared.Settings.{Settings}
-use Rattle.request.specs.Grammar.{Said, readLine}
-use Rattle.outcome.specs.Outcome.{Outcome, refused, accepted, asked, refusalOf, outcome}
+use Rattle.request.specs.Grammar.{Said, readLine, asked}
+use Rattle.outcome.specs.Outcome.{Outcome, refused, accepted, refusalOf, outcome}
 use Rattle.bucketrun.specs.Course.{holds}
 
 module _ (s : Settings) (n b line : List ℕ) where

@@ -12,6 +12,12 @@ pub struct Civil {
     pub day: u64,
 }
 
+// The last instant.
+pub const LATEST: u64 = 253402300799999;
+
+// The milliseconds of a day.
+const DAY: u64 = 86400000;
+
 // The days before each month in a common year.
 const MONTHS: [u64; 12] = [0, 31, 59, 90, 120, 151, 181, 212, 243, 273, 304, 334];
 
@@ -167,9 +173,9 @@ pub fn period_end(from: u64, count: u64, unit: u64) -> u64
     ensures { λ r. ⌜ r ≡ periodEnd from count unit ⌝ }
 {
     if unit == 2 {
-        return from + count * 365 * 86400000;
+        return from + count * 365 * DAY;
     }
-    from + count * 86400000
+    from + count * DAY
 }
 
 // The instant at which what is due some days after `since` expires.
@@ -177,5 +183,5 @@ pub fn expiry(since: u64, days: u64) -> u64
     requires { ⌜ (since ≤ latest) × (days ≤ 36500) ⌝ }
     ensures { λ r. ⌜ r ≡ expiresAt since days ⌝ }
 {
-    since + days * 86400000
+    since + days * DAY
 }

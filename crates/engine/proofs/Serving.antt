@@ -22,7 +22,7 @@ use Rattle.request.specs.declared.Action.{Action}
 use Rattle.request.specs.declared.Setting.{Setting}
 use Rattle.request.specs.declared.Verb.{Verb}
 use Rattle.request.specs.declared.Verb.the-variants as verb
-use Rattle.request.specs.Grammar.{Said, readLine}
+use Rattle.request.specs.Grammar.{Said, readLine, asked}
 use Rattle.request.specs.Meaning.{actionMeans, settingMeans, verbMeans}
 use Rattle.request.proofs.Ranges.{read-in-range}
 use Rattle.request.proofs.Actions.{action-unset}
@@ -33,7 +33,7 @@ use Rattle.verdict.specs.declared.State.{State}
 use Rattle.verdict.specs.Decision.{Decision, refuses, does, effect, tableDecision}
 use Rattle.verdict.specs.State.{bucketBy, rowsIn}
 use Rattle.judge.specs.Premises.{both, Asked}
-use Rattle.outcome.specs.Outcome.{Outcome, refused, asked, outcome}
+use Rattle.outcome.specs.Outcome.{Outcome, refused, outcome}
 use Rattle.outcome.specs.Steps.{done}
 use Rattle.outcome.proofs.Room.{outcome-fits}
 use Rattle.outcome.proofs.Deciding.{decide-stop, decide-go, outcome-1, outcome-2, outcome-3, outcome-said}

@@ -16,8 +16,8 @@ use Rattle.model.specs.LockClause.{Kept}
 use Rattle.settings.specs.Bytes.{settingsOf}
 use Rattle.settings.proofs.RoundTrip.{settings-length}
 use Rattle.table.specs.Layout.{capacity}
-use Rattle.request.specs.Grammar.{Said, readLine}
-use Rattle.outcome.specs.Outcome.{Outcome, asked, outcome}
+use Rattle.request.specs.Grammar.{Said, readLine, asked}
+use Rattle.outcome.specs.Outcome.{Outcome, outcome}
 use Rattle.hub.specs.Bytes.{numbersFrom, ByteOutcome, outcomeBytes, FreshOutcome, freshSettings}
 use Rattle.hub.proofs.Hub.{reads-as, hub-hands-on, hub-refused}
 use Rattle.hub.proofs.Fits.{whole-fits}

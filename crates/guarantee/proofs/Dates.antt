@@ -24,7 +24,7 @@ use Rattle.bucket.proofs.Whole.{whole-parts, sound-parts}
 use Rattle.table.specs.Layout.{capacity}
 use Rattle.judge.proofs.Naming.{date-most}
 use Rattle.answers.proofs.ReadBack.{until-back}
-use Rattle.outcome.specs.Outcome.{asked}
+use Rattle.request.specs.Grammar.{asked}
 use Rattle.outcome.proofs.Demands.{accepted-of-whole}
 use Rattle.guarantee.specs.Calls.{Lent, Call, held}
 use Rattle.guarantee.specs.Promise.{DateReadsBack}

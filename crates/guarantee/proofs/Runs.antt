@@ -18,8 +18,8 @@ use Rattle.model.specs.Run as model
 use Rattle.model.specs.Run.{Event}
 use Rattle.table.specs.Layout.{capacity}
 use Rattle.bucket.specs.Whole.{whole}
-use Rattle.request.specs.Grammar.{lineOf}
-use Rattle.outcome.specs.Outcome.{asked, refusalOf}
+use Rattle.request.specs.Grammar.{lineOf, asked}
+use Rattle.outcome.specs.Outcome.{refusalOf}
 use Rattle.outcome.proofs.Kept.{model-refusal, accepted-bucket, accepted-capacity, outcome-whole}
 use Rattle.guarantee.specs.Calls.{Lent, Call, held, served, leaves, isAccepted, left, event, accepted, answersNumber}
 use Rattle.guarantee.specs.Promise.{Accepted}

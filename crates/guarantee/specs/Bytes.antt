@@ -8,8 +8,7 @@ use Rattle.buffers.specs.Choices.{pick, thenSome}
 use Rattle.model.specs.Run.{Event}
 use Rattle.model.specs.LockClause.{Kept}
 use Rattle.settings.specs.Bytes.{settingsOf}
-use Rattle.request.specs.Grammar.{readLine}
-use Rattle.outcome.specs.Outcome.{asked}
+use Rattle.request.specs.Grammar.{readLine, asked}
 use Rattle.hub.specs.Bytes.{numbersFrom, ByteOutcome, hubServed, hubFresh}
 use Rattle.guarantee.specs.Calls.{Lent, Call, held, answersNumber}
 

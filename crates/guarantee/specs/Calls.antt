@@ -12,9 +12,9 @@ use Rattle.model.specs.Answers.{made}
 use Rattle.model.specs.Run.{Event}
 use Rattle.settings.specs.declared.Settings.{Settings}
 use Rattle.bucket.specs.Whole.{bucketOf}
-use Rattle.request.specs.Grammar.{readLine}
+use Rattle.request.specs.Grammar.{readLine, asked}
 use Rattle.answers.specs.Text.{answerText}
-use Rattle.outcome.specs.Outcome.{Outcome, asked, outcome}
+use Rattle.outcome.specs.Outcome.{Outcome, outcome}
 use Rattle.hub.specs.Bytes.{freshSettings}
 
 -- The bucket as it is lent: its settings, the numbers of its rows, and their key bytes.

@@ -15,9 +15,9 @@ use Rattle.model.specs.Refusals.{Check, FirstHolds, checks}
 use Rattle.model.specs.LockClause.{Kept}
 use Rattle.table.specs.Layout.{capacity}
 use Rattle.bucket.specs.Whole.{whole}
-use Rattle.request.specs.Grammar.{Said, readLine, lineOf}
+use Rattle.request.specs.Grammar.{Said, readLine, lineOf, asked}
 use Rattle.answers.specs.Text.{untilText}
-use Rattle.outcome.specs.Outcome.{refused, accepted, asked}
+use Rattle.outcome.specs.Outcome.{refused, accepted}
 use Rattle.guarantee.specs.Calls.{Lent, Call, held, freshLent, served, left}
 use Rattle.guarantee.specs.Calls.{accepted as acceptedLines}
 

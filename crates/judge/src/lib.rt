@@ -132,7 +132,7 @@ fn judge_new(
     let NewLock::Lock(mode, until) = verdict::new_lock(s, retention, instant) else {
         return Verdict::Refused(10);
     };
-    if s.next == 4294967296 {
+    if s.next == settings::SPENT {
         return Verdict::Refused(11);
     }
     if keys.len() / 64 <= s.used {
@@ -272,7 +272,7 @@ fn judge_marker(
     requires { ⌜ Inside (now line) key ⌝ }
     ensures { λ r. ⌜ JudgesOn s (now (rows .entry)) (now (keys .entry)) (now (line .entry)) instant (model.AddMarker (partOf (now (line .entry)) key) «bypass») r ⌝ }
 {
-    if s.next == 4294967296 {
+    if s.next == settings::SPENT {
         return Verdict::Refused(11);
     }
     let used = s.used;
@@ -348,7 +348,7 @@ pub fn judge_sweep(
     let n = lifecycle::judge(rows, keys, used, rules, instant, fates);
     let gone = n.removed;
     let new = n.added;
-    if 4294967296 < s.next + new as u64 {
+    if settings::SPENT < s.next + new as u64 {
         return Verdict::Refused(11);
     }
     if keys.len() / 64 < used - gone + new {

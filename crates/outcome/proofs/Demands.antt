@@ -16,8 +16,8 @@ use Rattle.model.proofs.Facts.{first-most, first-holds}
 use Rattle.settings.specs.declared.Settings.{Settings}
 use Rattle.table.specs.Layout.{capacity}
 use Rattle.bucket.specs.Whole.{bucketOf, whole}
-use Rattle.request.specs.Grammar.{Said, readLine, lineOf}
-use Rattle.outcome.specs.Outcome.{Outcome, refused, accepted, asked, refusalOf, outcome}
+use Rattle.request.specs.Grammar.{Said, readLine, lineOf, asked}
+use Rattle.outcome.specs.Outcome.{Outcome, refused, accepted, refusalOf, outcome}
 
 module _ (s : Settings) (numbers keys line answer : List ℕ) where
   -- The conditions of the line, in order.

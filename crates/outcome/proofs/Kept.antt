@@ -27,8 +27,8 @@ use Rattle.table.specs.Layout.{keysOf, capacity}
 use Rattle.bucket.specs.Whole.{bucketOf, whole}
 use Rattle.table.proofs.Held.{read-back, keys-length}
 use Rattle.bucket.proofs.Whole.{whole-parts, sound-parts, whole-of}
-use Rattle.request.specs.Grammar.{Said, readLine, lineOf}
-use Rattle.outcome.specs.Outcome.{rulesFrom, settingsFrom, accepted, asked, refusalOf, outcome}
+use Rattle.request.specs.Grammar.{Said, readLine, lineOf, asked}
+use Rattle.outcome.specs.Outcome.{rulesFrom, settingsFrom, accepted, refusalOf, outcome}
 use Rattle.outcome.proofs.Demands.{refused-unchanged, unreadable-refused, accepted-line}
 
 rule-means : (k : List ℕ) (c n : ℕ) (us vs : List model.Rule) → length k ≤ 63 → vs ≡ us → record { prefix = keyIn (blockOf k); currentDays = c; noncurrentDays = n } ∷ vs ≡ record { prefix = k; currentDays = c; noncurrentDays = n } ∷ us

@@ -12,8 +12,8 @@ use Rattle.model.specs.Answers.{answerTo}
 use Rattle.answers.specs.Text.{answerText}
 use Rattle.settings.specs.declared.Settings.{Settings}
 use Rattle.bucket.specs.Whole.{bucketOf}
-use Rattle.request.specs.Grammar.{Said, readLine}
-use Rattle.outcome.specs.Outcome.{Outcome, refused, accepted, asked, refusalOf, outcome}
+use Rattle.request.specs.Grammar.{Said, readLine, asked}
+use Rattle.outcome.specs.Outcome.{Outcome, refused, accepted, refusalOf, outcome}
 
 text-fits : (t a : List ℕ) → length t ≤ length (t ++ drop (length t) a)
 text-fits t a = simp length-append (omega arith)

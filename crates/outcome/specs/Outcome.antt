@@ -14,7 +14,7 @@ use Rattle.settings.specs.declared.Settings.{Settings}
 use Rattle.settings.specs.declared.Rule.{Rule}
 use Rattle.table.specs.Layout.{numbersOf, keysOf, capacity}
 use Rattle.bucket.specs.Whole.{bucketOf, whole}
-use Rattle.request.specs.Grammar.{Said, readLine, lineOf}
+use Rattle.request.specs.Grammar.{readLine, asked, lineOf}
 use Rattle.answers.specs.Text.{answerText}
 
 -- ## From the model's settings to those of the code
@@ -57,10 +57,6 @@ refused n s numbers keys answer = record { number = n; length = 0; settings = s;
 -- The text stands at the buffer's start; bytes after it are untouched.
 abbrev pub written : List ℕ → List ℕ → List ℕ
 written text room = text ++ drop (length text) room
-
--- The request that a readable line asks, with its answer buffer's length.
-abbrev pub asked : ℕ → Said → Request
-asked room q = record { call = record { room = room; clock = q .clock; who = q .who }; verb = q .verb }
 
 -- An accepted line leaves the bucket after it, and its answer.
 abbrev pub accepted : Settings → List ℕ → List ℕ → Request → List ℕ → Outcome

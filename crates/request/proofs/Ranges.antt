@@ -19,7 +19,7 @@ use Rattle.model.specs.Settings.{days, years, isPeriod}
 use Rattle.model.specs.Rows.{bodies}
 use Rattle.model.specs.Requests.{Version, numbered, Name, Retention, Terms, Verb, AddMarker, DeleteVersion, Period, isVersion, isName, isModeField, isDateField, isRetention, isPeriodField, inRange}
 use Rattle.fields.specs.Fields.{keyOf, prefixOf, versionOf, modeOf, untilOf, periodOf}
-use Rattle.request.specs.Grammar.{nameAt, retentionAt, termsOf, putOf, copyOf, retainOf, setHoldOf, deleteOf, defaultOf, ruleOf, sweepOf, getOf, settingByWord, verbByWord, Said, readLine}
+use Rattle.request.specs.Grammar.{nameAt, retentionAt, termsOf, putOf, copyOf, retainOf, setHoldOf, deleteOf, defaultOf, ruleOf, sweepOf, getOf, otherByWord, verbByWord, Said, readLine}
 
 -- whatever is read passes the test
 record Passes (A : Type 0) (p : A → Bool) (w : Option A) : Type 0 where
@@ -185,13 +185,13 @@ module _ (s : List ℕ) where
   unfolding getOf inRange
   get-passes = search (ways, ranges) depth 16
 
-  setting-passes : (w : List ℕ) → Passes Verb inRange (settingByWord w s)
-  unfolding settingByWord
-  setting-passes w = search (pass-pick, pass-none, default-passes, rule-passes, sweep-passes, get-passes) depth 12
+  other-passes : (w : List ℕ) → Passes Verb inRange (otherByWord w s)
+  unfolding otherByWord
+  other-passes w = search (pass-pick, pass-none, default-passes, rule-passes, sweep-passes, get-passes) depth 12
 
   verb-passes : (w : List ℕ) → Passes Verb inRange (verbByWord w s)
   unfolding verbByWord
-  verb-passes w = search (pass-pick, put-passes, copy-passes, retain-passes, set-hold-passes, delete-passes, setting-passes) depth 12
+  verb-passes w = search (pass-pick, put-passes, copy-passes, retain-passes, set-hold-passes, delete-passes, other-passes) depth 12
 
 -- ## The line
 

@@ -17,12 +17,12 @@ use Rattle.model.specs.Rows.{compliance}
 use Rattle.model.specs.Settings.{days}
 use Rattle.model.specs.Requests.{Rights, numbered, name, noRetention, Verb, Put, AddMarker, DeleteVersion, Set, DefaultRetention, Ask, Get}
 use Rattle.fields.specs.Fields.{rightsIn, rightsOf, keyOf, versionOf, modeOf, untilOf, holdOf, bypassOf, periodOf}
-use Rattle.request.specs.Grammar.{nameAt, retentionAt, termsOf, putOf, deleteOf, defaultOf, getOf, settingByWord, verbByWord, Said, readLine}
+use Rattle.request.specs.Grammar.{nameAt, retentionAt, termsOf, putOf, deleteOf, defaultOf, getOf, otherByWord, verbByWord, Said, readLine}
 
 -- the bytes of a text in which `|` stands for a tab
-abbrev tabbed : List ℕ → List ℕ
-tabbed [] = []
-tabbed (b ∷ s) = pick (eqb b 124) 9 b ∷ tabbed s
+abbrev withTabs : List ℕ → List ℕ
+withTabs [] = []
+withTabs (b ∷ s) = pick (eqb b 124) 9 b ∷ withTabs s
 
 -- this clock, these rights, this verb
 abbrev asks : ℕ → Rights → Verb → Option Said
@@ -31,41 +31,41 @@ asks clock who verb = some (record { clock = clock; who = who; verb = verb })
 -- what the definitions say of these lines
 pub record Examples : Type 0 where
   -- 01's run
-  pub default : readLine (tabbed (bytes "2024-03-01T00:00:00Z|c|DEFAULT|COMPLIANCE|1d"))
+  pub default : readLine (withTabs (bytes "2024-03-01T00:00:00Z|c|DEFAULT|COMPLIANCE|1d"))
       ≡ asks 1709251200000 (record { r = false; w = false; d = false; t = false; h = false; b = false; c = true })
       (Set (DefaultRetention (some compliance) (some (record { count = 1; unit = days }))))
-  pub put : readLine (tabbed (bytes "2024-03-01T00:00:00Z|w|PUT|q/7|41|300|-|-|-"))
+  pub put : readLine (withTabs (bytes "2024-03-01T00:00:00Z|w|PUT|q/7|41|300|-|-|-"))
       ≡ asks 1709251200000 (record { r = false; w = true; d = false; t = false; h = false; b = false; c = false })
       (Put (bytes "q/7") 41 300 (record { retention = noRetention; hold = none }))
-  pub deleteLocked : readLine (tabbed (bytes "2024-03-01T12:00:00Z|db|DELETE|q/7|1|yes"))
+  pub deleteLocked : readLine (withTabs (bytes "2024-03-01T12:00:00Z|db|DELETE|q/7|1|yes"))
       ≡ asks 1709294400000 (record { r = false; w = false; d = true; t = false; h = false; b = true; c = false })
       (DeleteVersion (bytes "q/7") (numbered 1) true)
-  pub deleteCurrent : readLine (tabbed (bytes "2024-03-01T12:00:00Z|d|DELETE|q/7|-|no"))
+  pub deleteCurrent : readLine (withTabs (bytes "2024-03-01T12:00:00Z|d|DELETE|q/7|-|no"))
       ≡ asks 1709294400000 (record { r = false; w = false; d = true; t = false; h = false; b = false; c = false })
       (AddMarker (bytes "q/7") false)
-  pub getNumbered : readLine (tabbed (bytes "2024-03-01T06:00:00Z|r|GET|q/7|1"))
+  pub getNumbered : readLine (withTabs (bytes "2024-03-01T06:00:00Z|r|GET|q/7|1"))
       ≡ asks 1709272800000 (record { r = true; w = false; d = false; t = false; h = false; b = false; c = false })
       (Ask (Get (name (bytes "q/7") (some (numbered 1)))))
-  pub deleteExpired : readLine (tabbed (bytes "2024-03-02T00:00:00Z|d|DELETE|q/7|1|no"))
+  pub deleteExpired : readLine (withTabs (bytes "2024-03-02T00:00:00Z|d|DELETE|q/7|1|no"))
       ≡ asks 1709337600000 (record { r = false; w = false; d = true; t = false; h = false; b = false; c = false })
       (DeleteVersion (bytes "q/7") (numbered 1) false)
-  pub getCurrent : readLine (tabbed (bytes "2024-03-02T00:00:00Z|r|GET|q/7|-"))
+  pub getCurrent : readLine (withTabs (bytes "2024-03-02T00:00:00Z|r|GET|q/7|-"))
       ≡ asks 1709337600000 (record { r = true; w = false; d = false; t = false; h = false; b = false; c = false })
       (Ask (Get (name (bytes "q/7") none)))
   -- can't be read
-  pub versionZero : readLine (tabbed (bytes "2024-03-01T00:00:00Z|r|GET|q/7|0")) ≡ none
-  pub noRights : readLine (tabbed (bytes "2024-03-01T00:00:00Z||GET|q/7|1")) ≡ none
-  pub letterTwice : readLine (tabbed (bytes "2024-03-01T00:00:00Z|rwr|GET|q/7|1")) ≡ none
-  pub otherLetter : readLine (tabbed (bytes "2024-03-01T00:00:00Z|rx|GET|q/7|1")) ≡ none
-  pub lowerCase : readLine (tabbed (bytes "2024-03-01T00:00:00Z|r|get|q/7|1")) ≡ none
-  pub fieldTooMany : readLine (tabbed (bytes "2024-03-01T00:00:00Z|r|GET|q/7|1|")) ≡ none
-  pub fieldTooFew : readLine (tabbed (bytes "2024-03-01T00:00:00Z|r|GET|q/7")) ≡ none
+  pub versionZero : readLine (withTabs (bytes "2024-03-01T00:00:00Z|r|GET|q/7|0")) ≡ none
+  pub noRights : readLine (withTabs (bytes "2024-03-01T00:00:00Z||GET|q/7|1")) ≡ none
+  pub letterTwice : readLine (withTabs (bytes "2024-03-01T00:00:00Z|rwr|GET|q/7|1")) ≡ none
+  pub otherLetter : readLine (withTabs (bytes "2024-03-01T00:00:00Z|rx|GET|q/7|1")) ≡ none
+  pub lowerCase : readLine (withTabs (bytes "2024-03-01T00:00:00Z|r|get|q/7|1")) ≡ none
+  pub fieldTooMany : readLine (withTabs (bytes "2024-03-01T00:00:00Z|r|GET|q/7|1|")) ≡ none
+  pub fieldTooFew : readLine (withTabs (bytes "2024-03-01T00:00:00Z|r|GET|q/7")) ≡ none
   pub empty : readLine [] ≡ none
-  pub tooLong : readLine (tabbed (bytes "2024-03-01T00:00:00Z|r|GET|") ++ replicate 486 97) ≡ none
+  pub tooLong : readLine (withTabs (bytes "2024-03-01T00:00:00Z|r|GET|") ++ replicate 486 97) ≡ none
 
 -- each by computing
 pub examples : Examples
-unfolding isDigit leadingZero numberOf positiveOf fieldOf isKeyByte isPrefix isKey leap yearsLength monthStart monthLength validDay daysOf digitOf twoDigits fourDigits dayNumber dayAt secondOfDay secondAt placeOf milliseconds fractionOf readDate rightsIn rightsOf keyOf versionOf modeOf untilOf holdOf bypassOf periodOf nameAt retentionAt termsOf putOf deleteOf defaultOf getOf settingByWord verbByWord readLine
+unfolding isDigit leadingZero numberOf positiveOf fieldOf isKeyByte isPrefix isKey leap yearsLength monthStart monthLength validDay daysOf digitOf twoDigits fourDigits dayNumber dayAt secondOfDay secondAt placeOf milliseconds fractionOf readDate rightsIn rightsOf keyOf versionOf modeOf untilOf holdOf bypassOf periodOf nameAt retentionAt termsOf putOf deleteOf defaultOf getOf otherByWord verbByWord readLine
 examples =
     record {
       default = refl;

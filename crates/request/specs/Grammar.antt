@@ -11,7 +11,7 @@ use Rattle.text.specs.Numbers.{numberOf}
 use Rattle.text.specs.Fields.{fieldOf, tabsIn}
 use Rattle.dates.specs.Reading.{readDate}
 use Rattle.model.specs.Rows.{largestSize}
-use Rattle.model.specs.Requests.{Rights, Name, name, Retention, Terms, DefaultRetention, LifecycleRule, Get, Verb, Put, Copy, Retain, Hold, AddMarker, DeleteVersion, Set, Sweep, Ask, Line, unreadable, reads}
+use Rattle.model.specs.Requests.{Rights, Name, name, Retention, Terms, DefaultRetention, LifecycleRule, Get, Verb, Put, Copy, Retain, Hold, AddMarker, DeleteVersion, Set, Sweep, Ask, Request, Line, unreadable, reads}
 use Rattle.fields.specs.Fields.{rightsOf, keyOf, prefixOf, versionOf, modeOf, untilOf, switchOf, holdOf, bypassOf, periodOf}
 
 -- ## Fields that several verbs have
@@ -108,14 +108,15 @@ sweepOf s = pick (eqb (tabsIn s) 2) (some Sweep) none
 unfoldable pub getOf : List ℕ → Option Verb
 getOf s = pick (eqb (tabsIn s) 4) (thenSome (nameAt s 3 4) none (λ n. some (Ask (Get n)))) none
 
--- the verb by its word
-unfoldable pub settingByWord : List ℕ → List ℕ → Option Verb
-settingByWord w s =
+-- DEFAULT, RULE, SWEEP and GET by their word
+unfoldable pub otherByWord : List ℕ → List ℕ → Option Verb
+otherByWord w s =
     pick (same w (bytes "DEFAULT")) (defaultOf s)
     (pick (same w (bytes "RULE")) (ruleOf s)
     (pick (same w (bytes "SWEEP")) (sweepOf s)
     (pick (same w (bytes "GET")) (getOf s) none)))
 
+-- the verb by its word
 unfoldable pub verbByWord : List ℕ → List ℕ → Option Verb
 verbByWord w s =
     pick (same w (bytes "PUT")) (putOf s)
@@ -123,7 +124,7 @@ verbByWord w s =
     (pick (same w (bytes "RETAIN")) (retainOf s)
     (pick (same w (bytes "HOLD")) (setHoldOf s)
     (pick (same w (bytes "DELETE")) (deleteOf s)
-    (settingByWord w s)))))
+    (otherByWord w s)))))
 
 -- ## The line
 
@@ -142,6 +143,10 @@ readLine s =
     thenSome (verbByWord (fieldOf s 2) s) none (λ v.
     some (record { clock = clock; who = who; verb = v })))))
 
--- The line as the bucket meets it, with an answer buffer of this length.
+-- The request that a readable line asks, with an answer buffer of this length.
+abbrev pub asked : ℕ → Said → Request
+asked room q = record { call = record { room = room; clock = q .clock; who = q .who }; verb = q .verb }
+
+-- The line as the bucket meets it.
 abbrev pub lineOf : ℕ → List ℕ → Line
-lineOf room s = thenSome (readLine s) (unreadable room) (λ q. reads (record { call = record { room = room; clock = q .clock; who = q .who }; verb = q .verb }))
+lineOf room s = thenSome (readLine s) (unreadable room) (λ q. reads (asked room q))

@@ -22,7 +22,7 @@ ghost use mathlib.Core.Path.{_≡_};
 ghost use Prim.Native.Nat.{_<_};
 ghost use Rattle.text.specs.Fields.{fieldOf, Split};
 ghost use Rattle.text.specs.Numbers.{valueOf, numberOf};
-ghost use Rattle.request.specs.Grammar.{nameAt, retentionAt, termsOf, putOf, copyOf, retainOf, setHoldOf, deleteOf, defaultOf, ruleOf, sweepOf, getOf, settingByWord, verbByWord};
+ghost use Rattle.request.specs.Grammar.{nameAt, retentionAt, termsOf, putOf, copyOf, retainOf, setHoldOf, deleteOf, defaultOf, ruleOf, sweepOf, getOf, otherByWord, verbByWord};
 ghost use Rattle.request.specs.Meaning.{retentionFrom, termsFrom, Named, Does};
 
 // Key and version.
@@ -246,10 +246,10 @@ fn read_get(line: &[u8], marks: &[usize]) -> VerbRead
     VerbRead::Is(Verb::Act(Action::Get(name)))
 }
 
-// The verbs on settings, and GET, by their word.
-fn read_setting(word: &[u8], line: &[u8], marks: &[usize]) -> VerbRead
+// DEFAULT, RULE, SWEEP and GET by their word.
+fn read_other(word: &[u8], line: &[u8], marks: &[usize]) -> VerbRead
     requires { ⌜ Split (now line) (now marks) ⌝ }
-    ensures { λ r. ⌜ Does (now (line .entry)) (settingByWord (now (word .entry)) (now (line .entry))) r ⌝ }
+    ensures { λ r. ⌜ Does (now (line .entry)) (otherByWord (now (word .entry)) (now (line .entry))) r ⌝ }
 {
     if text::is_word(word, b"DEFAULT") {
         return read_default(line, marks);
@@ -286,5 +286,5 @@ pub fn read_verb(word: &[u8], line: &[u8], marks: &[usize]) -> VerbRead
     if text::is_word(word, b"DELETE") {
         return read_delete(line, marks);
     }
-    read_setting(word, line, marks)
+    read_other(word, line, marks)
 }

@@ -11,6 +11,9 @@ ghost use Rattle.settings.specs.Meaning.{rulesMean, prefixesAre, setting
 ghost use Rattle.settings.specs.Changes.{Fresh, ruleSound, withDefault, withProgress, Stored, WithRule};
 ghost use Rattle.settings.specs.Bytes.{ruleAt, settingsOf, rulesBytes, settingsBytes};
 
+// The next version number that means spent.
+pub const SPENT: u64 = 4294967296;
+
 // A lifecycle rule; its prefix is 64 bytes like a key, with length 0 allowed.
 #[repr(C)]
 pub struct Rule {
@@ -198,7 +201,7 @@ pub fn is_sound(s: Settings) -> bool
     let rules = s.rules;
     let default = is_sound_default(s.mode, s.count, s.unit);
     let config = default & are_sound(rules);
-    (s.time <= 253402300799999) & ((1 <= s.next) & ((s.next <= 4294967296) & config))
+    (s.time <= calendar::LATEST) & ((1 <= s.next) & ((s.next <= SPENT) & config))
 }
 
 // The settings with another default retention.

@@ -103,7 +103,7 @@ fn default_lock(s: State, now: u64) -> NewLock
         return NewLock::Lock(0, 0);
     }
     let end = calendar::period_end(now, s.count, s.unit);
-    if 253402300799999 < end {
+    if calendar::LATEST < end {
         return NewLock::TooLate;
     }
     NewLock::Lock(s.mode, end)

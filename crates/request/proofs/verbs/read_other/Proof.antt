@@ -1,13 +1,13 @@
--- `read_setting` meets its contract.
+-- `read_other` meets its contract.
 use Rattle.request.proofs.Answers.{words}
-use Rattle.request.specs.Grammar.{settingByWord}
+use Rattle.request.specs.Grammar.{otherByWord}
 use borrow.Author.Needs.{needs}
-use Rattle.request.proofs.verbs.read_setting.Statement.{statement}
-use Rattle.request.proofs.verbs.read_setting.Tie as tie
+use Rattle.request.proofs.verbs.read_other.Statement.{statement}
+use Rattle.request.proofs.verbs.read_other.Tie as tie
 
-pub read-setting-spec : {M : Type 1} → statement M
-unfolding settingByWord
-read-setting-spec =
+pub read-other-spec : {M : Type 1} → statement M
+unfolding otherByWord
+read-other-spec =
     tie.close
     (tie.spec
     (λ c. search needs)
