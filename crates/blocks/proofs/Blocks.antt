@@ -7,7 +7,7 @@ use native.Mathlib.Omega.{arith}
 use lib.ListN.{length, getD, take, drop, replicate, length-append, length-take, length-replicate}
 use lib.Seq.{take-all, take-at}
 use Rattle.buffers.specs.Writes.{Wrote}
-use Rattle.buffers.proofs.Lists.{same-refl}
+use Rattle.buffers.proofs.Lists.{same-refl, same-path}
 use Rattle.buffers.proofs.Writes.{wrote-both, wrote-as}
 use Rattle.blocks.specs.Blocks.{blockOf, keyIn, isBlock}
 
@@ -36,6 +36,22 @@ block-first k h = rw (block-is k h)
 pub block-block : (k : List ℕ) → length k ≤ 63 → isBlock (blockOf k) ≡ true
 unfolding isBlock
 block-block k h = rw (key-back k h) (same-refl (blockOf k))
+
+-- ## A block as it stands in a buffer
+
+pub block-path : (b : List ℕ) → isBlock b ≡ true → b ≡ blockOf (keyIn b)
+unfolding isBlock
+block-path b e = same-path b (blockOf (keyIn b)) e
+
+pub block-long : (b : List ℕ) → isBlock b ≡ true → length b ≡ 64
+block-long b e = ap length (block-path b e) ∙ block-length (keyIn b)
+
+-- Its first byte is a length that fits.
+pub block-short : (b : List ℕ) → isBlock b ≡ true → getD b 0 0 ≤ 63
+unfolding blockOf
+block-short b e =
+    let f : getD b 0 0 ≡ length (take 63 (keyIn b)) = ap (λ (l : List ℕ). getD l 0 0) (block-path b e) in
+    omega (arith, length-take 63 (keyIn b))
 
 -- ## A key cut out, and written
 

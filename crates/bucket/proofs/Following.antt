@@ -8,11 +8,12 @@ use native.Mathlib.Omega.{arith}
 use native.Mathlib.Numerals.{add-one}
 use lib.Dec.{eqb, ltb}
 use lib.ListN.{length, getD, take, drop, replicate, drop-of-length-le}
-use lib.Seq.{drop-cons, getD-take, getD-drop}
+use lib.Seq.{drop-cons}
 use borrow.Author.Tests.{not-true, lt-ltb, le-ltb, ltb-false, ne-eqb}
 use Rattle.buffers.specs.Lists.{all, same}
 use Rattle.buffers.proofs.Tests.{either, and-i, and-l, and-r, clash}
 use Rattle.buffers.proofs.Lists.{same-path, same-refl}
+use Rattle.buffers.proofs.Parts.{part-cut, part-first}
 use Rattle.text.specs.Keys.{isKeyByte, isKey, isPrefix}
 use Rattle.blocks.specs.Blocks.{blockOf, keyIn, isBlock}
 use Rattle.blocks.proofs.Blocks.{block-is}
@@ -22,7 +23,7 @@ use Rattle.search.specs.declared.Order.{Order}
 use Rattle.search.specs.declared.Order.the-variants.{Before, Same, After}
 use Rattle.bucket.specs.Steps.{allBelow, isKeyBlock, blockAt, keyedAt, aheadOf, aheadAt, soundKeys}
 use Rattle.bucket.specs.Ordering.{isBlockOrder}
-use Rattle.bucket.proofs.Steps.{below-at, below-more, pick-and, cut}
+use Rattle.bucket.proofs.Steps.{below-at, below-more, pick-and}
 use Rattle.bucket.proofs.Ordering.{apart-before}
 
 -- ## The same bytes
@@ -132,12 +133,8 @@ pub ruleset follows-cases = (follows-before, follows-same, follows-after)
 
 -- ## The rows one after the other
 
--- The first element of a part.
-part-first : (k : ℕ) (l : List ℕ) (i : ℕ) → getD (take (suc k) (drop i l)) 0 0 ≡ getD l i 0
-part-first k l i = let q : i + 0 ≡ i = omega arith in getD-take (suc k) (drop i l) 0 0 (omega arith) ∙ getD-drop i l 0 0 ∙ rw q
-
 pub part-keyed : (b : List ℕ) (i : ℕ) → keyedAt b i ≡ true → isKeyBlock (take (64 * i + 64 - 64 * i) (drop (64 * i) b)) ≡ true
-part-keyed b i e = rw (cut b (64 * i) 64) e
+part-keyed b i e = rw (part-cut b (64 * i) 64) e
 
 module _ (n b : List ℕ) (i : ℕ) where
   pub next-is : (r : Bool)
@@ -149,7 +146,7 @@ module _ (n b : List ℕ) (i : ℕ) where
   next-is r e =
       let p : 64 * (i + 1) ≡ 64 * i + 64 = omega arith in
       let q : 8 * (i + 1) ≡ 8 * i + 8 = omega arith in
-      e ∙ rw (cut b (64 * i) 64, cut b (64 * i + 64) 64, p, q, part-first 7 n (8 * i), part-first 7 n (8 * i + 8))
+      e ∙ rw (part-cut b (64 * i) 64, part-cut b (64 * i + 64) 64, p, q, part-first n (8 * i) 8 (omega arith), part-first n (8 * i + 8) 8 (omega arith))
 
   -- what holds once the rows up to position i are tested
   pub record Followed : Type 0 where

@@ -13,6 +13,7 @@ use lib.Seq.{drop-cons}
 use borrow.Author.Tests.{eqb-true, eqb-false, lt-ltb, ne-eqb}
 use Rattle.buffers.specs.Choices.{pick}
 use Rattle.buffers.proofs.Tests.{either, and-i, and-l, and-r, clash}
+use Rattle.buffers.proofs.Parts.{part-cut}
 use Rattle.text.specs.Keys.{isKey}
 use Rattle.blocks.specs.Blocks.{keyIn}
 use Rattle.model.specs.Rows.{Row, isData, isMarker, soundRetention, soundData, soundMarker, soundRow, largestSize, bodies}
@@ -78,12 +79,8 @@ pub data-is : (r : Bool) (ns : List ℕ) → r ≡ soundRetention (getD ns 5 0) 
     → leb (getD ns 4 0) largestSize && (r && leb (getD ns 7 0) 1) ≡ soundData (rowIn ns [])
 data-is r ns e h = rw (e, lt-ltb (getD ns 3 0) bodies h)
 
--- `&l[s..s + k]`
-pub cut : (l : List ℕ) (s k : ℕ) → take (s + k - s) (drop s l) ≡ take k (drop s l)
-cut l s k = let q : s + k - s ≡ k = omega arith in rw q
-
 pub row-is : (next time : ℕ) (n : List ℕ) (i : ℕ) (r : Bool) → r ≡ soundNumbers next time (rowIn (take (8 * i + 8 - 8 * i) (drop (8 * i) n)) []) → r ≡ numbersAt next time n i
-row-is next time n i r e = e ∙ rw (cut n (8 * i) 8)
+row-is next time n i r e = e ∙ rw (part-cut n (8 * i) 8)
 
 -- ## A sound row
 

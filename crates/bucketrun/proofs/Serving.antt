@@ -12,9 +12,9 @@ use borrow.Rule.Slice.PartMut.{midOf, putMid, same-len-mid}
 use Rattle.buffers.specs.Ranges.{Within, Span}
 use Rattle.buffers.specs.Writes.{Wrote}
 use Rattle.buffers.specs.Moves.{movedDown}
+use Rattle.buffers.proofs.Parts.{rest-all, part-cut}
 use Rattle.text.specs.Lines.{linesOf, feedAt}
 use Rattle.text.proofs.Lines.{lines-at}
-use Rattle.text.proofs.Scans.{rest-all}
 use Rattle.settings.specs.declared.Settings.{Settings}
 use Rattle.settings.specs.Changes.{Fresh}
 use Rattle.bucket.specs.Whole.{whole}
@@ -36,7 +36,7 @@ part-wide out at h l = length-take-le 65536 (drop at out) (rw length-drop (omega
 
 -- The part of the output that a line is lent.
 room-part : (out : List ℕ) (at : ℕ) → midOf at (at + 65536 - at) out ≡ take 65536 (drop at out)
-room-part out at = let w : at + 65536 - at ≡ 65536 = omega arith in rw w
+room-part out at = part-cut out at 65536
 
 pub part-most : (a l : List ℕ) (k : ℕ) → length a ≡ length (take k l) → length a ≤ k
 part-most a l k e = let q : length a ≡ _ = e ∙ length-take k l in omega arith

@@ -1,7 +1,8 @@
 -- A definition by `pick`, followed along a way through the code: at each test the fact that the code learnt there decides it.
 use Prim.Native.Nat.{ℕ, _≤_, _<_}
-use mathlib.Core.Path.{_≡_, refl}
+use mathlib.Core.Path.{_≡_, refl, ap}
 use mathlib.Core.Bool.{Bool, true, false}
+use mathlib.Core.Option.{some}
 use lib.Dec.{ltb, eqb}
 use borrow.Author.Tests.{lt-ltb, le-ltb, eq-eqb, ne-eqb}
 use Rattle.buffers.specs.Choices.{pick}
@@ -30,6 +31,10 @@ module _ (A : Type 0) (v x y : A) where
 
   pub pick-ge : (a b : ℕ) → b ≤ a → v ≡ y → v ≡ pick (ltb a b) x y
   pick-ge a b h q = cc (le-ltb a b h)
+
+-- A value that is there.
+pub some-is : (A : Type 0) (a b : A) → a ≡ b → some a ≡ some b
+some-is A a b e = ap some e
 
 -- for a chain of tests on bools
 pub ruleset tests = (refl, pick-yes, pick-no)

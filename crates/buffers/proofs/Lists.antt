@@ -1,12 +1,13 @@
 -- Laws of the lists of `specs/Lists.antt`.
-use Prim.Native.Nat.{ℕ, zero, suc}
+use Prim.Native.Nat.{ℕ, zero, suc, _<_}
 use mathlib.Core.Path.{_≡_, refl, sym, _∙_, ap, ap₂}
 use mathlib.Core.Logic.{inl, inr}
 use mathlib.Core.Bool.{Bool, true, false, _&&_, false≢true}
 use mathlib.Core.List.{List, [], _∷_, _++_, nil≢cons, head-eq-of-cons-eq}
 use mathlib.Core.Option.{some}
+use native.Mathlib.Omega.{arith}
 use lib.Dec.{eqb}
-use lib.ListN.{set}
+use lib.ListN.{length, getD, take, drop, set}
 use borrow.Author.Tests.{eqb-true, eq-eqb}
 use Rattle.buffers.specs.Lists.{keep, first, change, all, same}
 use Rattle.buffers.proofs.Tests.{either, and-i, and-l, and-r}
@@ -111,6 +112,21 @@ module _ {A : Type 0} where
   all-set p [] i u e f = refl
   all-set p (x ∷ xs) zero u e f = rw (e, and-r (p x) _ f)
   all-set p (x ∷ xs) (suc i) u e f = rw (and-l (p x) _ f, all-set p xs i u e (and-r (p x) _ f))
+
+  pub all-take : (p : A → Bool) (i : ℕ) (xs : List A) → all p xs ≡ true → all p (take i xs) ≡ true
+  all-take p zero xs e = refl
+  all-take p (suc i) [] e = refl
+  all-take p (suc i) (x ∷ xs) e = and-i (p x) _ (and-l _ _ e) (all-take p i xs (and-r (p x) _ e))
+
+  pub all-drop : (p : A → Bool) (i : ℕ) (xs : List A) → all p xs ≡ true → all p (drop i xs) ≡ true
+  all-drop p zero xs e = e
+  all-drop p (suc i) [] e = refl
+  all-drop p (suc i) (x ∷ xs) e = all-drop p i xs (and-r (p x) _ e)
+
+  pub all-at : (p : A → Bool) (xs : List A) (i : ℕ) (d : A) → i < length xs → all p xs ≡ true → p (getD xs i d) ≡ true
+  all-at p [] i d h e = absurd (omega arith)
+  all-at p (x ∷ xs) zero d h e = and-l (p x) _ e
+  all-at p (x ∷ xs) (suc i) d h e = all-at p xs i d (omega arith) (and-r (p x) _ e)
 
 -- ## The same bytes
 

@@ -25,24 +25,6 @@ year-least false = omega arith
 abbrev pub closedStart : ℕ → ℕ
 closedStart y = 365 * (y - 1970) + (y - 1) / 4 + (y - 1) / 400 - ((y - 1) / 100 + 477)
 
-step4 : (y : ℕ) → 1 ≤ y → y % 4 ≡ 0 → y / 4 ≡ (y - 1) / 4 + 1
-step4 y h e = omega arith
-
-stay4 : (y : ℕ) → (y % 4 ≡ 0 → ⊥) → y / 4 ≡ (y - 1) / 4 + 0
-stay4 y e = omega arith
-
-step100 : (y : ℕ) → 1 ≤ y → y % 100 ≡ 0 → y / 100 ≡ (y - 1) / 100 + 1
-step100 y h e = omega arith
-
-stay100 : (y : ℕ) → (y % 100 ≡ 0 → ⊥) → y / 100 ≡ (y - 1) / 100 + 0
-stay100 y e = omega arith
-
-step400 : (y : ℕ) → 1 ≤ y → y % 400 ≡ 0 → y / 400 ≡ (y - 1) / 400 + 1
-step400 y h e = omega arith
-
-stay400 : (y : ℕ) → (y % 400 ≡ 0 → ⊥) → y / 400 ≡ (y - 1) / 400 + 0
-stay400 y e = omega arith
-
 room : (y : ℕ) → 1970 ≤ y → (y - 1) / 100 + 477 ≤ 365 * (y - 1970) + (y - 1) / 4 + (y - 1) / 400
 room y h = omega arith
 
@@ -67,13 +49,13 @@ closed-next y h = rw p (go (eqb (y % 4) 0) refl (eqb (y % 100) 0) refl (eqb (y %
 
     go : (a : Bool) → eqb (y % 4) 0 ≡ a → (b : Bool) → eqb (y % 100) 0 ≡ b → (d : Bool) → eqb (y % 400) 0 ≡ d
         → 365 * (y + 1 - 1970) + y / 4 + y / 400 - (y / 100 + 477) ≡ closedStart y + yearLength (pick a (pick b d true) false)
-    go true ea true eb true ed = by 366 1 1 1 (step4 y (omega arith) (eqb-true _ _ ea)) (step100 y (omega arith) (eqb-true _ _ eb)) (step400 y (omega arith) (eqb-true _ _ ed)) refl
-    go true ea true eb false ed = by 365 1 1 0 (step4 y (omega arith) (eqb-true _ _ ea)) (step100 y (omega arith) (eqb-true _ _ eb)) (stay400 y (eqb-false _ _ ed)) refl
+    go true ea true eb true ed = by 366 1 1 1 (omega (arith, eqb-true (y % 4) 0 ea)) (omega (arith, eqb-true (y % 100) 0 eb)) (omega (arith, eqb-true (y % 400) 0 ed)) refl
+    go true ea true eb false ed = by 365 1 1 0 (omega (arith, eqb-true (y % 4) 0 ea)) (omega (arith, eqb-true (y % 100) 0 eb)) (omega (arith, eqb-false (y % 400) 0 ed)) refl
     go true ea false eb true ed = absurd (eqb-false (y % 100) 0 eb (omega (arith, eqb-true (y % 400) 0 ed)))
-    go true ea false eb false ed = by 366 1 0 0 (step4 y (omega arith) (eqb-true _ _ ea)) (stay100 y (eqb-false _ _ eb)) (stay400 y (eqb-false _ _ ed)) refl
+    go true ea false eb false ed = by 366 1 0 0 (omega (arith, eqb-true (y % 4) 0 ea)) (omega (arith, eqb-false (y % 100) 0 eb)) (omega (arith, eqb-false (y % 400) 0 ed)) refl
     go false ea true eb d ed = absurd (eqb-false (y % 4) 0 ea (omega (arith, eqb-true (y % 100) 0 eb)))
     go false ea false eb true ed = absurd (eqb-false (y % 4) 0 ea (omega (arith, eqb-true (y % 400) 0 ed)))
-    go false ea false eb false ed = by 365 0 0 0 (stay4 y (eqb-false _ _ ea)) (stay100 y (eqb-false _ _ eb)) (stay400 y (eqb-false _ _ ed)) refl
+    go false ea false eb false ed = by 365 0 0 0 (omega (arith, eqb-false (y % 4) 0 ea)) (omega (arith, eqb-false (y % 100) 0 eb)) (omega (arith, eqb-false (y % 400) 0 ed)) refl
 
 years-closed : (n : ℕ) → yearsLength n ≡ closedStart (1970 + n)
 unfolding yearsLength

@@ -40,9 +40,6 @@ module _ (A : Type 0) (v y : A) where
 -- for callers that read a date
 pub ruleset dates = (date-at, date-unreadable)
 
-pub some-is : (a b : ℕ) → a ≡ b → some a ≡ some b
-some-is a b e = ap some e
-
 -- whatever is read is at most k
 pub record Most (k : ℕ) (w : Option ℕ) : Type 0 where
   pub most : (n : ℕ) → w ≡ some n → n ≤ k

@@ -1,6 +1,6 @@
 -- A definition by `thenSome`, followed where the code has taken a field's answer apart: what is said of a field's bytes is said of the field.
 use Prim.Native.Nat.{ℕ}
-use mathlib.Core.Path.{_≡_, ap}
+use mathlib.Core.Path.{_≡_}
 use mathlib.Core.Bool.{Bool}
 use mathlib.Core.List.{List}
 use mathlib.Core.Option.{Option, some}
@@ -38,9 +38,6 @@ use Rattle.fields.specs.declared.RightsRead.{RightsRead}
 use Rattle.fields.specs.declared.RightsRead.the-variants as rights-read
 use Rattle.fields.specs.Fields.{rightsOf, versionOf, modeOf, untilOf, switchOf, holdOf, bypassOf, periodOf}
 use Rattle.fields.specs.Meaning.{modeMeans, untilMeans, holdMeans, versionMeans, periodMeans, rightsMeans, versionFrom, modeFrom, untilFrom, flagFrom, holdFrom, periodFrom, rightsFrom, Inside, KeyAt}
-
-pub some-is : (A : Type 0) (a b : A) → a ≡ b → some a ≡ some b
-some-is A a b e = ap some e
 
 pub given-is : (a b : Bool) → b ≡ a → some (some a) ≡ some (some b)
 given-is a b e = cc

@@ -8,12 +8,13 @@ use native.Mathlib.Omega.{arith}
 use lib.ListN.{length, getD, take, drop, drop-of-length-le}
 use Rattle.buffers.specs.Choices.{pick}
 use Rattle.buffers.specs.Texts.{bytes}
+use Rattle.buffers.proofs.Parts.{rest-all}
 use Rattle.text.specs.declared.Place.{Place}
 use Rattle.text.specs.declared.Value.{Value}
 use Rattle.text.specs.Numbers.{valueOf, positiveOf}
 use Rattle.text.specs.Fields.{fieldOf, partOf, Found}
 use Rattle.text.specs.Keys.{has}
-use Rattle.text.proofs.Scans.{next, rest-all}
+use Rattle.text.proofs.Scans.{next}
 use Rattle.text.proofs.Fields.{field-found}
 use Rattle.fields.specs.declared.KeyRead.the-variants.{Is, Bad}
 use Rattle.fields.specs.Fields.{lettersOnce}

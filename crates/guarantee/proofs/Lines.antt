@@ -6,9 +6,9 @@ use mathlib.Core.List.{List, [], _∷_}
 use native.Mathlib.Omega.{arith}
 use lib.ListN.{length, take, drop, drop-of-length-le, length-drop}
 use Rattle.buffers.specs.Ranges.{Within}
+use Rattle.buffers.proofs.Parts.{rest-all}
 use Rattle.text.specs.Lines.{linesOf, feedAt}
 use Rattle.text.proofs.Lines.{lines-at}
-use Rattle.text.proofs.Scans.{rest-all}
 use Rattle.settings.specs.declared.Settings.{Settings}
 use Rattle.bucket.specs.Whole.{whole}
 use Rattle.engine.specs.declared.Served.{Served}

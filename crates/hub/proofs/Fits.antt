@@ -11,10 +11,9 @@ use borrow.Author.Tests.{eqb-true, eq-eqb, leb-true, ltb-true, lt-ltb}
 use Rattle.buffers.specs.Choices.{pick}
 use Rattle.buffers.specs.Lists.{all}
 use Rattle.buffers.proofs.Tests.{either, and-i, and-l, and-r, or-one}
-use Rattle.buffers.proofs.Lists.{same-path}
 use Rattle.text.specs.Keys.{isKey, isPrefix}
-use Rattle.blocks.specs.Blocks.{blockOf, keyIn, isBlock}
-use Rattle.blocks.proofs.Blocks.{block-length}
+use Rattle.blocks.specs.Blocks.{isBlock}
+use Rattle.blocks.proofs.Blocks.{block-long}
 use Rattle.calendar.specs.Calendar.{latest}
 use Rattle.model.specs.Rows.{Row, isMode, isData, isMarker, soundRetention, soundData, soundMarker, soundRow}
 use Rattle.model.specs.Settings as model
@@ -62,10 +61,6 @@ default-most d e =
     })
     (or-one (eqb (d .unit) 1 && leb (d .count) 36500) _ (and-r (leb 1 (d .count)) _ (and-r (isMode (d .mode)) _ t))))
     (or-one (eqb (d .mode) 0 && (eqb (d .count) 0 && eqb (d .unit) 0)) _ e)
-
-block-long : (b : List ℕ) → isBlock b ≡ true → length b ≡ 64
-unfolding isBlock
-block-long b e = ap length (same-path b (blockOf (keyIn b)) e) ∙ block-length (keyIn b)
 
 rule-fits : (u : Rule) → isBlock (u .prefix) ≡ true → soundRule (ruleMeans u) ≡ true → ruleFits u ≡ true
 rule-fits u f e =

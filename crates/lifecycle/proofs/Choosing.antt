@@ -14,6 +14,7 @@ use Rattle.buffers.specs.Lists.{begins, keep}
 use Rattle.buffers.specs.Ranges.{Within}
 use Rattle.buffers.proofs.Tests.{either, clash, and-i, and-l, and-r}
 use Rattle.buffers.proofs.Lists.{keep-yes, keep-no}
+use Rattle.buffers.proofs.Parts.{part-element, part-first}
 use Rattle.model.specs.Settings as model
 use Rattle.model.specs.Settings.{isSet}
 use Rattle.model.specs.Sweep.{applying}
@@ -22,7 +23,6 @@ use Rattle.lifecycle.specs.declared.Limits.{Limits}
 use Rattle.lifecycle.specs.declared.Chosen.{Chosen}
 use Rattle.lifecycle.specs.Least.{limitsOf}
 use Rattle.lifecycle.specs.Flat.{ruleIn, rulesIn, mayBegin, Rules, Laid, RulePut, ChosenBy, Applied}
-use Rattle.lifecycle.proofs.Parts.{part-element, part-first}
 use Rattle.lifecycle.proofs.Laying.{laid-more}
 
 -- ## The rules that may begin a key

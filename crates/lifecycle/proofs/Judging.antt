@@ -11,7 +11,9 @@ use lib.Seq.{drop-cons, take-suc-set}
 use borrow.Author.Tests.{ne-eqb}
 use Rattle.buffers.specs.Lists.{all, keep, same}
 use Rattle.buffers.proofs.Lists.{same-path}
+use Rattle.buffers.proofs.Parts.{part-first}
 use Rattle.blocks.specs.Blocks.{keyIn, isBlock}
+use Rattle.blocks.proofs.Blocks.{block-short}
 use Rattle.model.specs.Rows.{Row}
 use Rattle.model.specs.Settings as model
 use Rattle.model.specs.Sweep.{fate, fates}
@@ -22,7 +24,6 @@ use Rattle.lifecycle.specs.declared.Limits.{Limits}
 use Rattle.lifecycle.specs.declared.KeyRules.{KeyRules}
 use Rattle.lifecycle.specs.Least.{limitsOf}
 use Rattle.lifecycle.specs.Flat.{rulesIn, mayBegin, Laid, Applied}
-use Rattle.lifecycle.proofs.Parts.{block-short, part-first}
 use Rattle.lifecycle.proofs.Choosing.{chosen-now}
 use Rattle.lifecycle.specs.declared.Counts.{Counts}
 use Rattle.lifecycle.specs.Days.{fewDays}

@@ -10,14 +10,15 @@ use lib.ListN.{length, getD, take, drop, set}
 use lib.Seq.{drop-cons, drop-length, sets-eq}
 use borrow.Author.Tests.{eqb-true, eqb-false}
 use Rattle.buffers.specs.Writes.{Wrote}
+use Rattle.buffers.proofs.Parts.{part-before, part-at, part-element, part-first, placed-length}
 use Rattle.blocks.specs.Blocks.{keyIn, isBlock}
 use Rattle.model.specs.Settings as model
 use Rattle.settings.specs.declared.Rule.{Rule}
 use Rattle.settings.proofs.Encoding.{no-rule}
 use Rattle.settings.specs.Meaning.{rulesMean, prefixesAre}
-use Rattle.table.proofs.Lists.{all-at}
+use Rattle.buffers.proofs.Lists.{all-at}
+use Rattle.blocks.proofs.Blocks.{block-long, block-short}
 use Rattle.lifecycle.specs.Flat.{ruleIn, rulesIn, Laid, RulePut}
-use Rattle.lifecycle.proofs.Parts.{block-long, block-short, part-before, part-at, part-element, part-first, placed-length}
 
 -- ## Writing a rule
 

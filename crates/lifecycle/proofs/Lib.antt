@@ -1,4 +1,3 @@
-pub mod Parts
 pub mod Laying
 pub mod Choosing
 pub mod Tightening

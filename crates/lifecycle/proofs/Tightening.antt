@@ -1,12 +1,13 @@
 -- The limits of a key, rule by rule.
 use Prim.Native.Nat.{ℕ, _+_, _≤_}
-use mathlib.Core.Path.{_≡_, refl, sym, _∙_}
+use mathlib.Core.Path.{_≡_, refl, _∙_}
 use mathlib.Core.Logic.{inl, inr}
-use mathlib.Core.Bool.{Bool, true, false, not, _&&_}
+use mathlib.Core.Bool.{Bool, true, _&&_}
 use mathlib.Core.List.{List, _∷_}
 use native.Mathlib.Omega.{arith}
 use native.Mathlib.Numerals.{add-one}
 use lib.Dec.{eqb}
+use borrow.Author.Tests.{not-false}
 use Rattle.buffers.specs.Lists.{begins}
 use Rattle.buffers.proofs.Tests.{either, and-l, and-r}
 use Rattle.model.specs.Settings as model
@@ -40,10 +41,6 @@ limits-more u us k =
             | inr f ↦ simp (e, f)
           ]
     ]
-  where
-    not-false : (b : Bool) → not b ≡ false → b ≡ true
-    not-false true h = refl
-    not-false false h = sym h
 
 -- ## The limits of a key
 

@@ -12,8 +12,9 @@ use Rattle.buffers.specs.Words.{number, spelled, AllBytes}
 use Rattle.buffers.proofs.Words.{spelled-number}
 use Rattle.buffers.proofs.Tests.{either}
 use Rattle.buffers.proofs.Lists.{same-path, same-refl}
+use Rattle.buffers.proofs.Parts.{head-part}
 use Rattle.blocks.specs.Blocks.{blockOf, keyIn, isBlock}
-use Rattle.lifecycle.proofs.Parts.{block-path, block-long, block-short, head-part}
+use Rattle.blocks.proofs.Blocks.{block-path, block-long, block-short}
 
 bytes-take : (n : ℕ) (b : List ℕ) → AllBytes b → AllBytes (take n b)
 bytes-take zero b h k = omega arith

@@ -1,7 +1,7 @@
 -- A definition by cases on an enum, at the case that the code found, and the refusal from the three tests.
 use Prim.Native.Nat.{ℕ}
 use mathlib.Core.Path.{_≡_, refl, sym, _∙_, ap}
-use mathlib.Core.Bool.{Bool, true, false, not}
+use mathlib.Core.Bool.{Bool, true, false, not, and-true}
 use mathlib.Core.List.{List}
 use Rattle.buffers.specs.Choices.{pick}
 use Rattle.model.specs.Settings.{Config}
@@ -19,7 +19,7 @@ use Rattle.fields.specs.Meaning.{untilMeans, rightsMeans}
 use Rattle.request.specs.Meaning.{retentionMeans, actionMeans, settingMeans, verbMeans}
 use Rattle.request.proofs.Actions.{action-unset}
 use Rattle.screen.specs.Screen.{screened}
-use Rattle.screen.proofs.Rights.{mayAct, last, act-rights}
+use Rattle.screen.proofs.Rights.{mayAct, act-rights}
 
 -- ## Fields
 
@@ -72,11 +72,11 @@ module _ (s : Config) (line : List ℕ) (a : Rights) (v : Verb) where
 
   pub set-allowed : (x : Setting) → v ≡ Set x → lacksRight s (rightsMeans a) (verbMeans line v) ≡ not (a .c)
   unfolding lacksRight needs granted
-  set-allowed x e = rw e (ap not (last (a .c)))
+  set-allowed x e = rw e (ap not (and-true (a .c)))
 
   pub sweep-allowed : v ≡ Sweep → lacksRight s (rightsMeans a) (verbMeans line v) ≡ not (a .c)
   unfolding lacksRight needs granted
-  sweep-allowed e = rw e (ap not (last (a .c)))
+  sweep-allowed e = rw e (ap not (and-true (a .c)))
 
 pub ruleset allowances = (act-allowed, set-allowed, sweep-allowed)
 

@@ -1,7 +1,7 @@
 -- Refusals 2 to 6, by the definitions of the model.
 use Prim.Native.Nat.{ℕ, _≤_, max}
 use mathlib.Core.Path.{_≡_}
-use mathlib.Core.Bool.{Bool, true, false}
+use mathlib.Core.Bool.{Bool, true, _&&_}
 use mathlib.Core.List.{List, [], _∷_}
 use mathlib.Core.Option.{some}
 use lib.Dec.{ltb}
@@ -20,11 +20,7 @@ use Rattle.screen.specs.declared.Screened.the-variants.{Refused, Passed}
 
 -- PUT's rights: w; also t if a mode is given, h if a hold is given
 unfoldable pub mayPut : Rights → Terms → Bool
-mayPut a t =
-    pick (a .w)
-    (pick (pick (isSome (modeMeans (t .retention .mode))) (a .t) true)
-    (pick (isSome (holdMeans (t .hold))) (a .h) true)
-    false) false
+mayPut a t = a .w && (pick (isSome (modeMeans (t .retention .mode))) (a .t) true && pick (isSome (holdMeans (t .hold))) (a .h) true)
 
 -- the first of 4, 5 and 6 that holds, or 0
 unfoldable pub screened : Config → model.Rights → ℕ → model.Verb → ℕ

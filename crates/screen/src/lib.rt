@@ -108,13 +108,7 @@ fn may_put(a: Rights, t: Terms) -> bool
     let lock = t.retention;
     let m = lock.mode;
     let h = t.hold;
-    if a.w {
-        if holds_if(fields::gives_mode(m), a.t) {
-            return holds_if(fields::gives_hold(h), a.h);
-        }
-        return false;
-    }
-    false
+    a.w & (holds_if(fields::gives_mode(m), a.t) & holds_if(fields::gives_hold(h), a.h))
 }
 
 fn may_act(a: Rights, action: Action) -> bool
@@ -122,31 +116,11 @@ fn may_act(a: Rights, action: Action) -> bool
 {
     match action {
         Action::Put(_, _, _, t) => may_put(a, t),
-        Action::Copy(_, _, t) => {
-            if a.r {
-                return may_put(a, t);
-            }
-            false
-        }
-        Action::Retain(_, _, y) => {
-            if a.t {
-                return holds_if(y, a.b);
-            }
-            false
-        }
+        Action::Copy(_, _, t) => a.r & may_put(a, t),
+        Action::Retain(_, _, y) => a.t & holds_if(y, a.b),
         Action::SetHold(_, _) => a.h,
-        Action::AddMarker(_, y) => {
-            if a.d {
-                return holds_if(y, a.b);
-            }
-            false
-        }
-        Action::DeleteVersion(_, _, y) => {
-            if a.d {
-                return holds_if(y, a.b);
-            }
-            false
-        }
+        Action::AddMarker(_, y) => a.d & holds_if(y, a.b),
+        Action::DeleteVersion(_, _, y) => a.d & holds_if(y, a.b),
         Action::Get(_) => a.r,
     }
 }

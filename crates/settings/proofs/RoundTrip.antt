@@ -6,12 +6,13 @@ use mathlib.Core.List.{List, [], _∷_, _++_, append-assoc}
 use native.Mathlib.Omega.{arith}
 use lib.Dec.{eqb}
 use lib.ListN.{length, take, drop, length-append, length-take, length-drop, take-append-drop, drop-of-length-le}
-use lib.Seq.{take-at, drop-at, drop-drop, getD-drop}
+use lib.Seq.{drop-drop, getD-drop}
 use borrow.Author.Tests.{eqb-true, ltb-true}
 use Rattle.buffers.specs.Lists.{all}
 use Rattle.buffers.specs.Words.{number, spelled, AllBytes}
 use Rattle.buffers.proofs.Tests.{and-both}
 use Rattle.buffers.proofs.Words.{length-spelled, number-spelled, spelled-number}
+use Rattle.buffers.proofs.Parts.{middle}
 use Rattle.settings.specs.declared.Settings.{Settings}
 use Rattle.settings.specs.declared.Rule.{Rule}
 use Rattle.settings.specs.Bytes.{ruleBytes, rulesBytes, settingsBytes, wordAt, ruleAt, settingsOf, isWord, ruleFits, settingsFit}
@@ -77,10 +78,6 @@ settings-length s f =
 
 word-back : (n : ℕ) → isWord n ≡ true → number (spelled 8 n) ≡ n
 word-back n h = number-spelled 8 n (omega (arith, ltb-true n 18446744073709551616 h))
-
--- A part in the middle.
-middle : (h p t : List ℕ) (a n : ℕ) → length h ≡ a → length p ≡ n → take n (drop a (h ++ (p ++ t))) ≡ p
-middle h p t a n e f = rw (drop-at h (p ++ t) a e) (take-at p t n f)
 
 rule-back : (u : Rule) (h t : List ℕ) (a : ℕ) → length h ≡ a → ruleFits u ≡ true → ruleAt (h ++ (ruleBytes u ++ t)) a ≡ u
 rule-back u h t a e f =

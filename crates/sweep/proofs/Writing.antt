@@ -1,12 +1,12 @@
 -- Laws of a row read into arrays and written again.
 use Prim.Native.Nat.{ℕ, _+_, _-_, _*_, _≤_}
-use mathlib.Core.Path.{_≡_, refl, sym, ap, _∙_}
-use mathlib.Core.List.{List, [], _++_, append-nil, append-assoc}
+use mathlib.Core.Path.{_≡_, refl, ap, _∙_}
+use mathlib.Core.List.{List, [], _++_, append-nil}
 use native.Mathlib.Omega.{arith}
-use lib.ListN.{length, take, drop, length-take, length-drop, drop-of-length-le, take-append-drop}
-use lib.Seq.{drop-drop}
-use Rattle.buffers.specs.Writes.{Wrote, placed}
+use lib.ListN.{length, take, drop, length-take, length-drop, drop-of-length-le}
+use Rattle.buffers.specs.Writes.{Wrote}
 use Rattle.buffers.proofs.Writes.{placed-twice}
+use Rattle.buffers.proofs.Parts.{placed-same}
 use Rattle.sweep.specs.Passes.{Place, Put}
 
 -- An array that is written whole holds what was written.
@@ -25,13 +25,6 @@ put-as at x y xs ys n b n′ b′ p e f = record { numbers-are = p .numbers-are 
 -- The same in both halves.
 pub put-as-both : (at : ℕ) (f x y xs ys n b n′ b′ : List ℕ) → Put at (f ++ x) (y ++ y) n b n′ b′ → x ≡ xs → y ≡ ys → Put at (f ++ xs) (ys ++ ys) n b n′ b′
 put-as-both at f x y xs ys n b n′ b′ p e h = record { numbers-are = p .numbers-are ∙ rw e; keys-are = p .keys-are ∙ rw h }
-
--- A row in place already.
-placed-same : (l : List ℕ) (a k : ℕ) → a + k ≤ length l → l ≡ placed l a (take k (drop a l))
-placed-same l a k h =
-    let s : length (take k (drop a l)) ≡ k = simp (length-take, length-drop) (omega arith) in
-    let d : drop (a + k) l ≡ drop k (drop a l) = sym (drop-drop k a l) in
-    rw (s, d, append-assoc, take-append-drop k (drop a l), take-append-drop a l)
 
 pub put-same : (from to : ℕ) (n b : List ℕ) → from ≡ to → Place from n b → Put to (take 8 (drop (8 * from) n)) (take 64 (drop (64 * from) b)) n b n b
 put-same from to n b e p =

@@ -10,13 +10,12 @@ use lib.Seq.{length-take-le, drop-cons, set-split, split-at}
 use borrow.Author.Tests.{le-leb}
 use Rattle.buffers.specs.Writes.{placed}
 use Rattle.buffers.proofs.Tests.{and-i}
-use Rattle.buffers.proofs.Lists.{all-append, all-set}
+use Rattle.buffers.proofs.Lists.{all-append, all-set, all-take, all-drop}
 use Rattle.blocks.specs.Blocks.{blockOf}
 use Rattle.model.specs.Rows.{Row}
 use Rattle.table.specs.Layout.{numbersOfRow, keysOf, keysFit, Holds}
 use Rattle.table.specs.Changes.{insertAt, removeAt}
 use Rattle.table.specs.Moves.{opened, closed}
-use Rattle.table.proofs.Lists.{all-take, all-drop}
 use Rattle.table.proofs.Laying.{Laying, lay-insert, lay-double, lay-remove, lay-rewrite}
 use Rattle.table.proofs.Held.{numbers-laying, keys-laying, held-fit}
 

@@ -14,7 +14,7 @@ use Rattle.blocks.proofs.Blocks.{block-length, key-back, block-first}
 use Rattle.model.specs.Rows.{Row}
 use Rattle.table.specs.Layout.{numbersOfRow, numbersOf, keysOf, rowIn, rowAt, rowsOf, capacity, keysFit, Holds}
 use Rattle.table.specs.Places.{keyAt}
-use Rattle.table.proofs.Lists.{all-at}
+use Rattle.buffers.proofs.Lists.{all-at}
 use Rattle.table.proofs.Laying.{Laying, lay-length, lay-rest}
 
 -- ## The two layouts

@@ -1,4 +1,3 @@
-pub mod Lists
 pub mod Pieces
 pub mod Laying
 pub mod Held

@@ -8,11 +8,8 @@ use lib.Seq.{take-at, drop-at, drop-drop}
 use Rattle.buffers.specs.Moves.{movedUp, movedDown}
 use Rattle.buffers.specs.Writes.{placed}
 use Rattle.buffers.proofs.Moves.{length-up, length-down}
+use Rattle.buffers.proofs.Parts.{middle}
 use Rattle.table.specs.Moves.{between}
-
--- the piece p behind a
-piece : (a p r : List ℕ) (i e : ℕ) → length a ≡ i → i + length p ≡ e → take (e - i) (drop i (a ++ (p ++ r))) ≡ p
-piece a p r i e h g = rw (drop-at a (p ++ r) i h) (take-at p r (e - i) (omega arith))
 
 -- another piece of the same length in its place
 pub replaced : (a p q r : List ℕ) (i : ℕ) → length a ≡ i → length q ≡ length p → placed (a ++ (p ++ r)) i q ≡ a ++ (q ++ r)
@@ -23,7 +20,7 @@ replaced a p q r i h g =
 
 changed : (f : List ℕ → List ℕ) (a p q r : List ℕ) (i e : ℕ) → length a ≡ i → i + length p ≡ e → f p ≡ q → length q ≡ length p → between i e f (a ++ (p ++ r)) ≡ a ++ (q ++ r)
 changed f a p q r i e h g m l =
-    ap (λ (x : List ℕ). placed (a ++ (p ++ r)) i (f x)) (piece a p r i e h g) ∙ ap (λ (x : List ℕ). placed (a ++ (p ++ r)) i x) m ∙ replaced a p q r i h l
+    ap (λ (x : List ℕ). placed (a ++ (p ++ r)) i (f x)) (middle a p r i (e - i) h (omega arith)) ∙ ap (λ (x : List ℕ). placed (a ++ (p ++ r)) i x) m ∙ replaced a p q r i h l
 
 module _ (k : ℕ) (a r : List ℕ) (i e : ℕ) (h : length a ≡ i) where
   -- moved up over a last piece of k elements

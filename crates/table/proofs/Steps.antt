@@ -10,7 +10,7 @@ use borrow.Rule.Slice.PartMut.{midOf, putMid}
 use Rattle.buffers.specs.Moves.{movedUp, movedDown}
 use Rattle.buffers.specs.Writes.{placed, Wrote}
 use Rattle.buffers.proofs.Moves.{length-up, length-down}
-use Rattle.buffers.proofs.Parts.{part-back}
+use Rattle.buffers.proofs.Parts.{part-back, part-cut}
 use Rattle.blocks.specs.Blocks.{blockOf, keyIn}
 use Rattle.model.specs.Rows.{Row}
 use Rattle.table.specs.declared.Numbers.{Numbers}
@@ -54,7 +54,7 @@ numbers-written l i x0 x1 x2 x3 x4 x5 x6 x7 h =
 
 module _ (keys : List ℕ) (at : ℕ) where
   block-cut : take (64 * at + 64 - 64 * at) (drop (64 * at) keys) ≡ take 64 (drop (64 * at) keys)
-  block-cut = let q : 64 * at + 64 - 64 * at ≡ 64 = omega arith in rw q
+  block-cut = part-cut keys (64 * at) 64
 
   pub key-room : 64 * at + 64 ≤ length keys → 64 ≤ length (take (64 * at + 64 - 64 * at) (drop (64 * at) keys))
   key-room h = let d = length-drop (64 * at) keys in rw (block-cut, length-take-le 64 (drop (64 * at) keys) (omega arith)) (omega arith)

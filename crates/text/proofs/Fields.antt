@@ -165,9 +165,5 @@ pub place-field : (s : List ℕ) (i : ℕ) → partOf s (placeOf s i) ≡ fieldO
 unfolding placeOf
 place-field s i = rw (← from-start s i) (first-taken (drop (startOf s i) s))
 
--- A part, as the code cuts it out.
-pub part-cut : (s : List ℕ) (p : Place) → take (p .start + p .len - p .start) (drop (p .start) s) ≡ partOf s p
-part-cut s p = let q : p .start + p .len - p .start ≡ p .len = omega arith in ap (λ (k : ℕ). take k (drop (p .start) s)) q
-
 pub field-found : (s : List ℕ) (i : ℕ) (p : Place) (t : List ℕ) → Found s i p → t ≡ partOf s p → t ≡ fieldOf s i
 field-found s i p t f e = e ∙ ap (λ (x : Place). partOf s x) (f .is) ∙ place-field s i

@@ -2,7 +2,7 @@
 use Prim.Native.Nat.{ℕ, zero, suc, _+_, _-_, _≤_, _<_}
 use mathlib.Core.Path.{_≡_, refl, sym, _∙_, subst}
 use mathlib.Core.Logic.{inl, inr}
-use mathlib.Core.Bool.{Bool, true, false, _||_, false≢true}
+use mathlib.Core.Bool.{Bool, false, _||_, or-assoc, or-false, false≢true}
 use mathlib.Core.List.{List, [], _∷_}
 use native.Mathlib.Omega.{arith}
 use lib.Dec.{eqb}
@@ -11,6 +11,7 @@ use lib.Seq.{drop-drop, length-take-le}
 use borrow.Author.Tests.{eq-eqb, ne-eqb}
 use Rattle.buffers.specs.Ranges.{Within}
 use Rattle.buffers.proofs.Tests.{either}
+use Rattle.buffers.proofs.Parts.{part-cut}
 use Rattle.text.specs.Fields.{onFirst}
 use Rattle.text.specs.Keys.{has}
 use Rattle.text.specs.Lines.{linesOf, feedAt}
@@ -18,17 +19,9 @@ use Rattle.text.proofs.Scans.{next}
 
 -- ## Blocks without a line feed
 
-or-assoc : (a b c : Bool) → a || (b || c) ≡ (a || b) || c
-or-assoc true b c = refl
-or-assoc false b c = refl
-
-or-false : (a : Bool) → a || false ≡ a
-or-false true = refl
-or-false false = refl
-
 module _ (s : List ℕ) (f : Bool) (i : ℕ) (l : length s ≡ 16) (q : has s 10 ≡ f || has (drop i s) 10) where
   pub found-step : i < 16 → has s 10 ≡ (f || eqb (getD s i 0) 10) || has (drop (i + 1) s) 10
-  found-step h = q ∙ rw (next s i (omega arith)) (or-assoc f (eqb (getD s i 0) 10) (has (drop (i + 1) s) 10))
+  found-step h = q ∙ rw (next s i (omega arith)) (sym (or-assoc f (eqb (getD s i 0) 10) (has (drop (i + 1) s) 10)))
 
   pub found-end : 16 ≤ i → f ≡ has s 10
   found-end h = sym (q ∙ rw (drop-of-length-le s {i = i} (omega arith)) (or-false f))
@@ -53,9 +46,8 @@ feed-clear (suc k) (b ∷ s) h e =
 module _ (s : List ℕ) (i : ℕ) (h : 16 ≤ length s - i) where
   pub block-long : length (take (i + 16 - i) (drop i s)) ≡ 16
   block-long =
-      let q : i + 16 - i ≡ 16 = omega arith in
       let d = length-drop i s in
-      rw q (length-take-le 16 (drop i s) (omega arith))
+      rw (part-cut s i 16) (length-take-le 16 (drop i s) (omega arith))
 
   pub skip-step : (r : Bool) → r ≡ has (take (i + 16 - i) (drop i s)) 10 → r ≡ false → feedAt s ≡ i + feedAt (drop i s) → feedAt s ≡ i + 16 + feedAt (drop (i + 16) s)
   skip-step r e t q =

@@ -4,10 +4,9 @@ use mathlib.Core.Path.{_≡_, refl, sym, ap, _∙_}
 use mathlib.Core.Bool.{Bool, true, false}
 use mathlib.Core.List.{List, [], _∷_}
 use native.Mathlib.Omega.{arith}
-use native.Mathlib.Nat.{le-of-eq}
 use native.Mathlib.Numerals.{add-one}
-use lib.ListN.{length, getD, take, drop, length-drop, drop-of-length-le}
-use lib.Seq.{take-all, drop-cons}
+use lib.ListN.{length, getD, drop, drop-of-length-le}
+use lib.Seq.{drop-cons}
 use lib.Dec.{eqb}
 use borrow.Author.Tests.{eq-eqb, ne-eqb}
 use Rattle.buffers.specs.Choices.{pick}
@@ -18,9 +17,6 @@ use Rattle.text.specs.Keys.{has}
 
 pub next : (s : List ℕ) (i : ℕ) → i < length s → drop i s ≡ getD s i 0 ∷ drop (i + 1) s
 next s i h = rw (add-one, drop-cons s i 0)
-
-pub rest-all : (n : ℕ) (s : List ℕ) → take (length s - n) (drop n s) ≡ drop n s
-rest-all n s = take-all (length s - n) (drop n s) (le-of-eq (length-drop n s))
 
 -- ## Every byte passes a test
 

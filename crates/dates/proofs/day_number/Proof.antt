@@ -1,7 +1,6 @@
 -- `day_number` meets its contract.
-use Rattle.buffers.proofs.Choices.{picks}
+use Rattle.buffers.proofs.Choices.{picks, some-is}
 use Rattle.calendar.proofs.Days.{valid-bounds}
-use Rattle.dates.proofs.Reading.{some-is}
 use Rattle.dates.specs.Reading.{dayNumber}
 use borrow.Author.Needs.{needs}
 use Rattle.dates.proofs.day_number.Statement.{statement}

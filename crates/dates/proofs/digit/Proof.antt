@@ -1,6 +1,6 @@
 -- `digit` meets its contract.
-use Rattle.buffers.proofs.Choices.{picks}
-use Rattle.dates.proofs.Reading.{digit-test, some-is}
+use Rattle.buffers.proofs.Choices.{picks, some-is}
+use Rattle.dates.proofs.Reading.{digit-test}
 use Rattle.dates.specs.Reading.{digitOf}
 use borrow.Author.Needs.{needs}
 use Rattle.dates.proofs.digit.Statement.{statement}

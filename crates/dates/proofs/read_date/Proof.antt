@@ -1,6 +1,6 @@
 -- `read_date` meets its contract.
-use Rattle.buffers.proofs.Choices.{picks}
-use Rattle.dates.proofs.Reading.{bounds, some-is}
+use Rattle.buffers.proofs.Choices.{picks, some-is}
+use Rattle.dates.proofs.Reading.{bounds}
 use Rattle.dates.specs.Reading.{readDate}
 use Rattle.text.proofs.Values.{values}
 use borrow.Author.Needs.{needs}

@@ -1,6 +1,5 @@
 -- `read_rights` meets its contract.
-use Rattle.buffers.proofs.Choices.{picks}
-use Rattle.fields.proofs.Answers.{some-is}
+use Rattle.buffers.proofs.Choices.{picks, some-is}
 use Rattle.fields.specs.Fields.{rightsOf}
 use borrow.Author.Needs.{needs}
 use Rattle.fields.proofs.read_rights.Statement.{statement}

@@ -2,7 +2,7 @@
 use Rattle.lifecycle.proofs.Words.{Alike, alike-start, word-again, word-cases}
 use Prim.Native.Nat.{_-_}
 use native.Mathlib.Omega.{arith}
-use Rattle.lifecycle.proofs.Parts.{block-long}
+use Rattle.blocks.proofs.Blocks.{block-long}
 use borrow.Author.Needs.{needs}
 use Rattle.lifecycle.proofs.same_block.Statement.{statement}
 use Rattle.lifecycle.proofs.same_block.Tie as tie

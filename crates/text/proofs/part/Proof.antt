@@ -1,5 +1,5 @@
 -- `part` meets its contract.
-use Rattle.text.proofs.Fields.{part-cut}
+use Rattle.buffers.proofs.Parts.{part-cut}
 use borrow.Author.Needs.{needs}
 use Rattle.text.proofs.part.Statement.{statement}
 use Rattle.text.proofs.part.Tie as tie
