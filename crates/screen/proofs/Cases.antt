@@ -3,7 +3,6 @@ use Prim.Native.Nat.{ℕ}
 use mathlib.Core.Path.{_≡_, refl, sym, _∙_, ap}
 use mathlib.Core.Bool.{Bool, true, false, not, and-true}
 use mathlib.Core.List.{List}
-use Rattle.buffers.specs.Choices.{pick}
 use Rattle.model.specs.Settings.{Config}
 use Rattle.model.specs.Requests as model
 use Rattle.model.specs.Requests.{retentionOf}
@@ -19,7 +18,6 @@ use Rattle.fields.specs.Meaning.{untilMeans, rightsMeans}
 use Rattle.request.specs.Meaning.{retentionMeans, actionMeans, settingMeans, verbMeans}
 use Rattle.request.proofs.Actions.{action-unset}
 use Rattle.screen.specs.Screen.{screened}
-use Rattle.screen.proofs.Rights.{mayAct, act-rights}
 
 -- ## Fields
 
@@ -35,11 +33,7 @@ retention-at line a b r e h = cc
 pub date-at : (now : ℕ) (d e : Until) (r : Bool) → d ≡ e → r ≡ isPast now (untilMeans e) → r ≡ isPast now (untilMeans d)
 date-at now d e r q h = cc
 
--- A right that is needed where a field is given.
-pub needed-at : (n m t r : Bool) → r ≡ pick n t true → n ≡ m → r ≡ pick m t true
-needed-at n m t r e q = cc
-
-pub ruleset parts = (one-of-at, half-setting, retention-at, date-at, needed-at)
+pub ruleset parts = (one-of-at, half-setting, retention-at, date-at)
 
 -- ## 4
 
@@ -62,9 +56,6 @@ module _ (line : List ℕ) (v : Verb) (r : Bool) where
 pub ruleset halves = (refl, half-act, half-set, half-sweep)
 
 -- ## 5
-
-pub act-at : (s : Config) (line : List ℕ) (a : Rights) (x y : Action) (r : Bool) → x ≡ y → r ≡ mayAct a y → lacksRight s (rightsMeans a) (actionMeans line x) ≡ not r
-act-at s line a x y r e h = rw (e, h) (act-rights s a line y)
 
 module _ (s : Config) (line : List ℕ) (a : Rights) (v : Verb) where
   pub act-allowed : (x : Action) (r : Bool) → v ≡ Act x → ((s′ : Config) (l : List ℕ) → lacksRight s′ (rightsMeans a) (actionMeans l x) ≡ not r) → lacksRight s (rightsMeans a) (verbMeans line v) ≡ not r

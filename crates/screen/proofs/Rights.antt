@@ -1,33 +1,24 @@
--- Refusal 5: the rights of an action in the code's order of tests are those that the model needs.
+-- Refusal 5: the rights that the code asks for are those that the model needs.
 use Prim.Native.Nat.{ℕ}
 use mathlib.Core.Path.{_≡_, refl, ap}
 use mathlib.Core.Bool.{Bool, true, false, not, _&&_, and-true}
 use mathlib.Core.List.{List, [], _∷_}
 use Rattle.buffers.specs.Choices.{pick, isSome}
 use Rattle.buffers.specs.Lists.{all}
+use Rattle.text.specs.declared.Place.{Place}
 use Rattle.text.specs.Fields.{partOf}
 use Rattle.model.specs.Settings.{Config}
-use Rattle.model.specs.Requests.{Letter, writing, deleting, retaining, holding, bypassing, has}
-use Rattle.model.specs.Refusals.{Need, needIf, need, needs, granted, lacksRight}
+use Rattle.model.specs.Requests.{Letter, deleting, retaining, holding, bypassing, has}
+use Rattle.model.specs.Refusals.{Need, needIf, need, putNeeds, needs, granted, lacksRight}
 use Rattle.fields.specs.declared.Rights.{Rights}
+use Rattle.request.specs.declared.Name.{Name}
+use Rattle.request.specs.declared.Retention.{Retention}
+use Rattle.request.specs.declared.Terms.{Terms}
 use Rattle.request.specs.declared.Action.{Action}
 use Rattle.request.specs.declared.Action.the-variants.{Put, Copy, Retain, SetHold, AddMarker, DeleteVersion, Get}
 use Rattle.fields.specs.Meaning.{modeMeans, holdMeans, rightsMeans}
-use Rattle.request.specs.Meaning.{actionMeans}
+use Rattle.request.specs.Meaning.{termsMeans, actionMeans}
 use Rattle.screen.specs.Screen.{mayPut}
-
--- b if bypass is yes
-abbrev mayBypass : Rights → Bool → Bool
-mayBypass a y = pick y (a .b) true
-
-unfoldable pub mayAct : Rights → Action → Bool
-mayAct a (Put k body size t) = mayPut a t
-mayAct a (Copy n k t) = a .r && mayPut a t
-mayAct a (Retain n r y) = a .t && mayBypass a y
-mayAct a (SetHold n on) = a .h
-mayAct a (AddMarker k y) = a .d && mayBypass a y
-mayAct a (DeleteVersion k v y) = a .d && mayBypass a y
-mayAct a (Get n) = a .r
 
 -- All of these needs are held.
 abbrev held : Rights → List Need → Bool
@@ -37,18 +28,49 @@ held-if : (a : Rights) (given : Bool) (l : Letter) (k : List ℕ) (ns : List Nee
 held-if a true l k ns = refl
 held-if a false l k ns = refl
 
-put-rights : (a : Rights) (k : List ℕ) (m o : Bool) → held a (need writing k ∷ needIf m retaining k (needIf o holding k [])) ≡ (a .w && (pick m (a .t) true && pick o (a .h) true))
-put-rights a k m o = rw (held-if a m retaining k (needIf o holding k []), held-if a o holding k [], and-true (pick o (a .h) true))
+-- PUT's rights, in the code's order.
+pub may-put : (a : Rights) (t : Terms) (m o x y : Bool) → m ≡ isSome (modeMeans (t .retention .mode)) → o ≡ isSome (holdMeans (t .hold)) → x ≡ pick m (a .t) true → y ≡ pick o (a .h) true
+    → (a .w && (x && y)) ≡ mayPut a t
+unfolding mayPut
+may-put a t m o x y em eo ex ey = rw (ex, ey, em, eo)
 
-bypass-rights : (a : Rights) (l : Letter) (k : List ℕ) (y : Bool) → held a (need l k ∷ needIf y bypassing k []) ≡ (has (rightsMeans a) l && mayBypass a y)
-bypass-rights a l k y = rw (held-if a y bypassing k [], and-true (mayBypass a y))
+put-held : (a : Rights) (k : List ℕ) (t : Terms) → held a (putNeeds k (termsMeans t)) ≡ mayPut a t
+unfolding mayPut
+put-held a k t =
+    let o = isSome (holdMeans (t .hold)) in
+    rw (held-if a (isSome (modeMeans (t .retention .mode))) retaining k (needIf o holding k []), held-if a o holding k [], and-true (pick o (a .h) true))
 
-pub act-rights : (s : Config) (a : Rights) (line : List ℕ) (x : Action) → lacksRight s (rightsMeans a) (actionMeans line x) ≡ not (mayAct a x)
-unfolding lacksRight needs granted mayAct mayPut
-act-rights s a line (Put k body size t) = ap not (put-rights a (partOf line k) (isSome (modeMeans (t .retention .mode))) (isSome (holdMeans (t .hold))))
-act-rights s a line (Copy n k t) = ap (λ (x : Bool). not (a .r && x)) (put-rights a (partOf line k) (isSome (modeMeans (t .retention .mode))) (isSome (holdMeans (t .hold))))
-act-rights s a line (Retain n r y) = ap not (bypass-rights a retaining (partOf line (n .key)) y)
-act-rights s a line (SetHold n on) = ap not (and-true (a .h))
-act-rights s a line (AddMarker k y) = ap not (bypass-rights a deleting (partOf line k) y)
-act-rights s a line (DeleteVersion k u y) = ap not (bypass-rights a deleting (partOf line k) y)
-act-rights s a line (Get n) = ap not (and-true (a .r))
+bypass-held : (a : Rights) (l : Letter) (k : List ℕ) (y : Bool) → held a (need l k ∷ needIf y bypassing k []) ≡ (has (rightsMeans a) l && pick y (a .b) true)
+bypass-held a l k y = rw (held-if a y bypassing k [], and-true (pick y (a .b) true))
+
+-- Each action.
+module _ (s : Config) (line : List ℕ) (a : Rights) (x : Action) where
+  pub act-put : (k : Place) (body size : ℕ) (t : Terms) (r : Bool) → x ≡ Put k body size t → r ≡ mayPut a t → lacksRight s (rightsMeans a) (actionMeans line x) ≡ not r
+  unfolding lacksRight needs granted
+  act-put k body size t r e h = rw (e, h) (ap not (put-held a (partOf line k) t))
+
+  pub act-copy : (n : Name) (k : Place) (t : Terms) (r : Bool) → x ≡ Copy n k t → r ≡ mayPut a t → lacksRight s (rightsMeans a) (actionMeans line x) ≡ not (a .r && r)
+  unfolding lacksRight needs granted
+  act-copy n k t r e h = rw (e, h) (ap (λ (b : Bool). not (a .r && b)) (put-held a (partOf line k) t))
+
+  pub act-retain : (n : Name) (r : Retention) (y b : Bool) → x ≡ Retain n r y → b ≡ pick y (a .b) true → lacksRight s (rightsMeans a) (actionMeans line x) ≡ not (a .t && b)
+  unfolding lacksRight needs granted
+  act-retain n r y b e h = rw (e, h) (ap not (bypass-held a retaining (partOf line (n .key)) y))
+
+  pub act-hold : (n : Name) (on : Bool) → x ≡ SetHold n on → lacksRight s (rightsMeans a) (actionMeans line x) ≡ not (a .h)
+  unfolding lacksRight needs granted
+  act-hold n on e = rw e (ap not (and-true (a .h)))
+
+  pub act-marker : (k : Place) (y b : Bool) → x ≡ AddMarker k y → b ≡ pick y (a .b) true → lacksRight s (rightsMeans a) (actionMeans line x) ≡ not (a .d && b)
+  unfolding lacksRight needs granted
+  act-marker k y b e h = rw (e, h) (ap not (bypass-held a deleting (partOf line k) y))
+
+  pub act-delete : (k : Place) (u : ℕ) (y b : Bool) → x ≡ DeleteVersion k u y → b ≡ pick y (a .b) true → lacksRight s (rightsMeans a) (actionMeans line x) ≡ not (a .d && b)
+  unfolding lacksRight needs granted
+  act-delete k u y b e h = rw (e, h) (ap not (bypass-held a deleting (partOf line k) y))
+
+  pub act-get : (n : Name) → x ≡ Get n → lacksRight s (rightsMeans a) (actionMeans line x) ≡ not (a .r)
+  unfolding lacksRight needs granted
+  act-get n e = rw e (ap not (and-true (a .r)))
+
+pub ruleset acts = (act-put, act-copy, act-retain, act-hold, act-marker, act-delete, act-get)
