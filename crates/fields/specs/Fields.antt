@@ -12,7 +12,7 @@ use Rattle.text.specs.Numbers.{positiveOf}
 use Rattle.text.specs.Keys.{isKey, isPrefix, has}
 use Rattle.dates.specs.Reading.{readDate}
 use Rattle.model.specs.Rows.{governance, compliance}
-use Rattle.model.specs.Settings.{days, years}
+use Rattle.model.specs.Settings.{days, years, largestNumber}
 use Rattle.model.specs.Requests.{Rights, Version, numbered, Period}
 
 abbrev pub dash : List ℕ
@@ -46,7 +46,7 @@ prefixOf s = pick (isPrefix s) (some s) none
 
 -- a version number, or `-`
 unfoldable pub versionOf : List ℕ → Option (Option Version)
-versionOf s = pick (same s dash) (some none) (thenSome (positiveOf 4294967295 s) none (λ n. some (some (numbered n))))
+versionOf s = pick (same s dash) (some none) (thenSome (positiveOf largestNumber s) none (λ n. some (some (numbered n))))
 
 -- GOVERNANCE, COMPLIANCE or `-`
 unfoldable pub modeOf : List ℕ → Option (Option ℕ)

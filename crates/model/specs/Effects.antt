@@ -8,7 +8,7 @@ use lib.ListN.{set}
 use Rattle.buffers.specs.Choices.{pick, thenSome, orZero}
 use Rattle.buffers.specs.Lists.{keep, first, change, same}
 use Rattle.model.specs.Rows.{Row, before}
-use Rattle.model.specs.Settings.{Default, Config, Settings, Bucket, absentRule, isSet}
+use Rattle.model.specs.Settings.{Rule, Default, Config, Settings, Bucket, absentRule, isSet}
 use Rattle.model.specs.Requests.{Version, numbered, Name, Terms, Period, Setting, DefaultRetention, LifecycleRule, name, Verb, Put, Copy, Retain, Hold, AddMarker, DeleteVersion, Set, Sweep, Ask, Request, settingOf}
 use Rattle.model.specs.Time.{Now, nowOf, newMode, newUntil}
 use Rattle.model.specs.Sweep.{marker, marks, removes, swept, counted}
@@ -112,10 +112,14 @@ rowsAfter b now (Ask q) = b .rows
 abbrev pub defaultFrom : Option ℕ → Option Period → Default
 defaultFrom m p = record { mode = orZero m; count = thenSome p 0 (λ q. q .count); unit = thenSome p 0 (λ q. q .unit) }
 
+-- What is stored of a rule: one without an action is absent.
+abbrev pub stored : Rule → Rule
+stored u = pick (isSet u) u absentRule
+
 -- Both `-` clears the default; both 0 clears the rule.
 unfoldable pub setConfig : Setting → Config → Config
 setConfig (DefaultRetention m p) s = record { default = defaultFrom m p; rules = s .rules }
-setConfig (LifecycleRule i u) s = record { default = s .default; rules = set (s .rules) i (pick (isSet u) u absentRule) }
+setConfig (LifecycleRule i u) s = record { default = s .default; rules = set (s .rules) i (stored u) }
 
 unfoldable pub configAfter : Config → Verb → Config
 configAfter s v = thenSome (settingOf v) s (λ a. setConfig a s)

@@ -36,7 +36,10 @@ pub record Bucket : Type 0 where
   pub settings : Settings
   pub rows : List Row
 
--- The next version number that means spent: one more than the largest.
+-- The largest version number, and the next version number that means spent: one more.
+abbrev pub largestNumber : ℕ
+largestNumber = 4294967295
+
 abbrev pub spentNumber : ℕ
 spentNumber = 4294967296
 

@@ -3,9 +3,9 @@ use Prim.Native.Nat.{ℕ}
 use mathlib.Core.Path.{_≡_}
 use mathlib.Core.Bool.{Bool, true, _&&_}
 use lib.ListN.{set}
-use Rattle.buffers.specs.Choices.{pick}
 use Rattle.blocks.specs.Blocks.{isBlock}
 use Rattle.model.specs.Settings as model
+use Rattle.model.specs.Effects.{stored}
 use Rattle.settings.specs.declared.Settings.{Settings}
 use Rattle.settings.specs.declared.Rule.{Rule}
 use Rattle.settings.specs.Meaning.{ruleMeans, rulesMean, settingsMean, prefixesAre, settingsSound}
@@ -29,10 +29,6 @@ withDefault s mode count unit =
 abbrev pub withProgress : Settings → ℕ → ℕ → ℕ → Settings
 withProgress s time used next =
     record { time = time; used = used; next = next; mode = s .mode; count = s .count; unit = s .unit; rules = s .rules }
-
--- what is stored of a rule: the rule where it has an action, else the absent rule
-abbrev pub stored : model.Rule → model.Rule
-stored u = pick (model.isSet u) u model.absentRule
 
 -- r stands for the stored rule, its prefix in 64 bytes
 pub record Stored (u : model.Rule) (r : Rule) : Type 0 where
