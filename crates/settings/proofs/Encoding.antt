@@ -63,14 +63,12 @@ rules-start out at =
     record { next = refl; holds = rw (e, append-nil) (sym (take-append-drop at out)); long = refl; most = omega arith }
 
 module _ (us : List Rule) (out : List ℕ) (at k : ℕ) (exit : List ℕ) where
-  pub rules-step : (m : List ℕ) → Wrote out at (rulesBytes (take k us)) (80 * k) m (at + 80 * k)
-      → Wrote m (at + 80 * k) (ruleBytes (at-place us k)) 80 exit (at + 80 * k + 80) → k < length us → at ≤ length out
-      → Wrote out at (rulesBytes (take (k + 1) us)) (80 * (k + 1)) exit (at + 80 * (k + 1))
-  rules-step m v w h l =
-      let u = at-place us k in
-      let b = wrote-both out at (rulesBytes (take k us)) (80 * k) m (at + 80 * k) (ruleBytes u) 80 exit (at + 80 * k + 80) l v w in
-      let n : length (rulesBytes (take k us) ++ ruleBytes u) ≡ 80 * (k + 1) = omega (arith, b .next) in
-      rw (rules-more us k h) (exact out at (rulesBytes (take k us) ++ ruleBytes u) (80 * (k + 1)) (80 * k + 80) exit (at + 80 * k + 80) b n)
+  pub rules-step : (m vs : List ℕ) (p : ℕ) → Wrote m p vs 80 exit (p + 80) → p ≡ at + 80 * k → vs ≡ ruleBytes (at-place us k) → length us ≡ 8 → k < 8 → at + 640 ≤ length out
+      → Wrote out at (rulesBytes (take k us)) (80 * k) m (at + 80 * k) → Wrote out at (rulesBytes (take (k + 1) us)) (80 * (k + 1)) exit (at + 80 * (k + 1))
+  rules-step m vs p w q e n h l v =
+      let b = wrote-both out at (rulesBytes (take k us)) (80 * k) m (at + 80 * k) vs 80 exit (at + 80 * k + 80) (omega arith) v (rw q at w) in
+      let i : length (rulesBytes (take k us) ++ vs) ≡ 80 * (k + 1) = omega (arith, b .next) in
+      rw (rules-more us k (omega arith), ← e) (exact out at (rulesBytes (take k us) ++ vs) (80 * (k + 1)) (80 * k + 80) exit (at + 80 * k + 80) b i)
 
   pub rules-end : length us ≡ 8 → k ≤ 8 → 8 ≤ k → Wrote out at (rulesBytes (take k us)) (80 * k) exit (at + 80 * k) → Wrote out at (rulesBytes us) 640 exit (at + 640)
   rules-end e h l w =
