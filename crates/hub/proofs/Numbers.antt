@@ -60,7 +60,7 @@ read-end t b n i l h k e =
 
 -- the first i numbers are written
 abbrev pub Writing : List ℕ → List ℕ → List ℕ → ℕ → Type 0
-Writing ns b₀ b i = (i ≤ length ns) × Wrote b₀ 0 (numbersBytes (take i ns)) (8 * i) b (8 * i)
+Writing ns b₀ b i = Wrote b₀ 0 (numbersBytes (take i ns)) (8 * i) b (8 * i)
 
 bytes-append : (ns ms : List ℕ) → numbersBytes (ns ++ ms) ≡ numbersBytes ns ++ numbersBytes ms
 unfolding numbersBytes
@@ -75,20 +75,19 @@ pub write-start : (b : List ℕ) → Wrote b 0 (numbersBytes []) 0 b 0
 unfolding numbersBytes
 write-start b = record { next = refl; holds = refl; long = refl; most = omega arith }
 
-pub write-step : (ns b₀ b exit : List ℕ) (i r : ℕ) → Wrote b₀ 0 (numbersBytes (take i ns)) (8 * i) b (8 * i) → Wrote b (8 * i) (spelled 8 (getD ns i 0)) 8 exit r → i < length ns
-    → Wrote b₀ 0 (numbersBytes (take (i + 1) ns)) (8 * (i + 1)) exit (8 * (i + 1))
-write-step ns b₀ b exit i r v w h =
+pub write-step : (ns b₀ b exit : List ℕ) (i n r : ℕ) → Wrote b (8 * i) (spelled 8 n) 8 exit r → n ≡ getD ns i 0 → i < length ns → Writing ns b₀ b i → Writing ns b₀ exit (i + 1)
+write-step ns b₀ b exit i n r w f h v =
     let vs = numbersBytes (take i ns) in
-    let ws = spelled 8 (getD ns i 0) in
+    let ws = spelled 8 n in
     let both = wrote-both b₀ 0 vs (8 * i) b (8 * i) ws 8 exit r (omega arith) v w in
-    let e : vs ++ ws ≡ numbersBytes (take (i + 1) ns) = sym (rw (add-one, take-suc ns i 0 h, bytes-append (take i ns) (getD ns i 0 ∷ [])) (ap (λ (l : List ℕ). vs ++ l) (bytes-one (getD ns i 0)))) in
-    let n : length (numbersBytes (take (i + 1) ns)) ≡ 8 * (i + 1) = rw (length-bytes, length-take) (omega arith) in
-    let j : length (vs ++ ws) ≡ 8 * (i + 1) = ap length e ∙ n in
+    let e : vs ++ ws ≡ numbersBytes (take (i + 1) ns) = sym (rw (add-one, take-suc ns i 0 h, ← f, bytes-append (take i ns) (n ∷ [])) (ap (λ (l : List ℕ). vs ++ l) (bytes-one n))) in
+    let k : length (numbersBytes (take (i + 1) ns)) ≡ 8 * (i + 1) = rw (length-bytes, length-take) (omega arith) in
+    let j : length (vs ++ ws) ≡ 8 * (i + 1) = ap length e ∙ k in
     let q : r ≡ 8 * (i + 1) = omega (arith, both .next) in
     rw q at (wrote-as b₀ 0 (vs ++ ws) (numbersBytes (take (i + 1) ns)) (8 * i + 8) (8 * (i + 1)) exit r both e (omega arith))
 
-pub write-end : (ns b₀ b : List ℕ) (i : ℕ) → length b₀ ≡ 8 * length ns → i ≤ length ns → length ns ≤ i → Wrote b₀ 0 (numbersBytes (take i ns)) (8 * i) b (8 * i) → b ≡ numbersBytes ns
-write-end ns b₀ b i l h k w =
+pub write-end : (ns b₀ b : List ℕ) (i : ℕ) → length b₀ ≡ 8 * length ns → length ns ≤ i → Writing ns b₀ b i → b ≡ numbersBytes ns
+write-end ns b₀ b i l k w =
     let t : take i ns ≡ ns = take-all i ns k in
     filled b₀ (numbersBytes ns) (8 * i) b (8 * i) (rw t at w) (length-bytes ns ∙ sym l)
 

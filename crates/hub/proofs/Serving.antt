@@ -19,25 +19,30 @@ use Rattle.outcome.proofs.Back.{settings-back}
 use Rattle.outcome.proofs.Demands.{outcome-refused}
 use Rattle.engine.specs.declared.Served.{Served}
 use Rattle.engine.specs.Served.{served}
-use Rattle.hub.specs.Bytes.{numbersFrom, numbersBytes, ByteOutcome, byteOutcome, servedBytes, freshSettings, freshOutcome}
+use Rattle.hub.specs.Bytes.{numbersFrom, numbersBytes, ByteOutcome, byteOutcome, outcomeBytes, servedBytes, freshSettings, freshOutcome}
 
 -- ## A line
 
-module _ (k : ℕ) (settings rows keys line answer : List ℕ) (s : Settings) (n : List ℕ) (r : Served) (n′ keys′ answer′ : List ℕ)
-    (es : s ≡ settingsOf settings) (en : n ≡ numbersFrom k rows) (er : served r n′ keys′ answer′ ≡ outcome s n keys line answer) where
+module _ (s : Settings) (settings rows n keys line answer : List ℕ) (r : Served) (n′ keys′ answer′ : List ℕ) (e : served r n′ keys′ answer′ ≡ outcome s n keys line answer) where
   number-is : r .number ≡ (outcome s n keys line answer) .number
-  number-is = ap (λ (o : Outcome). o .number) er
+  number-is = ap (λ (o : Outcome). o .number) e
 
-  pub line-refused : (r .number ≡ 0 → ⊥) → byteOutcome (r .number) settings rows keys′ answer′ ≡ servedBytes k settings rows keys line answer
+  pub line-refused : (r .number ≡ 0 → ⊥) → byteOutcome (r .number) settings rows keys′ answer′ ≡ outcomeBytes (outcome s n keys line answer) settings rows keys answer
   line-refused z =
       let u : outcome s n keys line answer ≡ refused ((outcome s n keys line answer) .number) s n keys answer = outcome-refused s n keys line answer (λ q. z (number-is ∙ q)) in
-      let ek : keys′ ≡ keys = ap (λ (o : Outcome). o .keys) (er ∙ u) in
-      let ea : answer′ ≡ answer = ap (λ (o : Outcome). o .answer) (er ∙ u) in
-      rw (← es, ← en, ← er, ne-eqb (r .number) 0 z, ek, ea)
+      let ek : keys′ ≡ keys = ap (λ (o : Outcome). o .keys) (e ∙ u) in
+      let ea : answer′ ≡ answer = ap (λ (o : Outcome). o .answer) (e ∙ u) in
+      rw (← e, ne-eqb (r .number) 0 z, ek, ea)
 
   pub line-accepted : (settings′ rows′ : List ℕ) → r .number ≡ 0 → settings′ ≡ settingsBytes (r .settings) → rows′ ≡ numbersBytes n′
-      → byteOutcome 0 settings′ rows′ keys′ answer′ ≡ servedBytes k settings rows keys line answer
-  line-accepted settings′ rows′ z e f = rw (← es, ← en, ← er, eq-eqb (r .number) 0 z, e, f)
+      → byteOutcome 0 settings′ rows′ keys′ answer′ ≡ outcomeBytes (outcome s n keys line answer) settings rows keys answer
+  line-accepted settings′ rows′ z f g = rw (← e, eq-eqb (r .number) 0 z, f, g)
+
+pub ruleset line-cases = (line-refused, line-accepted)
+
+pub line-read : (o : ByteOutcome) (k : ℕ) (s : Settings) (settings rows n keys line answer : List ℕ) → s ≡ settingsOf settings → n ≡ numbersFrom k rows
+    → o ≡ outcomeBytes (outcome s n keys line answer) settings rows keys answer → o ≡ servedBytes k settings rows keys line answer
+line-read o k s settings rows n keys line answer e f q = rw (← e, ← f) q
 
 -- A table of as many numbers as the rows have is lent of the room for all.
 pub part-long : (rows room : List ℕ) → length room ≡ 8192 → length rows ≤ 65536 → length (midOf 0 (length rows / 8 - 0) room) ≡ length rows / 8

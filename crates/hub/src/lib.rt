@@ -5,7 +5,7 @@ ghost use Prim.Native.Nat.{_*_};
 ghost use lib.ListN.{length, replicate};
 ghost use Rattle.outcome.specs.Outcome.{outcome};
 ghost use Rattle.hub.specs.Lent.{lent, lentFrom};
-ghost use Rattle.hub.specs.Bytes.{numbersFrom, numbersBytes, byteOutcome, servedBytes, hubServed, freshOutcome, hubFresh};
+ghost use Rattle.hub.specs.Bytes.{numbersFrom, numbersBytes, byteOutcome, outcomeBytes, servedBytes, hubServed, freshOutcome, hubFresh};
 
 // Serves a line on settings that are lent and altered here, and returns 0 or the refusal.
 pub fn serve_lent(
@@ -55,7 +55,30 @@ fn write_numbers(numbers: &[u64], b: &mut [u8])
     }
 }
 
-// Serves a line on what the bytes spell; only an accepted line writes settings and rows back.
+// Serves a line on what the bytes were read as; only an accepted line writes settings and rows back.
+fn serve_read(
+    s: Settings,
+    settings: &mut [u8],
+    rows: &mut [u8],
+    keys: &mut [u8],
+    line: &[u8],
+    answer: &mut [u8],
+    numbers: &mut [u64],
+) -> u64
+    requires { ⌜ (length (now settings) ≡ 688) × (length (now rows) ≡ 8 * length (now numbers)) ⌝ }
+    ensures { λ r. ⌜ byteOutcome r (now (settings .exit)) (now (rows .exit)) (now (keys .exit)) (now (answer .exit)) ≡ outcomeBytes (outcome s (now (numbers .entry)) (now (keys .entry)) (now (line .entry)) (now (answer .entry))) (now (settings .entry)) (now (rows .entry)) (now (keys .entry)) (now (answer .entry)) ⌝ }
+{
+    let r = engine::serve(s, numbers, keys, line, answer);
+    if r.number != 0 {
+        return r.number;
+    }
+    let after = r.settings;
+    settings::encode(after, settings);
+    write_numbers(numbers, rows);
+    0
+}
+
+// Serves a line on what the bytes spell.
 fn serve_bytes(
     settings: &mut [u8],
     rows: &mut [u8],
@@ -69,14 +92,7 @@ fn serve_bytes(
 {
     let s = settings::decode(settings);
     read_numbers(rows, numbers);
-    let r = engine::serve(s, numbers, keys, line, answer);
-    if r.number != 0 {
-        return r.number;
-    }
-    let after = r.settings;
-    settings::encode(after, settings);
-    write_numbers(numbers, rows);
-    0
+    serve_read(s, settings, rows, keys, line, answer, numbers)
 }
 
 // Serves a line on settings and rows as bytes, and returns 0 or the refusal.

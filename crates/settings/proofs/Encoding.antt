@@ -63,14 +63,12 @@ rules-start out at =
     record { next = refl; holds = rw (e, append-nil) (sym (take-append-drop at out)); long = refl; most = omega arith }
 
 module _ (us : List Rule) (out : List ℕ) (at k : ℕ) (exit : List ℕ) where
-  pub rules-step : (m : List ℕ) → Wrote out at (rulesBytes (take k us)) (80 * k) m (at + 80 * k)
-      → Wrote m (at + 80 * k) (ruleBytes (at-place us k)) 80 exit (at + 80 * k + 80) → k < length us → at ≤ length out
-      → Wrote out at (rulesBytes (take (k + 1) us)) (80 * (k + 1)) exit (at + 80 * (k + 1))
-  rules-step m v w h l =
-      let u = at-place us k in
-      let b = wrote-both out at (rulesBytes (take k us)) (80 * k) m (at + 80 * k) (ruleBytes u) 80 exit (at + 80 * k + 80) l v w in
-      let n : length (rulesBytes (take k us) ++ ruleBytes u) ≡ 80 * (k + 1) = omega (arith, b .next) in
-      rw (rules-more us k h) (exact out at (rulesBytes (take k us) ++ ruleBytes u) (80 * (k + 1)) (80 * k + 80) exit (at + 80 * k + 80) b n)
+  pub rules-step : (m vs : List ℕ) (p : ℕ) → Wrote m p vs 80 exit (p + 80) → p ≡ at + 80 * k → vs ≡ ruleBytes (at-place us k) → length us ≡ 8 → k < 8 → at + 640 ≤ length out
+      → Wrote out at (rulesBytes (take k us)) (80 * k) m (at + 80 * k) → Wrote out at (rulesBytes (take (k + 1) us)) (80 * (k + 1)) exit (at + 80 * (k + 1))
+  rules-step m vs p w q e n h l v =
+      let b = wrote-both out at (rulesBytes (take k us)) (80 * k) m (at + 80 * k) vs 80 exit (at + 80 * k + 80) (omega arith) v (rw q at w) in
+      let i : length (rulesBytes (take k us) ++ vs) ≡ 80 * (k + 1) = omega (arith, b .next) in
+      rw (rules-more us k (omega arith), ← e) (exact out at (rulesBytes (take k us) ++ vs) (80 * (k + 1)) (80 * k + 80) exit (at + 80 * k + 80) b i)
 
   pub rules-end : length us ≡ 8 → k ≤ 8 → 8 ≤ k → Wrote out at (rulesBytes (take k us)) (80 * k) exit (at + 80 * k) → Wrote out at (rulesBytes us) 640 exit (at + 640)
   rules-end e h l w =
@@ -82,21 +80,29 @@ pub ruleset rules-put = (rules-start, rules-step, rules-end)
 
 -- ## The whole
 
-pub encoded : (s : Settings) (b b1 b2 b3 b4 b5 b6 b7 : List ℕ) (r1 r2 r3 r4 r5 r6 : ℕ) → length b ≡ 688
-    → Wrote b 0 (spelled 8 (s .time)) 8 b1 r1
-    → Wrote b1 r1 (spelled 8 (s .used)) 8 b2 r2
-    → Wrote b2 r2 (spelled 8 (s .next)) 8 b3 r3
-    → Wrote b3 r3 (spelled 8 (s .mode)) 8 b4 r4
-    → Wrote b4 r4 (spelled 8 (s .count)) 8 b5 r5
-    → Wrote b5 r5 (spelled 8 (s .unit)) 8 b6 r6
-    → Wrote b6 r6 (rulesBytes (s .rules)) 640 b7 (r6 + 640)
-    → b7 ≡ settingsBytes s
+-- What a call leaves, c, is what the next one finds, b.
+pub encoded : (s : Settings) (b c1 b1 c2 b2 c3 b3 c4 b4 c5 b5 c6 b6 exit : List ℕ) (r1 r2 r3 r4 r5 r6 : ℕ)
+    → Wrote b 0 (spelled 8 (s .time)) 8 c1 r1
+    → Wrote b1 r1 (spelled 8 (s .used)) 8 c2 r2
+    → Wrote b2 r2 (spelled 8 (s .next)) 8 c3 r3
+    → Wrote b3 r3 (spelled 8 (s .mode)) 8 c4 r4
+    → Wrote b4 r4 (spelled 8 (s .count)) 8 c5 r5
+    → Wrote b5 r5 (spelled 8 (s .unit)) 8 c6 r6
+    → Wrote b6 r6 (rulesBytes (s .rules)) 640 exit (r6 + 640)
+    → c1 ≡ b1 → c2 ≡ b2 → c3 ≡ b3 → c4 ≡ b4 → c5 ≡ b5 → c6 ≡ b6 → length b ≡ 688
+    → exit ≡ settingsBytes s
 unfolding settingsBytes
-encoded s b b1 b2 b3 b4 b5 b6 b7 r1 r2 r3 r4 r5 r6 h w1 w2 w3 w4 w5 w6 w7 =
-    let v6 = wrote-both b5 r5 _ 8 b6 r6 _ 640 b7 (r6 + 640) (omega arith) w6 w7 in
-    let v5 = wrote-both b4 r4 _ 8 b5 r5 _ _ b7 (r6 + 640) (omega arith) w5 v6 in
-    let v4 = wrote-both b3 r3 _ 8 b4 r4 _ _ b7 (r6 + 640) (omega arith) w4 v5 in
-    let v3 = wrote-both b2 r2 _ 8 b3 r3 _ _ b7 (r6 + 640) (omega arith) w3 v4 in
-    let v2 = wrote-both b1 r1 _ 8 b2 r2 _ _ b7 (r6 + 640) (omega arith) w2 v3 in
-    let v1 = wrote-both b 0 _ 8 b1 r1 _ _ b7 (r6 + 640) (omega arith) w1 v2 in
-    filled b (settingsBytes s) _ b7 (r6 + 640) v1 (whole-length s (omega (arith, w7 .next)) ∙ sym h)
+encoded s b c1 b1 c2 b2 c3 b3 c4 b4 c5 b5 c6 b6 exit r1 r2 r3 r4 r5 r6 w1 w2 w3 w4 w5 w6 w7 e1 e2 e3 e4 e5 e6 h =
+    let u6 = rw e6 at w6 in
+    let u5 = rw e5 at w5 in
+    let u4 = rw e4 at w4 in
+    let u3 = rw e3 at w3 in
+    let u2 = rw e2 at w2 in
+    let u1 = rw e1 at w1 in
+    let v6 = wrote-both b5 r5 _ 8 b6 r6 _ 640 exit (r6 + 640) (omega arith) u6 w7 in
+    let v5 = wrote-both b4 r4 _ 8 b5 r5 _ _ exit (r6 + 640) (omega arith) u5 v6 in
+    let v4 = wrote-both b3 r3 _ 8 b4 r4 _ _ exit (r6 + 640) (omega arith) u4 v5 in
+    let v3 = wrote-both b2 r2 _ 8 b3 r3 _ _ exit (r6 + 640) (omega arith) u3 v4 in
+    let v2 = wrote-both b1 r1 _ 8 b2 r2 _ _ exit (r6 + 640) (omega arith) u2 v3 in
+    let v1 = wrote-both b 0 _ 8 b1 r1 _ _ exit (r6 + 640) (omega arith) u1 v2 in
+    filled b (settingsBytes s) _ exit (r6 + 640) v1 (whole-length s (omega (arith, w7 .next)) ∙ sym h)

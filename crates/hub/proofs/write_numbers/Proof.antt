@@ -1,6 +1,6 @@
 -- `write_numbers` meets its contract: the numbers before `i` are written.
 use Prim.Native.Nat.{_-_}
-use Rattle.hub.proofs.Numbers.{Writing, number-cases, write-step}
+use Rattle.hub.proofs.Numbers.{Writing, number-cases}
 use borrow.Author.Needs.{needs}
 use Rattle.hub.proofs.write_numbers.Statement.{statement}
 use Rattle.hub.proofs.write_numbers.Tie as tie
@@ -24,6 +24,6 @@ write-numbers-spec =
     (λ c κs. search (needs, number-cases))
     (λ c. search (needs, number-cases))
     (λ c. search (needs, number-cases))
-    (λ c. (search needs, write-step _ _ _ _ _ _ (c .before .before .before .before .before .before .loop .inv .1) (c .before .before .put-word .ensures) (search needs)))
+    (λ c. search (needs, number-cases))
     (λ c. search (needs, number-cases))
     (λ c. search (needs, number-cases)))

@@ -3,7 +3,7 @@ use Prim.Native.Nat.{_+_, _*_, _-_, _≤_}
 use lib.ListN.{take}
 use Rattle.buffers.specs.Writes.{Wrote}
 use Rattle.settings.specs.Bytes.{rulesBytes}
-use Rattle.settings.proofs.Encoding.{rules-put, rules-step}
+use Rattle.settings.proofs.Encoding.{rules-put}
 use borrow.Author.Needs.{needs}
 use Rattle.settings.proofs.put_rules.Statement.{statement}
 use Rattle.settings.proofs.put_rules.Tie as tie
@@ -28,6 +28,6 @@ put-rules-spec =
     (λ c κs. search (needs, rules-put))
     (λ c. search (needs, rules-put))
     (λ c. search (needs, rules-put))
-    (λ c. (search needs, rules-step _ _ _ _ _ _ (c .before .before .before .before .before .before .before .loop .inv .1) (c .before .before .put-rule .ensures) (search needs) (search needs)))
+    (λ c. search (needs, rules-put))
     (λ c. search (needs, rules-put))
     (λ c. search (needs, rules-put)))
