@@ -5,6 +5,8 @@ use mathlib.Core.Logic.{inl, inr}
 use mathlib.Core.Bool.{true, false}
 use mathlib.Core.List.{List, [], _∷_}
 use native.Mathlib.Omega.{arith}
+use mir.Val.{Fits}
+use mir.Syntax.{w8, w64}
 use lib.ListN.{length, getD, take, drop, length-take, length-drop, take-append-drop}
 use lib.Seq.{take-add, length-take-le, getD-take, getD-drop}
 use Rattle.buffers.specs.Lists.{same}
@@ -44,13 +46,16 @@ pub record Alike (a b : List ℕ) (n i : ℕ) : Type 0 where
   pub low : i ≤ 64
   pub head : take i a ≡ take i b
 
-pub alike-start : (a b : List ℕ) → AllBytes a → AllBytes b → isBlock a ≡ true → isBlock b ≡ true → Alike a b (getD a 0 0) 0
+pub first-fits : (a : List ℕ) → isBlock a ≡ true → Fits w64 (getD a 0 0)
+first-fits a ba = record { fits = omega (arith, block-short a ba) }
+
+pub alike-start : (a b : List ℕ) → ((j : ℕ) → Fits w8 (getD a j 0)) → ((j : ℕ) → Fits w8 (getD b j 0)) → isBlock a ≡ true → isBlock b ≡ true → Alike a b (getD a 0 0) 0
 alike-start a b ha hb ba bb =
     record {
       left = block-long a ba;
       right = block-long b bb;
-      left-bytes = ha;
-      right-bytes = hb;
+      left-bytes = λ j. omega (arith, ha j);
+      right-bytes = λ j. omega (arith, hb j);
       end = refl;
       short = block-short a ba;
       eights = refl;
@@ -66,8 +71,8 @@ module _ (a b : List ℕ) (n i : ℕ) (h : Alike a b n i) where
     pub word-right : i + 8 ≤ length b
     word-right = omega (arith, h .right, h .short, h .eights)
 
-    pub word-again : (x y : ℕ) → x ≡ number (take 8 (drop i a)) → y ≡ number (take 8 (drop i b)) → x ≡ y → Alike a b n (i + 8)
-    word-again x y ex ey e =
+    pub word-again : number (take 8 (drop i a)) ≡ number (take 8 (drop i b)) → Alike a b n (i + 8)
+    word-again e =
         record {
           left = h .left;
           right = h .right;
@@ -77,7 +82,7 @@ module _ (a b : List ℕ) (n i : ℕ) (h : Alike a b n i) where
           short = h .short;
           eights = omega (arith, h .eights);
           low = omega (arith, h .short, h .eights);
-          head = rw (take-add i 8 a, take-add i 8 b, h .head, word-same a b i (h .left-bytes) (h .right-bytes) word-left word-right (sym ex ∙ e ∙ ey));
+          head = rw (take-add i 8 a, take-add i 8 b, h .head, word-same a b i (h .left-bytes) (h .right-bytes) word-left word-right e);
         }
 
   pub words-differ : (x y : ℕ) → isBlock a ≡ true → isBlock b ≡ true → x ≡ number (take 8 (drop i a)) → y ≡ number (take 8 (drop i b)) → (x ≡ y → ⊥)
@@ -104,4 +109,4 @@ module _ (a b : List ℕ) (n i : ℕ) (h : Alike a b n i) where
       cut : (l : List ℕ) → 1 + n ≤ length (take i l) → take n (drop 1 l) ≡ take n (drop 1 (take i l))
       cut l m = ap (λ (z : List ℕ). take n (drop 1 z)) (sym (take-append-drop i l)) ∙ head-part (take i l) (drop i l) 1 n m
 
-pub ruleset word-cases = (word-left, word-right, word-again, words-differ, words-end)
+pub ruleset word-cases = (first-fits, alike-start, word-left, word-right, words-differ, words-end)

@@ -213,15 +213,16 @@ module _ (a b : List ℕ) (n i : ℕ) (w : Words a b n i) where
     pub words-right : i + 8 ≤ length b
     words-right = omega (arith, w .shorter .right)
 
+    pub words-again : rank 8 (drop i a) ≡ rank 8 (drop i b) → ((j : ℕ) → Fits w8 (getD a j 0)) → ((j : ℕ) → Fits w8 (getD b j 0)) → Words a b n (i + 8)
+    words-again e p q =
+        record { shorter = w .shorter; eight = w .eight; shared = eight-same a b i _ _ p q words-left words-right (w .shared) refl refl (omega arith) (omega arith) }
+
     module _ (x y : ℕ) (ex : x ≡ rank 8 (drop i a)) (ey : y ≡ rank 8 (drop i b)) (p : (j : ℕ) → Fits w8 (getD a j 0)) (q : (j : ℕ) → Fits w8 (getD b j 0)) where
       pub words-less : x < y → isOrder Before a b ≡ true
       words-less d = eight-less a b i x y p q words-left words-right (w .shared) ex ey d
 
       pub words-more : y < x → isOrder After a b ≡ true
       words-more d = eight-more a b i x y p q words-left words-right (w .shared) ex ey d
-
-      pub words-again : y ≤ x → x ≤ y → Words a b n (i + 8)
-      words-again d f = record { shorter = w .shorter; eight = w .eight; shared = eight-same a b i x y p q words-left words-right (w .shared) ex ey d f }
 
   pub words-end : n - 8 ≤ i → LastEight a b n
   words-end h =
@@ -233,7 +234,7 @@ module _ (a b : List ℕ) (n i : ℕ) (w : Words a b n i) where
         start = sym (take-take (n - 8) i a h) ∙ ap (take (n - 8)) (w .shared) ∙ take-take (n - 8) i b h;
       }
 
-pub ruleset word-cases = (words-start, words-left, words-right, words-less, words-more, words-again, words-end)
+pub ruleset word-cases = (words-start, words-left, words-right, words-less, words-more, words-end)
 
 -- ## What an order says of the other two
 

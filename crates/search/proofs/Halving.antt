@@ -171,6 +171,10 @@ pub ruleset key-cases = (middle-length, key-start, key-none, current-yes, curren
 abbrev pub hasVersion : List ℕ → ℕ → Row → Bool
 hasVersion k v x = same (x .key) k && eqb (x .number) v
 
+-- The answer that the keys are the same.
+pub told-same : (o : Order) (s k : List ℕ) → o ≡ Same → isOrder o s k ≡ true → same s k ≡ true
+told-same o s k t e = rw t at e
+
 module _ (n b : List ℕ) (u : ℕ) (k : List ℕ) (v : ℕ) where
   pub version-start : Searchable n b u → Between n b u (versionPlace k v (rowsOf n b u)) 0 u
   unfolding versionPlace
@@ -186,19 +190,6 @@ module _ (n b : List ℕ) (u : ℕ) (k : List ℕ) (v : ℕ) where
       version-passed t =
           passed (λ x. ahead x (versionRow k v)) (λ x y. ahead-trans x y (versionRow k v)) n b u low high w h (or-l (before (keyAt b (middle low high)) k) _ (rw t at e))
 
-      pub version-higher : o ≡ Same → v < getD n (8 * middle low high) 0 → Between n b u (versionPlace k v (rowsOf n b u)) (middle low high + 1) high
-      unfolding versionPlace
-      version-higher t d =
-          passed (λ x. ahead x (versionRow k v)) (λ x y. ahead-trans x y (versionRow k v)) n b u low high w h
-          (or-r (before (keyAt b (middle low high)) k) _ (and-i (same (keyAt b (middle low high)) k) _ (rw t at e) (rw (number-at n b (middle low high)) (lt-ltb _ _ d))))
-
-      pub version-lower : o ≡ Same → getD n (8 * middle low high) 0 ≤ v → Between n b u (versionPlace k v (rowsOf n b u)) low (middle low high)
-      unfolding versionPlace
-      version-lower t d =
-          let s : same (keyAt b (middle low high)) k ≡ true = rw t at e in
-          stopped (λ x. ahead x (versionRow k v)) (λ x y. ahead-trans x y (versionRow k v)) n b u low high w h
-          (rw (same-one (keyAt b (middle low high)) k s, s, number-at n b (middle low high)) (le-ltb v _ d))
-
       pub version-stopped : o ≡ After → Between n b u (versionPlace k v (rowsOf n b u)) low (middle low high)
       unfolding versionPlace
       version-stopped t =
@@ -206,24 +197,35 @@ module _ (n b : List ℕ) (u : ℕ) (k : List ℕ) (v : ℕ) where
           stopped (λ x. ahead x (versionRow k v)) (λ x y. ahead-trans x y (versionRow k v)) n b u low high w h
           (rw (after-one (keyAt b (middle low high)) k s, after-other (keyAt b (middle low high)) k s))
 
-      pub version-other : o ≡ Same → (getD n (8 * middle low high) 0 ≡ v → ⊥) → Tells (hasVersion k v) n b u (middle low high) false
-      version-other t d =
-          let s : same (keyAt b (middle low high)) k ≡ true = rw t at e in
-          tells-row (hasVersion k v) n b u (middle low high) false (omega (arith, w .top)) (rw (s, number-at n b (middle low high)) (ne-eqb _ v d))
-
       pub version-behind : o ≡ After → Tells (hasVersion k v) n b u (middle low high) false
       version-behind t =
           tells-row (hasVersion k v) n b u (middle low high) false (omega (arith, w .top)) (rw (after-other (keyAt b (middle low high)) k (rw t at e)))
 
-      pub version-yes : o ≡ Same → getD n (8 * middle low high) 0 ≡ v → At (middle low high) ≡ versionIn k v (rowsOf n b u)
+    module _ (h : low < high) (s : same (keyAt b (middle low high)) k ≡ true) where
+      pub version-higher : v < getD n (8 * middle low high) 0 → Between n b u (versionPlace k v (rowsOf n b u)) (middle low high + 1) high
+      unfolding versionPlace
+      version-higher d =
+          passed (λ x. ahead x (versionRow k v)) (λ x y. ahead-trans x y (versionRow k v)) n b u low high w h
+          (or-r (before (keyAt b (middle low high)) k) _ (and-i (same (keyAt b (middle low high)) k) _ s (rw (number-at n b (middle low high)) (lt-ltb _ _ d))))
+
+      pub version-lower : getD n (8 * middle low high) 0 ≤ v → Between n b u (versionPlace k v (rowsOf n b u)) low (middle low high)
+      unfolding versionPlace
+      version-lower d =
+          stopped (λ x. ahead x (versionRow k v)) (λ x y. ahead-trans x y (versionRow k v)) n b u low high w h
+          (rw (same-one (keyAt b (middle low high)) k s, s, number-at n b (middle low high)) (le-ltb v _ d))
+
+      pub version-other : (getD n (8 * middle low high) 0 ≡ v → ⊥) → Tells (hasVersion k v) n b u (middle low high) false
+      version-other d =
+          tells-row (hasVersion k v) n b u (middle low high) false (omega (arith, w .top)) (rw (s, number-at n b (middle low high)) (ne-eqb _ v d))
+
+      pub version-yes : getD n (8 * middle low high) 0 ≡ v → At (middle low high) ≡ versionIn k v (rowsOf n b u)
       unfolding versionIn versionPlace
-      version-yes t d =
+      version-yes d =
           let i = middle low high in
           let below : i < u = omega (arith, w .top) in
-          let s : same (keyAt b i) k ≡ true = rw t at e in
           let reached : i ≤ leading (λ x. ahead x (versionRow k v)) (rowsOf n b u) =
           leading-reaches (λ x. ahead x (versionRow k v)) (rowsOf n b u) i (rowAt n b i) (w .searchable .in-order) (rows-row n b u i below) (λ x g. rw (same-path (keyAt b i) k s, number-at n b i, d) at g) in
-          let most = version-lower t (omega arith) .to in
+          let most = version-lower (omega arith) .to in
           tells-found (hasVersion k v) n b u i (leading (λ x. ahead x (versionRow k v)) (rowsOf n b u)) true
           (tells-row (hasVersion k v) n b u i true below (rw (s, number-at n b i) (eq-eqb _ v d))) (omega arith)
 
@@ -233,4 +235,4 @@ module _ (n b : List ℕ) (u : ℕ) (k : List ℕ) (v : ℕ) where
         let q : high ≡ low = omega (arith, w .from, w .to) in
         rw q at (tells-found (hasVersion k v) n b u high (versionPlace k v (rowsOf n b u)) false t (omega (arith, w .from, w .to)))
 
-pub ruleset version-cases = (middle-length, version-start, version-none, version-yes, version-no)
+pub ruleset version-cases = (told-same, middle-length, version-start, version-none, version-yes, version-no)

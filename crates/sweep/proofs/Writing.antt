@@ -34,11 +34,11 @@ pub ruleset put-cases = (refl, put-as, put-same)
 
 -- Two rows, the second behind the first, are one piece.
 pub put-twice : (at : ℕ) (x y x₂ y₂ n b n₁ b₁ n₂ b₂ : List ℕ) → Put at x y n b n₁ b₁ → Put (at + 1) x₂ y₂ n₁ b₁ n₂ b₂
-    → length x ≡ 8 → length y ≡ 64 → 8 * at ≤ length n → 64 * at ≤ length b → Put at (x ++ x₂) (y ++ y₂) n b n₂ b₂
-put-twice at x y x₂ y₂ n b n₁ b₁ n₂ b₂ p q lx ly ln lb =
+    → length x ≡ 8 → length y ≡ 64 → Place (at + 1) n b → Put at (x ++ x₂) (y ++ y₂) n b n₂ b₂
+put-twice at x y x₂ y₂ n b n₁ b₁ n₂ b₂ p q lx ly s =
     let e : 8 * (at + 1) ≡ 8 * at + length x = omega arith in
     let f : 64 * (at + 1) ≡ 64 * at + length y = omega arith in
     record {
-      numbers-are = q .numbers-are ∙ rw (p .numbers-are, e) (placed-twice n (8 * at) x x₂ ln);
-      keys-are = q .keys-are ∙ rw (p .keys-are, f) (placed-twice b (64 * at) y y₂ lb);
+      numbers-are = q .numbers-are ∙ rw (p .numbers-are, e) (placed-twice n (8 * at) x x₂ (omega (arith, s .numbers)));
+      keys-are = q .keys-are ∙ rw (p .keys-are, f) (placed-twice b (64 * at) y y₂ (omega (arith, s .block)));
     }

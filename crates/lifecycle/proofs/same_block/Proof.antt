@@ -1,7 +1,6 @@
 -- `same_block` meets its contract.
-use Rattle.lifecycle.proofs.Words.{Alike, alike-start, word-again, word-cases}
+use Rattle.lifecycle.proofs.Words.{Alike, word-again, word-cases}
 use Prim.Native.Nat.{_-_}
-use native.Mathlib.Omega.{arith}
 use Rattle.blocks.proofs.Blocks.{block-long}
 use borrow.Author.Needs.{needs}
 use Rattle.lifecycle.proofs.same_block.Statement.{statement}
@@ -20,12 +19,12 @@ same-block-spec =
     Inv-loop
     μ-loop
     (λ c. search (needs, block-long))
-    (λ c. omega (arith, c .before .before .shared-slice-known .given 0))
-    (λ c. alike-start _ _ (λ j. omega (arith, c .before .before .shared-slice-known .given j)) (λ j. omega (arith, c .before .shared-slice-known2 .given j)) (search needs) (search needs))
+    (λ c. search (needs, word-cases))
+    (λ c. search (needs, word-cases))
     (λ c κs. search (needs, word-cases))
     (λ c κs. search (needs, word-cases))
     (λ c. search (needs, word-cases))
     (λ c. search (needs, word-cases))
     (λ c. search (needs, word-cases))
-    (λ c. word-again _ _ _ _ (c .before .before .before .before .loop .inv) (c .before .before .before .loop-test .taken) _ _ (c .before .before .word-at .ensures) (c .before .word-at2 .ensures) (c .if1 .left))
+    (λ c. word-again _ _ _ _ (search) (search) (cc))
     (λ c. search (needs, word-cases)))

@@ -11,11 +11,6 @@ Inv-loop a b n i₀ i = Words a b n i
 abbrev μ-loop : tie.MeasureT-loop
 μ-loop a b n i₀ i = n - i
 
-loop-again : tie.Need-loop-again Inv-loop μ-loop
-loop-again c =
-    words-again _ _ _ _ (c .before .before .before .before .before .loop .inv) (c .before .before .before .before .loop-test .taken) _ _ (c .before .before .before .rank-at .ensures) (c .before .before .rank-at2 .ensures)
-    (c .before .before .before .before .before .before .before .before .before .shared-slice-known .given) (c .before .before .before .before .before .before .before .before .shared-slice-known2 .given) (c .before .if2 .left) (c .if3 .left)
-
 pub compare-keys-spec : {M : Type 1} → statement M
 compare-keys-spec =
     tie.close
@@ -32,6 +27,6 @@ compare-keys-spec =
     (λ c. search (needs, word-cases))
     (λ c. search (needs, word-cases))
     (λ c. search (needs, word-cases))
-    loop-again
+    (λ c. words-again _ _ _ _ (search) (search) (search needs) (search) (search))
     (λ c κs. search (needs, word-cases))
     (λ c. search needs))

@@ -3,7 +3,7 @@ use Prim.Native.Nat.{_-_}
 use mathlib.Core.Bool.{false}
 use Rattle.table.specs.Layout.{rowsOf}
 use Rattle.search.specs.Places.{versionPlace}
-use Rattle.search.proofs.Halving.{Between, Tells, hasVersion, version-passed, version-higher, version-lower, version-stopped, version-other, version-behind, version-cases}
+use Rattle.search.proofs.Halving.{Between, Tells, hasVersion, told-same, version-passed, version-higher, version-lower, version-stopped, version-other, version-behind, version-cases}
 use borrow.Author.Needs.{needs}
 use Rattle.search.proofs.find_version.Statement.{statement}
 use Rattle.search.proofs.find_version.Tie as tie
@@ -36,12 +36,9 @@ find-version-spec =
     (λ c. search (needs, version-cases))
     (λ c. search needs)
     (λ c. search needs)
-    (λ c. (search (needs, version-higher), search needs))
+    (λ c. (search (needs, told-same, version-higher), search needs))
     (λ c. search needs)
-    (λ c. (
-      version-lower _ _ _ _ _ _ _ (c .before .before .before .before .before .before .before .loop .inv .0) (c .before .before .before .before .before .before .loop-test .taken) _ (c .before .before .before .before .before .order-by-rank .ensures) (c .before .before .before .enum-told2 .given .1) (c .if2 .left),
-      version-other _ _ _ _ _ _ _ (c .before .before .before .before .before .before .before .loop .inv .0) (c .before .before .before .before .before .before .loop-test .taken) _ (c .before .before .before .before .before .order-by-rank .ensures) (c .before .before .before .enum-told2 .given .1) (c .before .if1 .left),
-    ))
+    (λ c. (search (needs, told-same, version-lower), search (needs, told-same, version-other)))
     (λ c. search needs)
     (λ c. search needs)
     (λ c. (search (needs, version-stopped), search (needs, version-behind)))
