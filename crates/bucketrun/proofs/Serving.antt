@@ -25,6 +25,7 @@ use Rattle.outcome.proofs.Room.{end-inside}
 use Rattle.outcome.proofs.Kept.{outcome-whole}
 use Rattle.engine.specs.declared.Served.{Served}
 use Rattle.engine.specs.Served.{served}
+use Rattle.engine.proofs.Serving.{answer-fits}
 use Rattle.bucketrun.specs.declared.Block.{Block}
 use Rattle.bucketrun.specs.Course.{Ready, Held, held, holds, leave, Goes, Kept, Left, Runs, Serving, Running}
 use Rattle.bucketrun.proofs.Room.{same-left}
@@ -38,8 +39,12 @@ part-wide out at h l = length-take-le 65536 (drop at out) (rw length-drop (omega
 room-part : (out : List ℕ) (at : ℕ) → midOf at (at + 65536 - at) out ≡ take 65536 (drop at out)
 room-part out at = part-cut out at 65536
 
-pub part-most : (a l : List ℕ) (k : ℕ) → length a ≡ length (take k l) → length a ≤ k
-part-most a l k e = let q : length a ≡ _ = e ∙ length-take k l in omega arith
+-- A line's answer stands within the part that it was lent.
+pub answer-most : (s : Settings) (n b line out n′ b′ p : List ℕ) (at : ℕ) (r : Served) → served r n′ b′ p ≡ outcome s n b line (midOf at (at + 65536 - at) out) → length p ≡ length (midOf at (at + 65536 - at) out)
+    → r .length ≤ 65536
+answer-most s n b line out n′ b′ p at r q l =
+    let m : length p ≡ _ = l ∙ ap length (room-part out at) ∙ length-take 65536 (drop at out) in
+    omega (arith, answer-fits s n b line (midOf at (at + 65536 - at) out) n′ b′ p r q)
 
 module _ (n₀ b₀ out₀ block : List ℕ) where
   pub first-line : (s : Settings) (at : ℕ) → Ready s n₀ b₀ out₀ at

@@ -3,8 +3,7 @@ use Prim.Native.Nat.{_+_, _-_}
 use lib.ListN.{length, take, drop}
 use Rattle.text.specs.Lines.{linesOf}
 use Rattle.bucketrun.specs.Course.{Serving, held, leave}
-use Rattle.bucketrun.proofs.Serving.{first-line, line-room, next-line, part-most, lines-done, lines-stopped}
-use Rattle.engine.proofs.Serving.{answer-fits}
+use Rattle.bucketrun.proofs.Serving.{first-line, line-room, next-line, answer-most, lines-done, lines-stopped}
 use borrow.Author.Needs.{needs}
 use Rattle.bucketrun.proofs.serve_lines.Statement.{statement}
 use Rattle.bucketrun.proofs.serve_lines.Tie as tie
@@ -14,11 +13,6 @@ Inv-loop rows₀ keys₀ block out₀ at after₀ waits₀ i₀ rows keys out af
 
 abbrev μ-loop : tie.MeasureT-loop
 μ-loop rows₀ keys₀ block out₀ at after₀ waits₀ i₀ rows keys out after waits i = length block + 1 - i
-
-print-requires : tie.Need-print-requires Inv-loop μ-loop
-print-requires c κs =
-    let fits = answer-fits _ _ _ _ _ _ _ _ _ (c .before .before .before .before .before .before .before .before .serve-whole .ensures) in
-    (search (needs, line-room), search (needs, part-most, fits))
 
 pub serve-lines-spec : {M : Type 1} → statement M
 serve-lines-spec =
@@ -41,7 +35,7 @@ serve-lines-spec =
     (λ c. search needs)
     (λ c. search needs)
     (λ c κs. search needs)
-    print-requires
+    (λ c κs. (search (needs, line-room), search (needs, answer-most)))
     (λ c κs. search needs)
     (λ c. search needs)
     (λ c. search (needs, next-line))
