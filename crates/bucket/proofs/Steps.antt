@@ -6,6 +6,8 @@ use mathlib.Core.Bool.{Bool, true, false, _&&_, and-true, and-false, and-assoc}
 use mathlib.Core.List.{List, []}
 use native.Mathlib.Omega.{arith}
 use native.Mathlib.Numerals.{add-one}
+use mir.Val.{Fits}
+use mir.Syntax.{w64}
 use lib.Dec.{eqb, leb, ltb}
 use lib.Bits.{bitOr, or-add-and, and-le-r, or-zero-l}
 use lib.ListN.{length, getD, take, drop, drop-of-length-le}
@@ -75,9 +77,9 @@ pub ruleset zeros-cases = (zeros-more, zeros-end)
 pub with-same : (h r t : Bool) → r ≡ t → h && r ≡ h && t
 with-same h r t e = rw e
 
-pub data-is : (r : Bool) (ns : List ℕ) → r ≡ soundRetention (getD ns 5 0) (getD ns 6 0) → getD ns 3 0 < bodies
+pub data-is : (r : Bool) (ns : List ℕ) → r ≡ soundRetention (getD ns 5 0) (getD ns 6 0) → ((j : ℕ) → Fits w64 (getD ns j 0))
     → leb (getD ns 4 0) largestSize && (r && leb (getD ns 7 0) 1) ≡ soundData (rowIn ns [])
-data-is r ns e h = rw (e, lt-ltb (getD ns 3 0) bodies h)
+data-is r ns e h = rw (e, lt-ltb (getD ns 3 0) bodies (omega (arith, h 3)))
 
 pub row-is : (next time : ℕ) (n : List ℕ) (i : ℕ) (r : Bool) → r ≡ soundNumbers next time (rowIn (take (8 * i + 8 - 8 * i) (drop (8 * i) n)) []) → r ≡ numbersAt next time n i
 row-is next time n i r e = e ∙ rw (part-cut n (8 * i) 8)

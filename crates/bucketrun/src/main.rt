@@ -169,20 +169,6 @@ fn run(s: Settings, input: &mut [u8], rows: &mut [u64], keys: &mut [u8], out: &m
     }
 }
 
-// The rows of a fresh bucket.
-fn no_rows() -> [u64; 8192]
-    ensures { λ r. ⌜ r ≡ replicate 8192 0 ⌝ }
-{
-    [0; 8192]
-}
-
-// Their key bytes.
-fn no_keys() -> [u8; 65536]
-    ensures { λ r. ⌜ r ≡ replicate 65536 0 ⌝ }
-{
-    [0; 65536]
-}
-
 // A block of input, and a line that began before it.
 fn no_input() -> [u8; 66560]
     ensures { λ r. ⌜ r ≡ replicate 66560 0 ⌝ }
@@ -199,8 +185,8 @@ fn no_output() -> [u8; 131072]
 
 fn main() {
     let mut input = no_input();
-    let mut rows = no_rows();
-    let mut keys = no_keys();
+    let mut rows = table::fresh_rows();
+    let mut keys = table::fresh_keys();
     let mut out = no_output();
     run(
         settings::fresh(),

@@ -2,15 +2,16 @@
 use Prim.Native.Nat.{ℕ, zero, suc, _<_}
 use mathlib.Core.Path.{_≡_, refl, sym, _∙_, ap, ap₂}
 use mathlib.Core.Logic.{inl, inr}
-use mathlib.Core.Bool.{Bool, true, false, _&&_, false≢true}
+use mathlib.Core.Bool.{Bool, true, false, not, _&&_, false≢true}
 use mathlib.Core.List.{List, [], _∷_, _++_, nil≢cons, head-eq-of-cons-eq}
-use mathlib.Core.Option.{some}
+use mathlib.Core.Option.{Option, some, none}
 use native.Mathlib.Omega.{arith}
 use lib.Dec.{eqb}
 use lib.ListN.{length, getD, take, drop, set}
 use borrow.Author.Tests.{eqb-true, eq-eqb}
+use Rattle.buffers.specs.Choices.{pick}
 use Rattle.buffers.specs.Lists.{keep, first, change, all, same}
-use Rattle.buffers.proofs.Tests.{either, and-i, and-l, and-r}
+use Rattle.buffers.proofs.Tests.{either, clash, and-i, and-l, and-r}
 
 module _ {A : Type 0} where
   -- ## The elements that pass a test
@@ -54,6 +55,20 @@ module _ {A : Type 0} where
       ]
 
   -- A change that the test does not see.
+  pub keep-narrower : (p q : A → Bool) → ((x : A) → p x ≡ true → q x ≡ true) → (xs : List A) → keep p (keep q xs) ≡ keep p xs
+  keep-narrower p q f [] = refl
+  keep-narrower p q f (x ∷ xs) =
+      elim (either (q x)) [
+        | inl e ↦ elim (either (p x)) [
+          | inl d ↦ simp (e, d) (ap (λ (l : List A). x ∷ l) (keep-narrower p q f xs))
+          | inr d ↦ simp (e, d) (keep-narrower p q f xs)
+        ]
+        | inr e ↦ elim (either (p x)) [
+          | inl d ↦ absurd (clash (q x) (f x d) e)
+          | inr d ↦ simp (e, d) (keep-narrower p q f xs)
+        ]
+      ]
+
   pub keep-change : (p q : A → Bool) (f : A → A) → ((x : A) → p (f x) ≡ p x) → (xs : List A) → keep p (change q f xs) ≡ change q f (keep p xs)
   keep-change p q f s [] = refl
   keep-change p q f s (x ∷ xs) =
@@ -127,6 +142,20 @@ module _ {A : Type 0} where
   all-at p [] i d h e = absurd (omega arith)
   all-at p (x ∷ xs) zero d h e = and-l (p x) _ e
   all-at p (x ∷ xs) (suc i) d h e = all-at p xs i d (omega arith) (and-r (p x) _ e)
+
+  -- ## The first element that passes a test
+
+  pub first-none : (p : A → Bool) (xs : List A) → all (λ x. not (p x)) xs ≡ true → first p xs ≡ none
+  first-none p [] e = refl
+  first-none p (x ∷ xs) e =
+      elim (either (p x)) [
+        | inl t ↦ absurd (clash true refl (sym (rw t at (and-l (not (p x)) _ e))))
+        | inr t ↦ rw t (first-none p xs (and-r (not (p x)) _ e))
+      ]
+
+  pub first-as : (p q : A → Bool) → ((x : A) → p x ≡ q x) → (xs : List A) → first p xs ≡ first q xs
+  first-as p q f [] = refl
+  first-as p q f (x ∷ xs) = rw (f x) (ap (λ (r : Option A). pick (q x) (some x) r) (first-as p q f xs))
 
 -- ## The same bytes
 

@@ -1,7 +1,10 @@
 -- Laws of tests and their conjunctions.
+use Prim.Native.Nat.{ℕ}
 use mathlib.Core.Path.{_≡_, refl, sym, _∙_}
 use mathlib.Core.Logic.{_⊎_, inl, inr}
 use mathlib.Core.Bool.{Bool, true, false, _&&_, _||_, true≢false, false≢true}
+use lib.Dec.{eqb}
+use borrow.Author.Tests.{eqb-true}
 
 -- a test is true or false
 pub either : (b : Bool) → (b ≡ true) ⊎ (b ≡ false)
@@ -38,3 +41,13 @@ or-one false b e = inr e
 pub or-none : (a b : Bool) → (a || b) ≡ false → (a ≡ false) × (b ≡ false)
 or-none true b e = absurd (true≢false e)
 or-none false b e = (refl, e)
+
+pub eqb-sym : (a b : ℕ) → eqb a b ≡ eqb b a
+eqb-sym a b =
+    elim (either (eqb a b)) [
+      | inl e ↦ rw (eqb-true a b e)
+      | inr e ↦ elim (either (eqb b a)) [
+        | inl f ↦ rw (eqb-true b a f)
+        | inr f ↦ e ∙ sym f
+      ]
+    ]

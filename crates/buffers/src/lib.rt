@@ -20,6 +20,19 @@ pub fn copy_in(out: &mut [u8], at: usize, src: &[u8]) -> usize
     at + i
 }
 
+// The same for numbers.
+pub fn copy_in_numbers(out: &mut [u64], at: usize, src: &[u64]) -> usize
+    requires { ⌜ at + length (now src) ≤ length (now out) ⌝ }
+    ensures { λ r. ⌜ Wrote (now (out .entry)) at (now (src .entry)) (length (now (src .entry))) (now (out .exit)) r ⌝ }
+{
+    let mut i = 0;
+    while i < src.len() {
+        out[at + i] = src[i];
+        i += 1;
+    }
+    at + i
+}
+
 // Moves the numbers up by `by` places; the first `by` keep their values.
 pub fn move_up_numbers(s: &mut [u64], by: usize)
     requires { ⌜ (1 ≤ by) × (by ≤ length (now s)) ⌝ }

@@ -12,8 +12,8 @@ use lib.Seq.{length-take-le, getD-drop}
 use borrow.Author.Tests.{ne-eqb}
 use Rattle.buffers.specs.Lists.{begins, keep}
 use Rattle.buffers.specs.Ranges.{Within}
-use Rattle.buffers.proofs.Tests.{either, clash, and-i, and-l, and-r}
-use Rattle.buffers.proofs.Lists.{keep-yes, keep-no}
+use Rattle.buffers.proofs.Tests.{either, and-i, and-l, and-r}
+use Rattle.buffers.proofs.Lists.{keep-yes, keep-no, keep-narrower}
 use Rattle.buffers.proofs.Parts.{part-element, part-first}
 use Rattle.model.specs.Settings as model
 use Rattle.model.specs.Settings.{isSet}
@@ -148,20 +148,6 @@ module _ (us : List model.Rule) (near periods : List ℕ) (b : ℕ) where
     chosen-rules = h .laid .rules
 
 pub ruleset chosen-cases = (chosen-already, chosen-now, chosen-long, chosen-periods)
-
-keep-narrower : {A : Type 0} (p q : A → Bool) → ((x : A) → p x ≡ true → q x ≡ true) → (xs : List A) → keep p (keep q xs) ≡ keep p xs
-keep-narrower p q f [] = refl
-keep-narrower {A} p q f (x ∷ xs) =
-    elim (either (q x)) [
-      | inl e ↦ elim (either (p x)) [
-        | inl d ↦ simp (e, d) (ap (λ (l : List A). x ∷ l) (keep-narrower p q f xs))
-        | inr d ↦ simp (e, d) (keep-narrower p q f xs)
-      ]
-      | inr e ↦ elim (either (p x)) [
-        | inl d ↦ absurd (clash (q x) (f x d) e)
-        | inr d ↦ simp (e, d) (keep-narrower p q f xs)
-      ]
-    ]
 
 first-begins : (m : ℕ) (l p : List ℕ) → begins p (take m l) ≡ true → begins (take 1 p) (getD l 0 0 ∷ []) ≡ true
 first-begins m l [] e = refl

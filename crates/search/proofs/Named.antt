@@ -4,14 +4,14 @@ use mathlib.Core.Path.{_≡_, refl, sym, ap, _∙_}
 use mathlib.Core.Logic.{inl, inr}
 use mathlib.Core.Bool.{Bool, true, false, not, _&&_, and-true}
 use mathlib.Core.List.{List, [], _∷_}
-use mathlib.Core.Option.{Option, some, none}
+use mathlib.Core.Option.{some, none}
 use lib.Dec.{eqb}
 use lib.ListN.{set}
 use borrow.Author.Tests.{eqb-true, not-true}
-use Rattle.buffers.specs.Choices.{pick, thenSome}
+use Rattle.buffers.specs.Choices.{thenSome}
 use Rattle.buffers.specs.Lists.{all, keep, first, change, same}
-use Rattle.buffers.proofs.Tests.{either, clash, and-l, and-r, or-one}
-use Rattle.buffers.proofs.Lists.{same-path, all-as, same-sym}
+use Rattle.buffers.proofs.Tests.{either, eqb-sym, clash, and-l, and-r, or-one}
+use Rattle.buffers.proofs.Lists.{first-none, first-as, same-path, all-as, same-sym}
 use Rattle.model.specs.Rows.{Row, before, ahead, ordered}
 use Rattle.model.specs.Requests.{Name, name, numbered}
 use Rattle.model.specs.Effects.{rowOf, sameVersion, isNamed, insert}
@@ -23,14 +23,6 @@ use Rattle.search.proofs.Positions.{all-row, place-if}
 use Rattle.search.proofs.Halving.{versionRow}
 
 -- ## The row that is found
-
-first-none : (p : Row → Bool) (xs : List Row) → all (λ x. not (p x)) xs ≡ true → first p xs ≡ none
-first-none p [] e = refl
-first-none p (x ∷ xs) e =
-    elim (either (p x)) [
-      | inl t ↦ absurd (clash true refl (sym (rw t at (and-l (not (p x)) _ e))))
-      | inr t ↦ rw t (first-none p xs (and-r (not (p x)) _ e))
-    ]
 
 -- A row more in front.
 found-next : (p : Row → Bool) (x : Row) (xs : List Row) (i : ℕ) → rowFound (x ∷ xs) (foundIf p (x ∷ xs) (suc i)) ≡ rowFound xs (foundIf p xs i)
@@ -54,20 +46,6 @@ module _ (p q : Row → Bool) (not-both : (x : Row) → q x ≡ true → p x ≡
           | inr u ↦ simp (t, u) (sym (first-none p xs (all-as (ahead x) (λ y. not (p y)) (λ y d. rw (none-behind x y d t u)) xs (and-l _ _ o))))
         ]
       ]
-
-first-as : (p q : Row → Bool) → ((x : Row) → p x ≡ q x) → (xs : List Row) → first p xs ≡ first q xs
-first-as p q f [] = refl
-first-as p q f (x ∷ xs) = rw (f x) (ap (λ (r : Option Row). pick (q x) (some x) r) (first-as p q f xs))
-
-eqb-sym : (a b : ℕ) → eqb a b ≡ eqb b a
-eqb-sym a b =
-    elim (either (eqb a b)) [
-      | inl e ↦ rw (eqb-true a b e)
-      | inr e ↦ elim (either (eqb b a)) [
-        | inl f ↦ rw (eqb-true b a f)
-        | inr f ↦ e ∙ sym f
-      ]
-    ]
 
 -- A key's current version is the row that the key alone names.
 pub current-row : (k : List ℕ) (xs : List Row) → ordered xs ≡ true → rowFound xs (currentIn k xs) ≡ rowOf xs (name k none)

@@ -56,20 +56,6 @@ fn no_text() -> [u8; 262144]
     [0; 262144]
 }
 
-// The rows of a fresh bucket.
-fn no_rows() -> [u64; 8192]
-    ensures { λ r. ⌜ r ≡ replicate 8192 0 ⌝ }
-{
-    [0; 8192]
-}
-
-// Their key bytes.
-fn no_keys() -> [u8; 65536]
-    ensures { λ r. ⌜ r ≡ replicate 65536 0 ⌝ }
-{
-    [0; 65536]
-}
-
 // The smallest answer buffer that is admitted.
 fn no_answer() -> [u8; 256]
     ensures { λ r. ⌜ r ≡ replicate 256 0 ⌝ }
@@ -79,8 +65,8 @@ fn no_answer() -> [u8; 256]
 
 fn main() {
     let mut text = no_text();
-    let mut rows = no_rows();
-    let mut keys = no_keys();
+    let mut rows = table::fresh_rows();
+    let mut keys = table::fresh_keys();
     let mut answer = no_answer();
     let n = io::read_full(STDIN_FILENO, &mut text);
     print_lines(

@@ -3,23 +3,9 @@ ghost use mathlib.Core.Path.{_≡_};
 ghost use mathlib.Core.List.{[], _++_};
 ghost use Prim.Native.Nat.{_+_, _-_, _*_, _≤_};
 ghost use lib.ListN.{length, take, drop, replicate};
-ghost use Rattle.buffers.specs.Writes.{Wrote};
 ghost use Rattle.model.specs.Sweep.{marker, removes, total, carriedOut};
 ghost use Rattle.table.specs.Layout.{Holds, numbersOfRow, rowsOf, capacity};
 ghost use Rattle.sweep.specs.Passes.{kept, fatesOf, Judged, Thinned, Left, Place, Put};
-
-// Copies all of `src` into `out` from `at` on, and returns the place after it.
-fn copy_in_numbers(out: &mut [u64], at: usize, src: &[u64]) -> usize
-    requires { ⌜ at + length (now src) ≤ length (now out) ⌝ }
-    ensures { λ r. ⌜ Wrote (now (out .entry)) at (now (src .entry)) (length (now (src .entry))) (now (out .exit)) r ⌝ }
-{
-    let mut i = 0;
-    while i < src.len() {
-        out[at + i] = src[i];
-        i += 1;
-    }
-    at + i
-}
 
 // The numbers of the row at a place.
 fn numbers_in(rows: &[u64], at: usize) -> [u64; 8]
@@ -28,7 +14,7 @@ fn numbers_in(rows: &[u64], at: usize) -> [u64; 8]
 {
     let start = 8 * at;
     let mut numbers = [0u64; 8];
-    copy_in_numbers(&mut numbers, 0, &rows[start..start + 8]);
+    buffers::copy_in_numbers(&mut numbers, 0, &rows[start..start + 8]);
     numbers
 }
 
@@ -48,7 +34,7 @@ fn put_row(rows: &mut [u64], keys: &mut [u8], at: usize, numbers: [u64; 8], bloc
     requires { ⌜ Place at (now rows) (now keys) ⌝ }
     ensures { λ _. ⌜ Put at numbers block (now (rows .entry)) (now (keys .entry)) (now (rows .exit)) (now (keys .exit)) ⌝ }
 {
-    copy_in_numbers(rows, 8 * at, &numbers);
+    buffers::copy_in_numbers(rows, 8 * at, &numbers);
     buffers::copy_in(keys, 64 * at, &block);
 }
 

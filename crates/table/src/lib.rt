@@ -2,7 +2,7 @@
 ghost use mathlib.Core.Path.{_≡_};
 ghost use mathlib.Core.List.{[]};
 ghost use Prim.Native.Nat.{_+_, _*_, _≤_, _<_};
-ghost use lib.ListN.{length, getD, take, drop, set};
+ghost use lib.ListN.{length, getD, take, drop, set, replicate};
 ghost use Rattle.buffers.specs.Writes.{placed};
 ghost use Rattle.blocks.specs.Blocks.{blockOf};
 ghost use Rattle.table.specs.Layout.{numbersOfRow, rowsOf, capacity, Holds};
@@ -20,6 +20,20 @@ pub struct Numbers {
     pub mode: u64,
     pub until: u64,
     pub hold: u64,
+}
+
+// The numbers of a fresh table of 1024 rows.
+pub fn fresh_rows() -> [u64; 8192]
+    ensures { λ r. ⌜ r ≡ replicate 8192 0 ⌝ }
+{
+    [0; 8192]
+}
+
+// Its key bytes.
+pub fn fresh_keys() -> [u8; 65536]
+    ensures { λ r. ⌜ r ≡ replicate 65536 0 ⌝ }
+{
+    [0; 65536]
 }
 
 // The numbers of the row at a position.

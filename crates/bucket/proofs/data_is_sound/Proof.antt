@@ -13,4 +13,4 @@ data-is-sound-spec =
     (λ c. search needs)
     (λ c κs. search needs)
     (λ c. search needs)
-    (λ c. search (needs, data-is, c .shared-slice-known5 .given 3)))
+    (λ c. search (needs, data-is)))

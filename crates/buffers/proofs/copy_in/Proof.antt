@@ -1,4 +1,4 @@
--- `copy_in` meets its contract: each way through it is one of the cited laws. Assumes nothing.
+-- `copy_in` meets its contract: each way through it is one of the cited laws.
 use Prim.Native.Nat.{_-_, _≤_}
 use mathlib.Core.Path.{_≡_}
 use lib.ListN.{length}

@@ -3,10 +3,10 @@ use Prim.Native.Nat.{_-_, _≤_}
 use mathlib.Core.Path.{_≡_}
 use lib.ListN.{length}
 use lib.Seq.{paste}
 use Rattle.buffers.proofs.Writes.{copy-cases}
 use borrow.Author.Needs.{needs}
-use Rattle.sweep.proofs.copy_in_numbers.Statement.{statement}
-use Rattle.sweep.proofs.copy_in_numbers.Tie as tie
+use Rattle.buffers.proofs.copy_in_numbers.Statement.{statement}
+use Rattle.buffers.proofs.copy_in_numbers.Tie as tie
 
 abbrev Inv-loop : tie.InvT-loop
 Inv-loop out₀ at src i₀ out i = (i ≤ length src) × (out ≡ paste out₀ at src i) × (length out ≡ length out₀)
