@@ -33,6 +33,7 @@ settingHalf (LifecycleRule i u) = false
 abbrev pub retentionHalf : Retention → Bool
 retentionHalf r = oneOf (isSome (r .mode)) (isSome (r .date))
 
+-- DEFAULT by mode and period, every other verb by mode and date.
 unfoldable pub halfGiven : Verb → Bool
 halfGiven v = thenSome (settingOf v) (retentionHalf (retentionOf v)) settingHalf
 
@@ -74,6 +75,7 @@ lacksRight s who v = not (all (λ n. granted s who (n .letter) (n .key)) (needs 
 
 -- ## 6. A given date is not after now
 
+-- A date that is given, and not after now.
 abbrev pub isPast : ℕ → Option ℕ → Bool
 isPast now d = thenSome d false (λ t. leb t now)
 
