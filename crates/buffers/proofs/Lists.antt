@@ -11,7 +11,7 @@ use lib.ListN.{length, getD, take, drop, set}
 use borrow.Author.Tests.{eqb-true, eq-eqb}
 use Rattle.buffers.specs.Choices.{pick}
 use Rattle.buffers.specs.Lists.{keep, first, change, all, same}
-use Rattle.buffers.proofs.Tests.{either, clash, and-i, and-l, and-r}
+use Rattle.buffers.proofs.Tests.{either, clash, and-i, and-l, and-r, test-sym}
 
 module _ {A : Type 0} where
   -- ## The elements that pass a test
@@ -174,11 +174,4 @@ same-path (x ∷ xs) (y ∷ ys) e =
     ]
 
 pub same-sym : (s t : List ℕ) → same s t ≡ same t s
-same-sym s t =
-    elim (either (same s t)) [
-      | inl e ↦ rw (same-path s t e)
-      | inr e ↦ elim (either (same t s)) [
-        | inl f ↦ rw (same-path t s f)
-        | inr f ↦ e ∙ sym f
-      ]
-    ]
+same-sym = test-sym same same-path

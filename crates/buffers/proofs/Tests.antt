@@ -42,12 +42,16 @@ pub or-none : (a b : Bool) → (a || b) ≡ false → (a ≡ false) × (b ≡ fa
 or-none true b e = absurd (true≢false e)
 or-none false b e = (refl, e)
 
-pub eqb-sym : (a b : ℕ) → eqb a b ≡ eqb b a
-eqb-sym a b =
-    elim (either (eqb a b)) [
-      | inl e ↦ rw (eqb-true a b e)
-      | inr e ↦ elim (either (eqb b a)) [
-        | inl f ↦ rw (eqb-true b a f)
-        | inr f ↦ e ∙ sym f
+-- A test that holds only of equal things doesn't mind their order.
+pub test-sym : {A : Type 0} (t : A → A → Bool) → ((a b : A) → t a b ≡ true → a ≡ b) → (a b : A) → t a b ≡ t b a
+test-sym t f a b =
+    elim (either (t a b)) [
+      | inl e ↦ rw (f a b e)
+      | inr e ↦ elim (either (t b a)) [
+        | inl d ↦ rw (f b a d)
+        | inr d ↦ e ∙ sym d
       ]
     ]
+
+pub eqb-sym : (a b : ℕ) → eqb a b ≡ eqb b a
+eqb-sym = test-sym eqb eqb-true
