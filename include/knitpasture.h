@@ -50,7 +50,7 @@ enum knitpasture_result {
 
 /* Makes the three buffers a fresh bucket of capacity c, rows and keys being 64 * c bytes each.
  * Returns 0, or 1 with every byte as it was where the lengths don't fit one c from 1 to KNITPASTURE_MAX_ROWS. */
-uint64_t hub_fresh(uint8_t *settings, size_t settings_length,
+uint64_t knitpasture_fresh(uint8_t *settings, size_t settings_length,
                    uint8_t *rows, size_t rows_length,
                    uint8_t *keys, size_t keys_length);
 
@@ -60,7 +60,7 @@ uint64_t hub_fresh(uint8_t *settings, size_t settings_length,
  * Where it returns 0 the bucket's buffers are those after the line, and the answer stands at the start of the answer
  * buffer: it ends with its first line feed (0x0A), within the first KNITPASTURE_MIN_ANSWER bytes, and the bytes after
  * that are untouched. Otherwise every byte of every buffer is as it was. */
-uint64_t hub_serve(uint8_t *settings, size_t settings_length,
+uint64_t knitpasture_serve(uint8_t *settings, size_t settings_length,
                    uint8_t *rows, size_t rows_length,
                    uint8_t *keys, size_t keys_length,
                    const uint8_t *line, size_t line_length,

@@ -45,7 +45,7 @@ static uint64_t serve(struct bucket *bucket, const char *text, uint8_t *answer, 
     for (size_t i = 0; i < count; i++) {
         line[i] = text[i] == '|' ? '\t' : (uint8_t)text[i];
     }
-    return hub_serve(bucket->settings, sizeof bucket->settings, bucket->rows, sizeof bucket->rows,
+    return knitpasture_serve(bucket->settings, sizeof bucket->settings, bucket->rows, sizeof bucket->rows,
                      bucket->keys, sizeof bucket->keys, line, count, answer, length);
 }
 
@@ -86,7 +86,7 @@ static void take_all(struct bucket *bucket, const struct step *steps, size_t cou
 
 static void make_fresh(struct bucket *bucket) {
     memset(bucket, 0x5A, sizeof *bucket);
-    check(hub_fresh(bucket->settings, sizeof bucket->settings, bucket->rows, sizeof bucket->rows,
+    check(knitpasture_fresh(bucket->settings, sizeof bucket->settings, bucket->rows, sizeof bucket->rows,
                     bucket->keys, sizeof bucket->keys) == 0,
           "a fresh bucket is made");
 }
@@ -152,16 +152,16 @@ static void wrong_lengths(struct bucket *bucket) {
     uint8_t answer[ANSWER];
     memset(answer, JUNK, sizeof answer);
     size_t line = sizeof sweep - 1;
-    check(hub_serve(bucket->settings, SETTINGS - 1, bucket->rows, sizeof bucket->rows, bucket->keys,
+    check(knitpasture_serve(bucket->settings, SETTINGS - 1, bucket->rows, sizeof bucket->rows, bucket->keys,
                     sizeof bucket->keys, sweep, line, answer, ANSWER) == 1,
           "settings of 687 bytes meet 1");
-    check(hub_serve(bucket->settings, SETTINGS, bucket->rows, sizeof bucket->rows - ROW, bucket->keys,
+    check(knitpasture_serve(bucket->settings, SETTINGS, bucket->rows, sizeof bucket->rows - ROW, bucket->keys,
                     sizeof bucket->keys, sweep, line, answer, ANSWER) == 1,
           "a row too few meets 1");
-    check(hub_fresh(bucket->settings, SETTINGS - 1, bucket->rows, sizeof bucket->rows, bucket->keys,
+    check(knitpasture_fresh(bucket->settings, SETTINGS - 1, bucket->rows, sizeof bucket->rows, bucket->keys,
                     sizeof bucket->keys) == 1,
           "settings of 687 bytes are not made fresh");
-    check(hub_serve(bucket->settings, SETTINGS, bucket->rows, sizeof bucket->rows, bucket->keys,
+    check(knitpasture_serve(bucket->settings, SETTINGS, bucket->rows, sizeof bucket->rows, bucket->keys,
                     sizeof bucket->keys, sweep, line, answer, ANSWER - 1) == 2,
           "an answer buffer of 255 bytes meets 2");
     check(memcmp(&before, bucket, sizeof before) == 0, "none of them changes a byte");

@@ -7,9 +7,9 @@ fn main() {
     if env::var_os("CARGO_FEATURE_ENGINE").is_none() {
         return;
     }
-    let folder = env::var("KNITPASTURE_LIB").expect("KNITPASTURE_LIB names the folder of libhub.a");
-    println!("cargo:rerun-if-changed={folder}/libhub.a");
+    let folder = env::var("KNITPASTURE_LIB").expect("KNITPASTURE_LIB names the folder of libknitpasture.a");
+    println!("cargo:rerun-if-changed={folder}/libknitpasture.a");
     for program in ["compare", "entries"] {
-        println!("cargo:rustc-link-arg-bin={program}={folder}/libhub.a");
+        println!("cargo:rustc-link-arg-bin={program}={folder}/libknitpasture.a");
     }
 }

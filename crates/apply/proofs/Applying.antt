@@ -22,7 +22,7 @@ use Rattle.verdict.specs.Meaning.{Judged, keyHere, Changeable}
 use Rattle.apply.specs.Applied.{judged, Applicable, Applied}
 
 -- The key of a used row, read from the list of the rows.
-head-at : (xs : List Row) (i : ℕ) (d : Row) → i < length xs → places.rowFrom xs i ≡ some (getD xs i d)
+head-at : (xs : List Row) (i : ℕ) (d : Row) → i < length xs → places.nthRow xs i ≡ some (getD xs i d)
 head-at xs i d h = rw (drop-cons xs i d h)
 
 key-here : (n b : List ℕ) (u i : ℕ) → i < u → keyHere (rowsOf n b u) i ≡ keyAt b i

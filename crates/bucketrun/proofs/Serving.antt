@@ -24,7 +24,7 @@ use Rattle.outcome.specs.Outcome.{Outcome, outcome}
 use Rattle.outcome.proofs.Room.{end-inside}
 use Rattle.outcome.proofs.Kept.{outcome-whole}
 use Rattle.engine.specs.declared.Served.{Served}
-use Rattle.engine.specs.Served.{served}
+use Rattle.engine.specs.Served.{outcomeFrom}
 use Rattle.engine.proofs.Serving.{answer-fits}
 use Rattle.bucketrun.specs.declared.Block.{Block}
 use Rattle.bucketrun.specs.Course.{Ready, Held, held, holds, leave, Goes, Kept, Left, Runs, Serving, Running}
@@ -40,8 +40,8 @@ room-part : (out : List ℕ) (at : ℕ) → midOf at (at + 65536 - at) out ≡ t
 room-part out at = part-cut out at 65536
 
 -- A line's answer stands within the part that it was lent.
-pub answer-most : (s : Settings) (n b line out n′ b′ p : List ℕ) (at : ℕ) (r : Served) → served r n′ b′ p ≡ outcome s n b line (midOf at (at + 65536 - at) out) → length p ≡ length (midOf at (at + 65536 - at) out)
-    → r .length ≤ 65536
+pub answer-most : (s : Settings) (n b line out n′ b′ p : List ℕ) (at : ℕ) (r : Served) → outcomeFrom r n′ b′ p ≡ outcome s n b line (midOf at (at + 65536 - at) out) → length p ≡ length (midOf at (at + 65536 - at) out)
+    → r .len ≤ 65536
 answer-most s n b line out n′ b′ p at r q l =
     let m : length p ≡ _ = l ∙ ap length (room-part out at) ∙ length-take 65536 (drop at out) in
     omega (arith, answer-fits s n b line (midOf at (at + 65536 - at) out) n′ b′ p r q)
@@ -67,7 +67,7 @@ module _ (n₀ b₀ out₀ block : List ℕ) where
     line-room h = omega (arith, g .long)
 
     -- A line is served with the part of the output from `at` on.
-    module _ (k : ℕ) (r : Served) (n′ b′ p : List ℕ) (h : at ≤ 65536) (q : served r n′ b′ p ≡ outcome s n b (take (i + k - i) (drop i block)) (midOf at (at + 65536 - at) out))
+    module _ (k : ℕ) (r : Served) (n′ b′ p : List ℕ) (h : at ≤ 65536) (q : outcomeFrom r n′ b′ p ≡ outcome s n b (take (i + k - i) (drop i block)) (midOf at (at + 65536 - at) out))
         (lp : length p ≡ length (midOf at (at + 65536 - at) out)) where
       pub next-line : (vs out′ : List ℕ) (j w : ℕ) → Within k (feedAt (take (length block - i) (drop i block))) (length (take (length block - i) (drop i block))) → i + k < length block
           → Wrote (putMid at (at + 65536 - at) out p) at vs 65536 out′ j → w ≤ j → length n′ ≡ length n → length b′ ≡ length b
@@ -77,7 +77,7 @@ module _ (n₀ b₀ out₀ block : List ℕ) where
           let y = g .inside in
           let f : k ≡ feedAt (drop i block) = rw (rest-all i block) at (e .is) in
           let d : i + k - i ≡ k = omega arith in
-          let o : served r n′ b′ p ≡ outcome s n b (take k (drop i block)) (take 65536 (drop at out)) = rw (d, room-part out at) at q in
+          let o : outcomeFrom r n′ b′ p ≡ outcome s n b (take k (drop i block)) (take 65536 (drop at out)) = rw (d, room-part out at) at q in
           let u : length a ≡ length (take 65536 (drop at out)) = g .wide ∙ sym (part-wide out at h (g .long)) in
           let lo : length out′ ≡ length out = v .long ∙ same-len-mid at (at + 65536 - at) out p lp in
           record {

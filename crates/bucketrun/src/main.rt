@@ -82,7 +82,7 @@ fn serve_lines(
         let room = waits + ROOM;
         let r = engine::serve_whole(after, rows, keys, &block[i..end], &mut out[waits..room]);
         after = r.settings;
-        let behind = print(out, waits, r.number, r.length);
+        let behind = print(out, waits, r.number, r.len);
         waits = make_room(out, behind);
         i = next;
     }

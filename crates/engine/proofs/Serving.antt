@@ -42,13 +42,13 @@ use Rattle.perform.specs.declared.Step.{Step}
 use Rattle.perform.specs.declared.Step.the-variants.{Refused, Accepted}
 use Rattle.perform.specs.Steps.{Left, left, stepOf, Actable, Acted, SoundRules}
 use Rattle.engine.specs.declared.Served.{Served}
-use Rattle.engine.specs.Served.{served, stateOf, Passing, settled, Settles, Sets}
+use Rattle.engine.specs.Served.{outcomeFrom, stateOf, Passing, settled, Settles, Sets}
 use Rattle.engine.proofs.Ready.{whole-rules, line-ranges, line-asked}
 use Rattle.engine.proofs.Settling.{refused-is, unset, setting-acted}
 
 -- ## Refusals
 
-pub line-1 : (r : Served) (s : Settings) (n b line a : List ℕ) (w : Bool) → w ≡ whole s n b → w ≡ false → r .number ≡ 1 → r .length ≡ 0 → r .settings ≡ s → served r n b a ≡ outcome s n b line a
+pub line-1 : (r : Served) (s : Settings) (n b line a : List ℕ) (w : Bool) → w ≡ whole s n b → w ≡ false → r .number ≡ 1 → r .len ≡ 0 → r .settings ≡ s → outcomeFrom r n b a ≡ outcome s n b line a
 line-1 r s n b line a w e f x y z = refused-is r 1 s n b a x y z ∙ outcome-1 s n b line a (sym e ∙ f)
 
 module _ (s : Settings) (n b line a : List ℕ) (w : whole s n b ≡ true) where
@@ -85,7 +85,7 @@ module _ (s : Settings) (n b line a : List ℕ) (w : whole s n b ≡ true) where
       go t none e = ap (λ (m : ℕ). refused m s n b a) (simp (t, e) at (p .is (bucketOf s n b .settings .config))) ∙ outcome-3 s n b line a w (ltb-false (length a) 256 t) e
       go t (some q) e = said-stops k q (ltb-false (length a) 256 t) e (simp (t, e) at (p .is (bucketOf s n b .settings .config))) (p .not-0)
 
-  pub line-stopped : (o : Screened) (k : ℕ) (r : Served) → Screens (s .time) line (length a) o → o ≡ screened.Refused k → r .number ≡ k → r .length ≡ 0 → r .settings ≡ s → served r n b a ≡ outcome s n b line a
+  pub line-stopped : (o : Screened) (k : ℕ) (r : Served) → Screens (s .time) line (length a) o → o ≡ screened.Refused k → r .number ≡ k → r .len ≡ 0 → r .settings ≡ s → outcomeFrom r n b a ≡ outcome s n b line a
   line-stopped o k r h e x y z = refused-is r k s n b a x y z ∙ stops k (rw e at h)
 
 -- ## A line that passes
@@ -116,9 +116,9 @@ module _ (s : Settings) (n b line a : List ℕ) (x : Action) (now : ℕ) (p : Pa
   pub line-actable : Actable line st n b a x now
   line-actable = rw e (record { judgeable = asks s n b line a (verb.Act x) now p; inside = p .passes .inside; room = p .passes .room-fits })
 
-  pub line-acted : (step : Step) (n′ b′ a′ : List ℕ) (r : Served) → Acted st n b a (actionMeans line x) now (left step n′ b′ a′) → Settles s now step r → served r n′ b′ a′ ≡ outcome s n b line a
+  pub line-acted : (step : Step) (n′ b′ a′ : List ℕ) (r : Served) → Acted st n b a (actionMeans line x) now (left step n′ b′ a′) → Settles s now step r → outcomeFrom r n′ b′ a′ ≡ outcome s n b line a
   line-acted step n′ b′ a′ r i g =
-      decided s n b line a (verb.Act x) now p (served r n′ b′ a′) (left step n′ b′ a′)
+      decided s n b line a (verb.Act x) now p (outcomeFrom r n′ b′ a′) (left step n′ b′ a′)
       (g .is (actionMeans line x) n′ b′ a′ (unset s (actionMeans line x) (action-unset line x) (prefixes s n b line a (verb.Act x) now p)))
       ((rw e at i) .is (rulesMean (s .rules)))
 
@@ -135,9 +135,9 @@ module _ (s : Settings) (n b line a : List ℕ) (now : ℕ) (p : Passing s n b l
     line-sweeps = rw e (asks s n b line a verb.Sweep now p)
 
     pub line-swept : (step : Step) (n′ b′ a′ : List ℕ) (r : Served) → left step n′ b′ a′ ≡ stepOf st n b a (tableDecision (capacity b) (bucketBy st (rulesMean (s .rules)) (rowsIn st n b)) (both now) Sweep)
-        → Settles s now step r → served r n′ b′ a′ ≡ outcome s n b line a
+        → Settles s now step r → outcomeFrom r n′ b′ a′ ≡ outcome s n b line a
     line-swept step n′ b′ a′ r i g =
-        decided s n b line a verb.Sweep now p (served r n′ b′ a′) (left step n′ b′ a′) (g .is Sweep n′ b′ a′ (unset s Sweep refl (prefixes s n b line a verb.Sweep now p))) (rw e at i)
+        decided s n b line a verb.Sweep now p (outcomeFrom r n′ b′ a′) (left step n′ b′ a′) (g .is Sweep n′ b′ a′ (unset s Sweep refl (prefixes s n b line a verb.Sweep now p))) (rw e at i)
 
 pub ruleset actions = (line-actable, line-acted)
 
@@ -165,14 +165,14 @@ module _ (s : Settings) (n b line a : List ℕ) (w : whole s n b ≡ true) (o : 
           inside = p .passes .inside;
         }
 
-    pub line-set : (r : Served) (a′ : List ℕ) → Sets s now (Set (settingMeans line x)) a r a′ → served r n b a′ ≡ outcome s n b line a
+    pub line-set : (r : Served) (a′ : List ℕ) → Sets s now (Set (settingMeans line x)) a r a′ → outcomeFrom r n b a′ ≡ outcome s n b line a
     line-set r a′ g =
-        decided s n b line a (verb.Set x) now p (served r n b a′) (left (Accepted (record { length = r .length; used = s .used; next = s .next })) n b a′)
+        decided s n b line a (verb.Set x) now p (outcomeFrom r n b a′) (left (Accepted (record { len = r .len; used = s .used; next = s .next })) n b a′)
         (rw (g .number-is, g .settings-are))
-        ((setting-acted (stateOf s) n b now a a′ (r .length) (settingMeans line x) (asks s n b line a (verb.Set x) now p) (g .wrote)) .is (rulesMean (s .rules)))
+        ((setting-acted (stateOf s) n b now a a′ (r .len) (settingMeans line x) (asks s n b line a (verb.Set x) now p) (g .wrote)) .is (rulesMean (s .rules)))
 
 pub ruleset lines = (line-stopped, line-passes, line-fits, line-settable, line-set)
 
 -- For callers: the answer stands within its buffer.
-pub answer-fits : (s : Settings) (n b line a n′ b′ a′ : List ℕ) (r : Served) → served r n′ b′ a′ ≡ outcome s n b line a → r .length ≤ length a′
-answer-fits s n b line a n′ b′ a′ r q = subst⁻¹ (λ (o : Outcome). o .length ≤ length (o .answer)) q (outcome-fits s n b line a)
+pub answer-fits : (s : Settings) (n b line a n′ b′ a′ : List ℕ) (r : Served) → outcomeFrom r n′ b′ a′ ≡ outcome s n b line a → r .len ≤ length a′
+answer-fits s n b line a n′ b′ a′ r q = subst⁻¹ (λ (o : Outcome). o .len ≤ length (o .answer)) q (outcome-fits s n b line a)

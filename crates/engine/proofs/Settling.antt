@@ -32,10 +32,10 @@ use Rattle.perform.specs.Steps.{left, Acted}
 use Rattle.perform.proofs.Carrying.{step-done}
 use Rattle.perform.proofs.Acting.{act-done}
 use Rattle.engine.specs.declared.Served.{Served}
-use Rattle.engine.specs.Served.{served, Settles, Sets}
+use Rattle.engine.specs.Served.{outcomeFrom, Settles, Sets}
 
 -- A refusal of the code, as an outcome.
-pub refused-is : (r : Served) (k : ℕ) (s : Settings) (n b a : List ℕ) → r .number ≡ k → r .length ≡ 0 → r .settings ≡ s → served r n b a ≡ refused k s n b a
+pub refused-is : (r : Served) (k : ℕ) (s : Settings) (n b a : List ℕ) → r .number ≡ k → r .len ≡ 0 → r .settings ≡ s → outcomeFrom r n b a ≡ refused k s n b a
 refused-is r k s n b a e f g = rw (e, f, g)
 
 -- The settings: what the verb set, with now, the used rows and the next number.
@@ -47,10 +47,10 @@ settings-after s u v now used next g =
 -- ## A step
 
 module _ (s : Settings) (now : ℕ) (step : Step) where
-  pub settles-refused : (k : ℕ) (r : Served) → step ≡ Refused k → r .number ≡ k → r .length ≡ 0 → r .settings ≡ s → Settles s now step r
+  pub settles-refused : (k : ℕ) (r : Served) → step ≡ Refused k → r .number ≡ k → r .len ≡ 0 → r .settings ≡ s → Settles s now step r
   settles-refused k r g x y z = record { is = λ v n b a c. rw g (refused-is r k s n b a x y z) }
 
-  pub settles-accepted : (m : Done) (after : Settings) → step ≡ Accepted m → after ≡ withProgress s now (m .used) (m .next) → Settles s now step (record { number = 0; length = m .length; settings = after })
+  pub settles-accepted : (m : Done) (after : Settings) → step ≡ Accepted m → after ≡ withProgress s now (m .used) (m .next) → Settles s now step (record { number = 0; len = m .len; settings = after })
   settles-accepted m after g e = record { is = λ v n b a c. rw (g, e, settings-after s s v now (m .used) (m .next) c) }
 
 pub ruleset steps = (settles-refused, settles-accepted)
@@ -63,16 +63,16 @@ unset s v e h = record { config = rw e; prefixes = h }
 -- ## DEFAULT and RULE
 
 pub sets-done : (s : Settings) (now : ℕ) (v : Verb) (a a′ : List ℕ) (len : ℕ) (u after : Settings) → Wrote a 0 (textOf answer.Done) 256 a′ len → Configured s v u
-    → after ≡ withProgress u now (s .used) (s .next) → Sets s now v a (record { number = 0; length = len; settings = after }) a′
+    → after ≡ withProgress u now (s .used) (s .next) → Sets s now v a (record { number = 0; len = len; settings = after }) a′
 sets-done s now v a a′ len u after w g e = record { number-is = refl; wrote = w; settings-are = e ∙ settings-after s u v now (s .used) (s .next) g }
 
 -- They come to a step that keeps the table.
 pub setting-acted : (s : State) (n b : List ℕ) (now : ℕ) (a a′ : List ℕ) (len : ℕ) (x : Setting) → Asked s n b now (Set x) → Wrote a 0 (textOf answer.Done) 256 a′ len
-    → Acted s n b a (Set x) now (left (Accepted (record { length = len; used = s .used; next = s .next })) n b a′)
+    → Acted s n b a (Set x) now (left (Accepted (record { len = len; used = s .used; next = s .next })) n b a′)
 setting-acted s n b now a a′ len x h w =
     let plan = verdict.Accepted (record { change = change.Keep; answer = answer.Done }) in
     let l = rows-length n b (s .used) in
     let kept : Applied (judged a (s .next) now a) (capacity b) (rowsOf n b (s .used)) change.Keep n b (record { used = s .used; next = s .next })
     = record { held = h .ready .holds; used-is = sym l; next-is = omega arith } in
-    act-done a s n b a (Set x) now plan a (left (Accepted (record { length = len; used = s .used; next = s .next })) n b a′) (λ us fates. set-done s n b a now us fates x h)
+    act-done a s n b a (Set x) now plan a (left (Accepted (record { len = len; used = s .used; next = s .next })) n b a′) (λ us fates. set-done s n b a now us fates x h)
     (step-done a s n b plan now a a (record { change = change.Keep; answer = answer.Done }) change.Keep answer.Done n b (record { used = s .used; next = s .next }) a′ len refl refl refl kept w)

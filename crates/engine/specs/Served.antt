@@ -22,9 +22,9 @@ use Rattle.perform.specs.declared.Step.the-variants.{Refused, Accepted}
 use Rattle.perform.specs.Steps.{Left}
 use Rattle.engine.specs.declared.Served.{Served}
 
-abbrev pub served : Served → List ℕ → List ℕ → List ℕ → Outcome
-served r numbers keys answer =
-    record { number = r .number; length = r .length; settings = r .settings; numbers = numbers; keys = keys; answer = answer }
+abbrev pub outcomeFrom : Served → List ℕ → List ℕ → List ℕ → Outcome
+outcomeFrom r numbers keys answer =
+    record { number = r .number; len = r .len; settings = r .settings; numbers = numbers; keys = keys; answer = answer }
 
 -- what of the settings a line is judged by
 abbrev pub stateOf : Settings → State
@@ -41,7 +41,7 @@ settle s now v (Refused n) numbers keys answer = refused n s numbers keys answer
 settle s now v (Accepted d) numbers keys answer =
     record {
       number = 0;
-      length = d .length;
+      len = d .len;
       settings = settingsFrom (record { time = now; next = d .next; config = configAfter (settingsMean s .config) v }) (d .used);
       numbers = numbers;
       keys = keys;
@@ -53,10 +53,10 @@ settled s now v l = settle s now v (l .step) (l .numbers) (l .keys) (l .answer)
 
 -- A step is settled, where the verb sets nothing.
 pub record Settles (s : Settings) (now : ℕ) (step : Step) (r : Served) : Type 0 where
-  pub is : (v : Verb) (numbers keys answer : List ℕ) → Configured s v s → served r numbers keys answer ≡ settle s now v step numbers keys answer
+  pub is : (v : Verb) (numbers keys answer : List ℕ) → Configured s v s → outcomeFrom r numbers keys answer ≡ settle s now v step numbers keys answer
 
 -- The settings have what the verb sets, and the answer says so.
 pub record Sets (s : Settings) (now : ℕ) (v : Verb) (answer : List ℕ) (r : Served) (answer′ : List ℕ) : Type 0 where
   pub number-is : r .number ≡ 0
-  pub wrote : Wrote answer 0 (textOf Done) 256 answer′ (r .length)
+  pub wrote : Wrote answer 0 (textOf Done) 256 answer′ (r .len)
   pub settings-are : r .settings ≡ settingsFrom (record { time = now; next = s .next; config = configAfter (settingsMean s .config) v }) (s .used)

@@ -17,21 +17,21 @@ ghost use Rattle.request.specs.declared.Verb.the-variants as verb;
 ghost use Rattle.request.specs.Meaning.{settingMeans};
 ghost use Rattle.outcome.specs.Outcome.{outcome};
 ghost use Rattle.configure.specs.Configured.{Settable};
-ghost use Rattle.engine.specs.Served.{served, stateOf, Passing, Settles, Sets};
+ghost use Rattle.engine.specs.Served.{outcomeFrom, stateOf, Passing, Settles, Sets};
 
 // What a call returns: 0 or the refusal, the answer's length, and the settings afterwards.
 pub struct Served {
     pub number: u64,
-    pub length: usize,
+    pub len: usize,
     pub settings: Settings,
 }
 
 fn refused(number: u64, settings: Settings) -> Served
-    ensures { λ r. ⌜ (r .number ≡ number) × (r .length ≡ 0) × (r .settings ≡ settings) ⌝ }
+    ensures { λ r. ⌜ (r .number ≡ number) × (r .len ≡ 0) × (r .settings ≡ settings) ⌝ }
 {
     Served {
         number,
-        length: 0,
+        len: 0,
         settings,
     }
 }
@@ -60,7 +60,7 @@ fn settle(s: Settings, step: Step, instant: u64) -> Served
             let after = settings::with_progress(s, instant, done.used as u64, done.next);
             Served {
                 number: 0,
-                length: done.length,
+                len: done.len,
                 settings: after,
             }
         }
@@ -79,12 +79,12 @@ fn serve_setting(
     requires { ⌜ 256 ≤ length (now answer) ⌝ }
     ensures { λ r. ⌜ Sets s instant (Set (settingMeans (now (line .entry)) setting)) (now (answer .entry)) r (now (answer .exit)) ⌝ }
 {
-    let length = answers::write_answer(answer, Answer::Done);
+    let len = answers::write_answer(answer, Answer::Done);
     let set = configure::configured(s, line, setting);
     let after = settings::with_progress(set, instant, s.used, s.next);
     Served {
         number: 0,
-        length,
+        len,
         settings: after,
     }
 }
@@ -100,7 +100,7 @@ fn serve_action(
     instant: u64,
 ) -> Served
     requires { ⌜ Passing s (now rows) (now keys) (now line) (now answer) (verb.Act action) instant ⌝ }
-    ensures { λ r. ⌜ served r (now (rows .exit)) (now (keys .exit)) (now (answer .exit)) ≡ outcome s (now (rows .entry)) (now (keys .entry)) (now (line .entry)) (now (answer .entry)) ⌝ }
+    ensures { λ r. ⌜ outcomeFrom r (now (rows .exit)) (now (keys .exit)) (now (answer .exit)) ≡ outcome s (now (rows .entry)) (now (keys .entry)) (now (line .entry)) (now (answer .entry)) ⌝ }
 {
     let state = state_of(s);
     let step = perform::act(state, rows, keys, line, answer, action, instant);
@@ -117,7 +117,7 @@ fn serve_sweep(
     instant: u64,
 ) -> Served
     requires { ⌜ Passing s (now rows) (now keys) (now line) (now answer) verb.Sweep instant ⌝ }
-    ensures { λ r. ⌜ served r (now (rows .exit)) (now (keys .exit)) (now (answer .exit)) ≡ outcome s (now (rows .entry)) (now (keys .entry)) (now (line .entry)) (now (answer .entry)) ⌝ }
+    ensures { λ r. ⌜ outcomeFrom r (now (rows .exit)) (now (keys .exit)) (now (answer .exit)) ≡ outcome s (now (rows .entry)) (now (keys .entry)) (now (line .entry)) (now (answer .entry)) ⌝ }
 {
     let state = state_of(s);
     let rules = s.rules;
@@ -134,7 +134,7 @@ pub fn serve_whole(
     answer: &mut [u8],
 ) -> Served
     requires { ⌜ whole s (now rows) (now keys) ≡ true ⌝ }
-    ensures { λ r. ⌜ served r (now (rows .exit)) (now (keys .exit)) (now (answer .exit)) ≡ outcome s (now (rows .entry)) (now (keys .entry)) (now (line .entry)) (now (answer .entry)) ⌝ }
+    ensures { λ r. ⌜ outcomeFrom r (now (rows .exit)) (now (keys .exit)) (now (answer .exit)) ≡ outcome s (now (rows .entry)) (now (keys .entry)) (now (line .entry)) (now (answer .entry)) ⌝ }
 {
     match screen::screen_line(s.time, line, answer.len()) {
         Screened::Refused(n) => refused(n, s),
@@ -154,7 +154,7 @@ pub fn serve(
     line: &[u8],
     answer: &mut [u8],
 ) -> Served
-    ensures { λ r. ⌜ served r (now (rows .exit)) (now (keys .exit)) (now (answer .exit)) ≡ outcome s (now (rows .entry)) (now (keys .entry)) (now (line .entry)) (now (answer .entry)) ⌝ }
+    ensures { λ r. ⌜ outcomeFrom r (now (rows .exit)) (now (keys .exit)) (now (answer .exit)) ≡ outcome s (now (rows .entry)) (now (keys .entry)) (now (line .entry)) (now (answer .entry)) ⌝ }
 {
     if bucket::is_whole(s, rows, keys) {
         return serve_whole(s, rows, keys, line, answer);

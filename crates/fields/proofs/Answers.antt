@@ -36,7 +36,7 @@ use Rattle.fields.specs.declared.PeriodRead.{PeriodRead}
 use Rattle.fields.specs.declared.PeriodRead.the-variants as period-read
 use Rattle.fields.specs.declared.RightsRead.{RightsRead}
 use Rattle.fields.specs.declared.RightsRead.the-variants as rights-read
-use Rattle.fields.specs.Fields.{rightsOf, versionOf, modeOf, untilOf, switchOf, holdOf, bypassOf, periodOf}
+use Rattle.fields.specs.Fields.{readRights, readVersion, readMode, readUntil, readSwitch, readHold, readBypass, readPeriod}
 use Rattle.fields.specs.Meaning.{modeMeans, untilMeans, holdMeans, versionMeans, periodMeans, rightsMeans, versionFrom, modeFrom, untilFrom, flagFrom, holdFrom, periodFrom, rightsFrom, Inside, KeyAt}
 
 pub given-is : (a b : Bool) → b ≡ a → some (some a) ≡ some (some b)
@@ -65,52 +65,52 @@ module _ (A : Type 0) (v y : A) where
   pub clock-bad : (r : DateRead) (t u : List ℕ) (f : ℕ → A) → instantOf r ≡ readDate t → t ≡ u → r ≡ Unreadable → v ≡ y → v ≡ thenSome (readDate u) y f
   clock-bad r t u f e i h q = cc
 
-  pub version-is : (r : VersionRead) (x : Version) (t u : List ℕ) (f : Option model.Version → A) → versionFrom r ≡ versionOf t → t ≡ u → r ≡ version-read.Is x → v ≡ f (versionMeans x) → v ≡ thenSome (versionOf u) y f
+  pub version-is : (r : VersionRead) (x : Version) (t u : List ℕ) (f : Option model.Version → A) → versionFrom r ≡ readVersion t → t ≡ u → r ≡ version-read.Is x → v ≡ f (versionMeans x) → v ≡ thenSome (readVersion u) y f
   version-is r x t u f e i h q = cc
 
-  pub version-bad : (r : VersionRead) (t u : List ℕ) (f : Option model.Version → A) → versionFrom r ≡ versionOf t → t ≡ u → r ≡ version-read.Bad → v ≡ y → v ≡ thenSome (versionOf u) y f
+  pub version-bad : (r : VersionRead) (t u : List ℕ) (f : Option model.Version → A) → versionFrom r ≡ readVersion t → t ≡ u → r ≡ version-read.Bad → v ≡ y → v ≡ thenSome (readVersion u) y f
   version-bad r t u f e i h q = cc
 
-  pub mode-is : (r : ModeRead) (x : Mode) (t u : List ℕ) (f : Option ℕ → A) → modeFrom r ≡ modeOf t → t ≡ u → r ≡ mode-read.Is x → v ≡ f (modeMeans x) → v ≡ thenSome (modeOf u) y f
+  pub mode-is : (r : ModeRead) (x : Mode) (t u : List ℕ) (f : Option ℕ → A) → modeFrom r ≡ readMode t → t ≡ u → r ≡ mode-read.Is x → v ≡ f (modeMeans x) → v ≡ thenSome (readMode u) y f
   mode-is r x t u f e i h q = cc
 
-  pub mode-bad : (r : ModeRead) (t u : List ℕ) (f : Option ℕ → A) → modeFrom r ≡ modeOf t → t ≡ u → r ≡ mode-read.Bad → v ≡ y → v ≡ thenSome (modeOf u) y f
+  pub mode-bad : (r : ModeRead) (t u : List ℕ) (f : Option ℕ → A) → modeFrom r ≡ readMode t → t ≡ u → r ≡ mode-read.Bad → v ≡ y → v ≡ thenSome (readMode u) y f
   mode-bad r t u f e i h q = cc
 
-  pub until-is : (r : UntilRead) (x : Until) (t u : List ℕ) (f : Option ℕ → A) → untilFrom r ≡ untilOf t → t ≡ u → r ≡ until-read.Is x → v ≡ f (untilMeans x) → v ≡ thenSome (untilOf u) y f
+  pub until-is : (r : UntilRead) (x : Until) (t u : List ℕ) (f : Option ℕ → A) → untilFrom r ≡ readUntil t → t ≡ u → r ≡ until-read.Is x → v ≡ f (untilMeans x) → v ≡ thenSome (readUntil u) y f
   until-is r x t u f e i h q = cc
 
-  pub until-bad : (r : UntilRead) (t u : List ℕ) (f : Option ℕ → A) → untilFrom r ≡ untilOf t → t ≡ u → r ≡ until-read.Bad → v ≡ y → v ≡ thenSome (untilOf u) y f
+  pub until-bad : (r : UntilRead) (t u : List ℕ) (f : Option ℕ → A) → untilFrom r ≡ readUntil t → t ≡ u → r ≡ until-read.Bad → v ≡ y → v ≡ thenSome (readUntil u) y f
   until-bad r t u f e i h q = cc
 
-  pub hold-is : (r : HoldRead) (x : Hold) (t u : List ℕ) (f : Option Bool → A) → holdFrom r ≡ holdOf t → t ≡ u → r ≡ hold-read.Is x → v ≡ f (holdMeans x) → v ≡ thenSome (holdOf u) y f
+  pub hold-is : (r : HoldRead) (x : Hold) (t u : List ℕ) (f : Option Bool → A) → holdFrom r ≡ readHold t → t ≡ u → r ≡ hold-read.Is x → v ≡ f (holdMeans x) → v ≡ thenSome (readHold u) y f
   hold-is r x t u f e i h q = cc
 
-  pub hold-bad : (r : HoldRead) (t u : List ℕ) (f : Option Bool → A) → holdFrom r ≡ holdOf t → t ≡ u → r ≡ hold-read.Bad → v ≡ y → v ≡ thenSome (holdOf u) y f
+  pub hold-bad : (r : HoldRead) (t u : List ℕ) (f : Option Bool → A) → holdFrom r ≡ readHold t → t ≡ u → r ≡ hold-read.Bad → v ≡ y → v ≡ thenSome (readHold u) y f
   hold-bad r t u f e i h q = cc
 
-  pub period-is : (r : PeriodRead) (x : Period) (t u : List ℕ) (f : Option model.Period → A) → periodFrom r ≡ periodOf t → t ≡ u → r ≡ period-read.Is x → v ≡ f (periodMeans x) → v ≡ thenSome (periodOf u) y f
+  pub period-is : (r : PeriodRead) (x : Period) (t u : List ℕ) (f : Option model.Period → A) → periodFrom r ≡ readPeriod t → t ≡ u → r ≡ period-read.Is x → v ≡ f (periodMeans x) → v ≡ thenSome (readPeriod u) y f
   period-is r x t u f e i h q = cc
 
-  pub period-bad : (r : PeriodRead) (t u : List ℕ) (f : Option model.Period → A) → periodFrom r ≡ periodOf t → t ≡ u → r ≡ period-read.Bad → v ≡ y → v ≡ thenSome (periodOf u) y f
+  pub period-bad : (r : PeriodRead) (t u : List ℕ) (f : Option model.Period → A) → periodFrom r ≡ readPeriod t → t ≡ u → r ≡ period-read.Bad → v ≡ y → v ≡ thenSome (readPeriod u) y f
   period-bad r t u f e i h q = cc
 
-  pub rights-is : (r : RightsRead) (x : Rights) (t u : List ℕ) (f : model.Rights → A) → rightsFrom r ≡ rightsOf t → t ≡ u → r ≡ rights-read.Is x → v ≡ f (rightsMeans x) → v ≡ thenSome (rightsOf u) y f
+  pub rights-is : (r : RightsRead) (x : Rights) (t u : List ℕ) (f : model.Rights → A) → rightsFrom r ≡ readRights t → t ≡ u → r ≡ rights-read.Is x → v ≡ f (rightsMeans x) → v ≡ thenSome (readRights u) y f
   rights-is r x t u f e i h q = cc
 
-  pub rights-bad : (r : RightsRead) (t u : List ℕ) (f : model.Rights → A) → rightsFrom r ≡ rightsOf t → t ≡ u → r ≡ rights-read.Bad → v ≡ y → v ≡ thenSome (rightsOf u) y f
+  pub rights-bad : (r : RightsRead) (t u : List ℕ) (f : model.Rights → A) → rightsFrom r ≡ readRights t → t ≡ u → r ≡ rights-read.Bad → v ≡ y → v ≡ thenSome (readRights u) y f
   rights-bad r t u f e i h q = cc
 
-  pub switch-is : (r : FlagRead) (x : Bool) (t u : List ℕ) (f : Bool → A) → flagFrom r ≡ switchOf t → t ≡ u → r ≡ flag-read.Is x → v ≡ f x → v ≡ thenSome (switchOf u) y f
+  pub switch-is : (r : FlagRead) (x : Bool) (t u : List ℕ) (f : Bool → A) → flagFrom r ≡ readSwitch t → t ≡ u → r ≡ flag-read.Is x → v ≡ f x → v ≡ thenSome (readSwitch u) y f
   switch-is r x t u f e i h q = cc
 
-  pub switch-bad : (r : FlagRead) (t u : List ℕ) (f : Bool → A) → flagFrom r ≡ switchOf t → t ≡ u → r ≡ flag-read.Bad → v ≡ y → v ≡ thenSome (switchOf u) y f
+  pub switch-bad : (r : FlagRead) (t u : List ℕ) (f : Bool → A) → flagFrom r ≡ readSwitch t → t ≡ u → r ≡ flag-read.Bad → v ≡ y → v ≡ thenSome (readSwitch u) y f
   switch-bad r t u f e i h q = cc
 
-  pub bypass-is : (r : FlagRead) (x : Bool) (t u : List ℕ) (f : Bool → A) → flagFrom r ≡ bypassOf t → t ≡ u → r ≡ flag-read.Is x → v ≡ f x → v ≡ thenSome (bypassOf u) y f
+  pub bypass-is : (r : FlagRead) (x : Bool) (t u : List ℕ) (f : Bool → A) → flagFrom r ≡ readBypass t → t ≡ u → r ≡ flag-read.Is x → v ≡ f x → v ≡ thenSome (readBypass u) y f
   bypass-is r x t u f e i h q = cc
 
-  pub bypass-bad : (r : FlagRead) (t u : List ℕ) (f : Bool → A) → flagFrom r ≡ bypassOf t → t ≡ u → r ≡ flag-read.Bad → v ≡ y → v ≡ thenSome (bypassOf u) y f
+  pub bypass-bad : (r : FlagRead) (t u : List ℕ) (f : Bool → A) → flagFrom r ≡ readBypass t → t ≡ u → r ≡ flag-read.Bad → v ≡ y → v ≡ thenSome (readBypass u) y f
   bypass-bad r t u f e i h q = cc
 
   pub key-is : (s : List ℕ) (r : KeyRead) (w : Option (List ℕ)) (x : Place) (f : List ℕ → A) → KeyAt s w r → r ≡ key-read.Is x → v ≡ f (partOf s x) → v ≡ thenSome w y f

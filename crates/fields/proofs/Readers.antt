@@ -13,7 +13,7 @@ use Rattle.text.specs.declared.Place.{Place}
 use Rattle.text.specs.declared.Value.{Value}
 use Rattle.text.specs.Numbers.{valueOf, positiveOf}
 use Rattle.text.specs.Fields.{fieldOf, partOf, Found}
-use Rattle.text.specs.Keys.{has}
+use Rattle.text.specs.Keys.{contains}
 use Rattle.text.proofs.Scans.{next}
 use Rattle.text.proofs.Fields.{field-found}
 use Rattle.fields.specs.declared.KeyRead.the-variants.{Is, Bad}
@@ -23,20 +23,20 @@ use Rattle.fields.specs.Meaning.{KeyAt}
 -- ## Rights
 
 module _ (s : List ℕ) (i : ℕ) (p q : Bool) where
-  pub once-twice : i < length s → p ≡ has (bytes "rwdthbc") (getD s i 0) → p ≡ true → q ≡ has (take (length s - (i + 1)) (drop (i + 1) s)) (getD s i 0) → q ≡ true
+  pub once-twice : i < length s → p ≡ contains (bytes "rwdthbc") (getD s i 0) → p ≡ true → q ≡ contains (take (length s - (i + 1)) (drop (i + 1) s)) (getD s i 0) → q ≡ true
       → lettersOnce s ≡ lettersOnce (drop i s) → false ≡ lettersOnce s
   once-twice h ep tp eq tq e =
-      let er : q ≡ has (drop (i + 1) s) (getD s i 0) = rw rest-all at eq in
+      let er : q ≡ contains (drop (i + 1) s) (getD s i 0) = rw rest-all at eq in
       sym (e ∙ rw (next s i h) (simp (sym ep ∙ tp, sym er ∙ tq)))
 
-  pub once-step : i < length s → p ≡ has (bytes "rwdthbc") (getD s i 0) → p ≡ true → q ≡ has (take (length s - (i + 1)) (drop (i + 1) s)) (getD s i 0) → q ≡ false
+  pub once-step : i < length s → p ≡ contains (bytes "rwdthbc") (getD s i 0) → p ≡ true → q ≡ contains (take (length s - (i + 1)) (drop (i + 1) s)) (getD s i 0) → q ≡ false
       → lettersOnce s ≡ lettersOnce (drop i s) → lettersOnce s ≡ lettersOnce (drop (i + 1) s)
   once-step h ep tp eq tq e =
-      let er : q ≡ has (drop (i + 1) s) (getD s i 0) = rw rest-all at eq in
+      let er : q ≡ contains (drop (i + 1) s) (getD s i 0) = rw rest-all at eq in
       e ∙ rw (next s i h) (simp (sym ep ∙ tp, sym er ∙ tq))
 
 module _ (s : List ℕ) (i : ℕ) where
-  pub once-other : (p : Bool) → i < length s → p ≡ has (bytes "rwdthbc") (getD s i 0) → p ≡ false → lettersOnce s ≡ lettersOnce (drop i s) → false ≡ lettersOnce s
+  pub once-other : (p : Bool) → i < length s → p ≡ contains (bytes "rwdthbc") (getD s i 0) → p ≡ false → lettersOnce s ≡ lettersOnce (drop i s) → false ≡ lettersOnce s
   once-other p h ep tp e = sym (e ∙ rw (next s i h) (simp (sym ep ∙ tp)))
 
   pub once-end : length s ≤ i → lettersOnce s ≡ lettersOnce (drop i s) → true ≡ lettersOnce s

@@ -6,7 +6,7 @@ ghost use mathlib.Core.Path.{_≡_};
 ghost use Prim.Native.Nat.{_<_};
 ghost use Rattle.buffers.specs.Choices.{isSome, orZero, thenSome};
 ghost use Rattle.text.specs.Fields.{fieldOf, Split};
-ghost use Rattle.fields.specs.Fields.{lettersOnce, rightsIn, rightsOf, keyOf, prefixOf, versionOf, modeOf, untilOf, switchOf, holdOf, bypassOf, periodOf};
+ghost use Rattle.fields.specs.Fields.{lettersOnce, rightsIn, readRights, readKey, readPrefix, readVersion, readMode, readUntil, readSwitch, readHold, readBypass, readPeriod};
 ghost use Rattle.fields.specs.Meaning.{modeMeans, untilMeans, holdMeans, periodMeans, rightsMeans, rightsFrom, versionFrom, modeFrom, untilFrom, flagFrom, holdFrom, periodFrom, KeyAt};
 
 // A mode, `-` for missing.
@@ -130,7 +130,7 @@ fn rights_in(text: &[u8]) -> Rights
 
 // `-`, or some of the letters.
 pub fn read_rights(text: &[u8]) -> RightsRead
-    ensures { λ r. ⌜ rightsFrom r ≡ rightsOf (now (text .entry)) ⌝ }
+    ensures { λ r. ⌜ rightsFrom r ≡ readRights (now (text .entry)) ⌝ }
 {
     if text::is_word(text, b"-") {
         return RightsRead::Is(rights_in(text));
@@ -148,7 +148,7 @@ pub fn read_rights(text: &[u8]) -> RightsRead
 pub fn read_key(line: &[u8], marks: &[usize], i: usize) -> KeyRead
     requires { ⌜ Split (now line) (now marks) ⌝ }
     requires { ⌜ i < 9 ⌝ }
-    ensures { λ r. ⌜ KeyAt (now (line .entry)) (keyOf (fieldOf (now (line .entry)) i)) r ⌝ }
+    ensures { λ r. ⌜ KeyAt (now (line .entry)) (readKey (fieldOf (now (line .entry)) i)) r ⌝ }
 {
     let place = text::find_place(line, marks, i);
     if text::is_key(text::part(line, place)) {
@@ -161,7 +161,7 @@ pub fn read_key(line: &[u8], marks: &[usize], i: usize) -> KeyRead
 pub fn read_prefix(line: &[u8], marks: &[usize], i: usize) -> KeyRead
     requires { ⌜ Split (now line) (now marks) ⌝ }
     requires { ⌜ i < 9 ⌝ }
-    ensures { λ r. ⌜ KeyAt (now (line .entry)) (prefixOf (fieldOf (now (line .entry)) i)) r ⌝ }
+    ensures { λ r. ⌜ KeyAt (now (line .entry)) (readPrefix (fieldOf (now (line .entry)) i)) r ⌝ }
 {
     let place = text::find_place(line, marks, i);
     if text::is_prefix(text::part(line, place)) {
@@ -172,7 +172,7 @@ pub fn read_prefix(line: &[u8], marks: &[usize], i: usize) -> KeyRead
 
 // A version number or `-`.
 pub fn read_version(text: &[u8]) -> VersionRead
-    ensures { λ r. ⌜ versionFrom r ≡ versionOf (now (text .entry)) ⌝ }
+    ensures { λ r. ⌜ versionFrom r ≡ readVersion (now (text .entry)) ⌝ }
 {
     if text::is_word(text, b"-") {
         return VersionRead::Is(Version::Current);
@@ -185,7 +185,7 @@ pub fn read_version(text: &[u8]) -> VersionRead
 
 // GOVERNANCE, COMPLIANCE or `-`.
 pub fn read_mode(text: &[u8]) -> ModeRead
-    ensures { λ r. ⌜ modeFrom r ≡ modeOf (now (text .entry)) ⌝ }
+    ensures { λ r. ⌜ modeFrom r ≡ readMode (now (text .entry)) ⌝ }
 {
     if text::is_word(text, b"-") {
         return ModeRead::Is(Mode::Missing);
@@ -201,7 +201,7 @@ pub fn read_mode(text: &[u8]) -> ModeRead
 
 // A date or `-`.
 pub fn read_until(text: &[u8]) -> UntilRead
-    ensures { λ r. ⌜ untilFrom r ≡ untilOf (now (text .entry)) ⌝ }
+    ensures { λ r. ⌜ untilFrom r ≡ readUntil (now (text .entry)) ⌝ }
 {
     if text::is_word(text, b"-") {
         return UntilRead::Is(Until::Missing);
@@ -214,7 +214,7 @@ pub fn read_until(text: &[u8]) -> UntilRead
 
 // ON or OFF.
 pub fn read_switch(text: &[u8]) -> FlagRead
-    ensures { λ r. ⌜ flagFrom r ≡ switchOf (now (text .entry)) ⌝ }
+    ensures { λ r. ⌜ flagFrom r ≡ readSwitch (now (text .entry)) ⌝ }
 {
     if text::is_word(text, b"ON") {
         return FlagRead::Is(true);
@@ -227,7 +227,7 @@ pub fn read_switch(text: &[u8]) -> FlagRead
 
 // ON, OFF or `-`.
 pub fn read_hold(text: &[u8]) -> HoldRead
-    ensures { λ r. ⌜ holdFrom r ≡ holdOf (now (text .entry)) ⌝ }
+    ensures { λ r. ⌜ holdFrom r ≡ readHold (now (text .entry)) ⌝ }
 {
     if text::is_word(text, b"-") {
         return HoldRead::Is(Hold::Missing);
@@ -243,7 +243,7 @@ pub fn read_hold(text: &[u8]) -> HoldRead
 
 // yes or no.
 pub fn read_bypass(text: &[u8]) -> FlagRead
-    ensures { λ r. ⌜ flagFrom r ≡ bypassOf (now (text .entry)) ⌝ }
+    ensures { λ r. ⌜ flagFrom r ≡ readBypass (now (text .entry)) ⌝ }
 {
     if text::is_word(text, b"yes") {
         return FlagRead::Is(true);
@@ -256,7 +256,7 @@ pub fn read_bypass(text: &[u8]) -> FlagRead
 
 // `1d` to `36500d`, `1y` to `100y`, or `-`.
 pub fn read_period(text: &[u8]) -> PeriodRead
-    ensures { λ r. ⌜ periodFrom r ≡ periodOf (now (text .entry)) ⌝ }
+    ensures { λ r. ⌜ periodFrom r ≡ readPeriod (now (text .entry)) ⌝ }
 {
     if text::is_word(text, b"-") {
         return PeriodRead::Is(Period::Missing);

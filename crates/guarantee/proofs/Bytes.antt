@@ -18,12 +18,12 @@ use Rattle.settings.proofs.RoundTrip.{settings-length}
 use Rattle.table.specs.Layout.{capacity}
 use Rattle.request.specs.Grammar.{Said, readLine, asked}
 use Rattle.outcome.specs.Outcome.{Outcome, outcome}
-use Rattle.hub.specs.Bytes.{numbersFrom, ByteOutcome, outcomeBytes, FreshOutcome, freshSettings}
-use Rattle.hub.proofs.Hub.{reads-as, hub-hands-on, hub-refused}
-use Rattle.hub.proofs.Fits.{whole-fits}
-use Rattle.hub.proofs.FreshBucket.{fresh-made, reads-fresh}
-use Rattle.guarantee.specs.Calls.{Lent, Call, held, freshLent, served, leaves, isAccepted, left, event, accepted, answersNumber}
-use Rattle.guarantee.specs.Bytes.{Bytes, spelled, servedBytes, leavesBytes, leftBytes, eventOn, acceptedBytes, freshBytes, Demand3Bytes}
+use Rattle.knitpasture.specs.Bytes.{numbersFrom, ByteOutcome, outcomeBytes, FreshOutcome, freshSettings}
+use Rattle.knitpasture.proofs.Hub.{reads-as, hub-hands-on, hub-refused}
+use Rattle.knitpasture.proofs.Fits.{whole-fits}
+use Rattle.knitpasture.proofs.FreshBucket.{fresh-made, reads-fresh}
+use Rattle.guarantee.specs.Calls.{Lent, Call, held, freshLent, served, leaves, isAccepted, left, callEvent, callEvents, answersNumber}
+use Rattle.guarantee.specs.Bytes.{Bytes, lentOf, servedBytes, leavesBytes, leftBytes, byteEvent, byteEvents, freshBytes, Demand3Bytes}
 use Rattle.guarantee.proofs.Demands.{demand-1}
 use Rattle.guarantee.proofs.Runs.{Whole, whole-after}
 use Rattle.guarantee.proofs.LockClause.{fresh-is-whole, demand-3}
@@ -31,16 +31,16 @@ use Rattle.guarantee.proofs.LockClause.{fresh-is-whole, demand-3}
 -- The bytes have the lengths for c rows, and spell a whole bucket.
 pub record Spells (c : ℕ) (b : Bytes) (s : Lent) : Type 0 where
   pub most : c ≤ 1024
-  pub is : spelled b ≡ s
+  pub is : lentOf b ≡ s
   pub settings-long : length (b .settings) ≡ 688
   pub rows-long : length (b .rows) ≡ 64 * c
   pub is-whole : Whole c s
 
 -- Bytes whose parts read as those of an outcome spell what it leaves.
-spelled-as : (b : Bytes) (o o′ : Outcome) → settingsOf (b .settings) ≡ o .settings → numbersFrom (length (b .rows) / 8) (b .rows) ≡ o .numbers → b .keys ≡ o .keys → o ≡ o′ → spelled b ≡ leaves o′
+spelled-as : (b : Bytes) (o o′ : Outcome) → settingsOf (b .settings) ≡ o .settings → numbersFrom (length (b .rows) / 8) (b .rows) ≡ o .numbers → b .keys ≡ o .keys → o ≡ o′ → lentOf b ≡ leaves o′
 spelled-as b o o′ es en ek e = rw (es, en, ek) (ap leaves e)
 
-spelled-fresh : (b : Bytes) (s : Lent) (n : ℕ) → length (b .rows) / 8 ≡ n → settingsOf (b .settings) ≡ s .settings → numbersFrom n (b .rows) ≡ s .numbers → b .keys ≡ s .keys → spelled b ≡ s
+spelled-fresh : (b : Bytes) (s : Lent) (n : ℕ) → length (b .rows) / 8 ≡ n → settingsOf (b .settings) ≡ s .settings → numbersFrom n (b .rows) ≡ s .numbers → b .keys ≡ s .keys → lentOf b ≡ s
 spelled-fresh b s n k es en ek = rw (k, es, en, ek)
 
 module _ (c : ℕ) (b : Bytes) (s : Lent) (l : Call) (w : Spells c b s) where
@@ -86,14 +86,14 @@ module _ (c : ℕ) (b : Bytes) (s : Lent) (l : Call) (w : Spells c b s) where
     | inr t ↦ spelled-refused (eqb-false ((served s l) .number) 0 t)
   ]
 
-  same-event : eqb ((served s l) .number) 0 ≡ true → eventOn b l ≡ event s l
+  same-event : eqb ((served s l) .number) 0 ≡ true → byteEvent b l ≡ callEvent s l
   same-event t = go (readLine (l .line)) refl
     where
-      go : (o : Option Said) → readLine (l .line) ≡ o → eventOn b l ≡ event s l
+      go : (o : Option Said) → readLine (l .line) ≡ o → byteEvent b l ≡ callEvent s l
       go none e = rw e
       go (some q) e = rw (e, same-answer t) (ap (λ (x : Lent). record { before = held x; request = asked (length (l .answer)) q; answered = answersNumber (q .verb) ((served s l) .answer) } ∷ []) (w .is))
 
-  pub same-events : pick (eqb ((servedBytes b l) .number) 0) (eventOn b l) [] ≡ pick (isAccepted s l) (event s l) []
+  pub same-events : pick (eqb ((servedBytes b l) .number) 0) (byteEvent b l) [] ≡ pick (isAccepted s l) (callEvent s l) []
   same-events = elim (either (eqb ((served s l) .number) 0)) [
     | inl t ↦ rw (same-number, t) (same-event t)
     | inr t ↦ rw (same-number, t)
@@ -101,11 +101,11 @@ module _ (c : ℕ) (b : Bytes) (s : Lent) (l : Call) (w : Spells c b s) where
 
 -- ## A list of calls
 
-pub spelled-left : (c : ℕ) (b : Bytes) (s : Lent) (ls : List Call) → Spells c b s → spelled (leftBytes b ls) ≡ left s ls
+pub spelled-left : (c : ℕ) (b : Bytes) (s : Lent) (ls : List Call) → Spells c b s → lentOf (leftBytes b ls) ≡ left s ls
 spelled-left c b s [] w = w .is
 spelled-left c b s (l ∷ ls) w = spelled-left c (leavesBytes (servedBytes b l)) (leaves (served s l)) ls (spelled-after c b s l w)
 
-pub accepted-spelled : (c : ℕ) (b : Bytes) (s : Lent) (ls : List Call) → Spells c b s → acceptedBytes b ls ≡ accepted s ls
+pub accepted-spelled : (c : ℕ) (b : Bytes) (s : Lent) (ls : List Call) → Spells c b s → byteEvents b ls ≡ callEvents s ls
 accepted-spelled c b s [] w = refl
 accepted-spelled c b s (l ∷ ls) w =
     ap₂ (λ (x y : List Event). x ++ y) (same-events c b s l w) (accepted-spelled c (leavesBytes (servedBytes b l)) (leaves (served s l)) ls (spelled-after c b s l w))

@@ -86,4 +86,4 @@ date-reads-back s l z a x e m =
     let rows = (sound-parts (capacity (s .keys)) (held s) (w .is-sound)) .rows-sound in
     let q = asked (length (l .answer)) (a .said) in
     until-back (x .mode) (x .until) m
-    (row-date _ _ x (is-row (held s) (nowOf (held s) (q .call)) (q .verb) (soundRow (held s .settings .next) (held s .settings .time)) x rows (ap shownRow e)))
+    (row-date _ _ x (is-row (held s) (nowOf (held s) (q .context)) (q .verb) (soundRow (held s .settings .next) (held s .settings .time)) x rows (ap shownRow e)))

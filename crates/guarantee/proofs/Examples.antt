@@ -25,8 +25,8 @@ use Rattle.model.specs.Settings.{soundRules, soundConfig, fits, sound}
 use Rattle.model.specs.Time.{defaultEnd}
 use Rattle.blocks.specs.Blocks.{blockOf, isBlock}
 use Rattle.bucket.specs.Whole.{whole}
-use Rattle.fields.specs.Fields.{rightsIn, rightsOf, keyOf, prefixOf, versionOf, modeOf, untilOf, switchOf, holdOf, bypassOf, periodOf}
-use Rattle.request.specs.Grammar.{nameAt, retentionAt, termsOf, putOf, copyOf, retainOf, setHoldOf, deleteOf, defaultOf, ruleOf, sweepOf, getOf, otherByWord, verbByWord, readLine}
+use Rattle.fields.specs.Fields.{rightsIn, readRights, readKey, readPrefix, readVersion, readMode, readUntil, readSwitch, readHold, readBypass, readPeriod}
+use Rattle.request.specs.Grammar.{nameAt, retentionAt, termsAt, putOf, copyOf, retainOf, setHoldOf, deleteOf, defaultOf, ruleOf, sweepOf, getOf, otherByWord, verbByWord, readLine}
 use Rattle.answers.specs.Text.{fieldsText, okText, modeText, untilText, holdText}
 use Rattle.outcome.specs.Outcome.{refusalOf, outcome}
 use Rattle.outcome.specs.Printed.{printed}
@@ -46,7 +46,7 @@ abbrev printedRun : Lent → List ℕ → List (List ℕ) → List ℕ
 printedRun s answer [] = []
 printedRun s answer (l ∷ ls) =
     let o = served s (call l answer) in
-    printed (o .number) (take (o .length) (o .answer)) ++ printedRun (leaves o) (o .answer) ls
+    printed (o .number) (take (o .len) (o .answer)) ++ printedRun (leaves o) (o .answer) ls
 
 abbrev text : List ℕ
 text =
@@ -66,5 +66,5 @@ pub printed-run : printedRun (freshLent 4) (replicate 256 0) (linesOf text) ≡
     ++ bytes "ok\t1\t41\t300\tCOMPLIANCE\t2024-03-02T00:00:00.000Z\tOFF\n"
     ++ bytes "ok\t1\tremoved\n"
     ++ bytes "no\t8\n"
-unfolding fieldOf isKeyByte isPrefix isKey isDigit digitMore leadingZero numberOf positiveOf digits leap yearsLength monthStart monthLength validDay daysOf guessOf yearOf monthOf dateIn civilOf periodEnd expiresAt dateText printDate digitOf twoDigits fourDigits dayNumber dayAt secondOfDay secondAt placeOf milliseconds fractionOf readDate reply added removed rowsAfter setConfig configAfter locked admits halfGiven needs granted lacksRight pastDate missing namesMarker barred tooLate spends full inRange soundRow soundRules soundConfig fits sound defaultEnd blockOf isBlock whole rightsIn rightsOf keyOf prefixOf versionOf modeOf untilOf switchOf holdOf bypassOf periodOf nameAt retentionAt termsOf putOf copyOf retainOf setHoldOf deleteOf defaultOf ruleOf sweepOf getOf otherByWord verbByWord readLine fieldsText okText modeText untilText holdText refusalOf outcome
+unfolding fieldOf isKeyByte isPrefix isKey isDigit digitMore leadingZero numberOf positiveOf digits leap yearsLength monthStart monthLength validDay daysOf guessOf yearOf monthOf dateIn civilOf periodEnd expiresAt dateText printDate digitOf twoDigits fourDigits dayNumber dayAt secondOfDay secondAt placeOf milliseconds fractionOf readDate reply added removed rowsAfter setConfig configAfter locked admits halfGiven needs granted lacksRight pastDate missing namesMarker barred tooLate spends full inRange soundRow soundRules soundConfig fits sound defaultEnd blockOf isBlock whole rightsIn readRights readKey readPrefix readVersion readMode readUntil readSwitch readHold readBypass readPeriod nameAt retentionAt termsAt putOf copyOf retainOf setHoldOf deleteOf defaultOf ruleOf sweepOf getOf otherByWord verbByWord readLine fieldsText okText modeText untilText holdText refusalOf outcome
 printed-run = refl

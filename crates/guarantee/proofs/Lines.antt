@@ -12,7 +12,7 @@ use Rattle.text.proofs.Lines.{lines-at}
 use Rattle.settings.specs.declared.Settings.{Settings}
 use Rattle.bucket.specs.Whole.{whole}
 use Rattle.engine.specs.declared.Served.{Served}
-use Rattle.engine.specs.Served.{served as returned}
+use Rattle.engine.specs.Served.{outcomeFrom}
 use Rattle.outcome.specs.Outcome.{Outcome, outcome}
 use Rattle.outcome.proofs.Demands.{unsound-refused}
 use Rattle.outcome.proofs.Kept.{outcome-whole}
@@ -30,12 +30,12 @@ module _ (t : List ℕ) (i k : ℕ) where
   module _ (end : Ended) (n₀ b₀ a₀ : List ℕ) where
     -- One line more is served.
     pub one-more : (s : Settings) (n b a n′ b′ a′ : List ℕ) (r : Served) → i < length t → Within k (feedAt (take (length t - i) (drop i t))) (length (take (length t - i) (drop i t)))
-        → returned r n′ b′ a′ ≡ outcome s n b (take (i + k - i) (drop i t)) a → length n′ ≡ length n → length b′ ≡ length b → length a′ ≡ length a
+        → outcomeFrom r n′ b′ a′ ≡ outcome s n b (take (i + k - i) (drop i t)) a → length n′ ≡ length n → length b′ ≡ length b → length a′ ≡ length a
         → Serving t end n₀ b₀ a₀ i s n b a → Serving t end n₀ b₀ a₀ (i + k + 1) (r .settings) n′ b′ a′
     one-more s n b a n′ b′ a′ r h w q ln lb la g =
         let e : k ≡ feedAt (drop i t) = rw (rest-all i t) at (w .is) in
         let z : i + k - i ≡ k = omega arith in
-        let o : returned r n′ b′ a′ ≡ outcome s n b (take k (drop i t)) a = rw z at q in
+        let o : outcomeFrom r n′ b′ a′ ≡ outcome s n b (take k (drop i t)) a = rw z at q in
         record {
           is-whole = subst⁻¹ (λ (x : Outcome). whole (x .settings) (x .numbers) (x .keys) ≡ true) o (outcome-whole s n b (take k (drop i t)) a (g .is-whole));
           leads = g .leads ∙ ap (servedLines (lent s n b) a) (lines-at t i k h e) ∙ ap (λ (x : Outcome). servedLines (leaves x) (x .answer) (linesOf (drop (i + k + 1) t))) (sym o);

@@ -4,7 +4,7 @@ use mathlib.Core.Path.{_≡_, refl}
 use mathlib.Core.List.{List, [], _∷_}
 use Rattle.text.specs.Lines.{linesOf}
 use Rattle.model.specs.LockClause.{Kept}
-use Rattle.guarantee.specs.Calls.{Lent, held, freshLent, served, leaves, left, accepted}
+use Rattle.guarantee.specs.Calls.{Lent, held, freshLent, served, leaves, left, callEvents}
 use Rattle.guarantee.specs.Lists.{call, servedLines, callsOf}
 use Rattle.guarantee.proofs.LockClause.{demand-3}
 
@@ -15,5 +15,5 @@ lines-left s answer (l ∷ ls) = lines-left (leaves (served s (call l answer))) 
 
 -- The lock clause of what `serve_lines` leaves on a fresh bucket.
 pub lines-kept : (c : ℕ) → 1 ≤ c → c ≤ 1024 → (text answer : List ℕ)
-    → Kept (held ((servedLines (freshLent c) answer (linesOf text)) .bucket)) (accepted (freshLent c) (callsOf (freshLent c) answer (linesOf text)))
+    → Kept (held ((servedLines (freshLent c) answer (linesOf text)) .bucket)) (callEvents (freshLent c) (callsOf (freshLent c) answer (linesOf text)))
 lines-kept c some most text answer = rw (lines-left (freshLent c) answer (linesOf text)) (demand-3 c some most (callsOf (freshLent c) answer (linesOf text)))

@@ -21,7 +21,7 @@ use Rattle.bucket.specs.Whole.{whole}
 use Rattle.request.specs.Grammar.{lineOf, asked}
 use Rattle.outcome.specs.Outcome.{refusalOf}
 use Rattle.outcome.proofs.Kept.{model-refusal, accepted-bucket, accepted-capacity, outcome-whole}
-use Rattle.guarantee.specs.Calls.{Lent, Call, held, served, leaves, isAccepted, left, event, accepted, answersNumber}
+use Rattle.guarantee.specs.Calls.{Lent, Call, held, served, leaves, isAccepted, left, callEvent, callEvents, answersNumber}
 use Rattle.guarantee.specs.Promise.{Accepted}
 use Rattle.guarantee.proofs.Demands.{accepts, unchanged, number-is}
 use Rattle.guarantee.proofs.Answering.{answered-is}
@@ -73,13 +73,13 @@ module _ (c : ℕ) (s : Lent) (l : Call) (w : Whole c s) where
   whole-after = record { is-whole = outcome-whole (s .settings) (s .numbers) (s .keys) (l .line) (l .answer) (w .is-whole); size = size-after }
 
   -- An accepted call says what the model's accepted line says.
-  event-accepted : (a : Accepted s l) → event s l ≡ model.event (held s) (lineIn l)
+  event-accepted : (a : Accepted s l) → callEvent s l ≡ model.lineEvent (held s) (lineIn l)
   event-accepted a =
       let q = asked (length (l .answer)) (a .said) in
-      let e : answersNumber (a .said .verb) ((served s l) .answer) ≡ (λ v. givesNumber v (answerTo (held s) q)) = rw (a .does) (fun-ext (λ v. answered-is (held s) (nowOf (held s) (q .call)) (q .verb) (l .answer) v)) in
+      let e : answersNumber (a .said .verb) ((served s l) .answer) ≡ (λ v. givesNumber v (answerTo (held s) q)) = rw (a .does) (fun-ext (λ v. answered-is (held s) (nowOf (held s) (q .context)) (q .verb) (l .answer) v)) in
       rw (a .reads) (ap (λ (f : ℕ → Bool). record { before = held s; request = q; answered = f } ∷ []) e)
 
-  pub events-after : pick (isAccepted s l) (event s l) [] ≡ pick (eqb (refusal c (held s) (lineIn l)) 0) (model.event (held s) (lineIn l)) []
+  pub events-after : pick (isAccepted s l) (callEvent s l) [] ≡ pick (eqb (refusal c (held s) (lineIn l)) 0) (model.lineEvent (held s) (lineIn l)) []
   events-after = elim (either (eqb number 0)) [
     | inl t ↦ rw (number-is s l, ← same-refusal, t) (event-accepted (accepts s l (eqb-true number 0 t)))
     | inr t ↦ rw (number-is s l, ← same-refusal, t)
@@ -91,8 +91,8 @@ pub held-left : (c : ℕ) (s : Lent) (ls : List Call) → Whole c s → held (le
 held-left c s [] w = refl
 held-left c s (l ∷ ls) w = held-left c (leaves (served s l)) ls (whole-after c s l w) ∙ ap (λ (b : Bucket). model.run c b (linesIn ls)) (held-after c s l w)
 
-pub accepted-left : (c : ℕ) (s : Lent) (ls : List Call) → Whole c s → accepted s ls ≡ model.accepted c (held s) (linesIn ls)
+pub accepted-left : (c : ℕ) (s : Lent) (ls : List Call) → Whole c s → callEvents s ls ≡ model.lineEvents c (held s) (linesIn ls)
 accepted-left c s [] w = refl
 accepted-left c s (l ∷ ls) w =
     ap₂ (λ (x y : List Event). x ++ y) (events-after c s l w)
-    (accepted-left c (leaves (served s l)) ls (whole-after c s l w) ∙ ap (λ (b : Bucket). model.accepted c b (linesIn ls)) (held-after c s l w))
+    (accepted-left c (leaves (served s l)) ls (whole-after c s l w) ∙ ap (λ (b : Bucket). model.lineEvents c b (linesIn ls)) (held-after c s l w))

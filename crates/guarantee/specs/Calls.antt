@@ -15,7 +15,7 @@ use Rattle.bucket.specs.Whole.{bucketOf}
 use Rattle.request.specs.Grammar.{readLine, asked}
 use Rattle.answers.specs.Text.{answerText}
 use Rattle.outcome.specs.Outcome.{Outcome, outcome}
-use Rattle.hub.specs.Bytes.{freshSettings}
+use Rattle.knitpasture.specs.Bytes.{freshSettings}
 
 -- The bucket as it is lent: its settings, the numbers of its rows, and their key bytes.
 pub record Lent : Type 0 where
@@ -73,12 +73,12 @@ abbrev pub answersNumber : Verb → List ℕ → ℕ → Bool
 answersNumber w answer v = makesVersion w && begins (answerText (made (numbered v))) answer
 
 -- An accepted call: the bucket before it, what its line reads as, and the number in its answer buffer.
-abbrev pub event : Lent → Call → List Event
-event s l =
+abbrev pub callEvent : Lent → Call → List Event
+callEvent s l =
     thenSome (readLine (l .line)) [] (λ q.
     record { before = held s; request = asked (length (l .answer)) q; answered = answersNumber (q .verb) ((served s l) .answer) } ∷ [])
 
 -- The accepted lines of a list of calls, in order.
-abbrev pub accepted : Lent → List Call → List Event
-accepted s [] = []
-accepted s (l ∷ ls) = pick (isAccepted s l) (event s l) [] ++ accepted (leaves (served s l)) ls
+abbrev pub callEvents : Lent → List Call → List Event
+callEvents s [] = []
+callEvents s (l ∷ ls) = pick (isAccepted s l) (callEvent s l) [] ++ callEvents (leaves (served s l)) ls

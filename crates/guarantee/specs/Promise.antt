@@ -19,7 +19,7 @@ use Rattle.request.specs.Grammar.{Said, readLine, lineOf, asked}
 use Rattle.answers.specs.Text.{untilText}
 use Rattle.outcome.specs.Outcome.{refused, accepted}
 use Rattle.guarantee.specs.Calls.{Lent, Call, held, freshLent, served, left}
-use Rattle.guarantee.specs.Calls.{accepted as acceptedLines}
+use Rattle.guarantee.specs.Calls.{callEvents}
 
 -- The twelve conditions of a call, in 01's order.
 abbrev pub conditions : Lent → Call → List Check
@@ -57,4 +57,4 @@ DatesReadBack = (t : ℕ) → t ≤ latest → readDate (printDate t) ≡ some t
 
 -- Demand 3: on a fresh bucket of any capacity, over any list of calls, the lock clause.
 abbrev pub Demand3 : Type 0
-Demand3 = (c : ℕ) → 1 ≤ c → c ≤ 1024 → (ls : List Call) → Kept (held (left (freshLent c) ls)) (acceptedLines (freshLent c) ls)
+Demand3 = (c : ℕ) → 1 ≤ c → c ≤ 1024 → (ls : List Call) → Kept (held (left (freshLent c) ls)) (callEvents (freshLent c) ls)

@@ -23,7 +23,7 @@ use Rattle.model.specs.Settings.{Rule, Config, fits}
 use Rattle.model.specs.Requests.{Name, Retention, Terms, Verb, Put, Copy, AddMarker, isRetention, isName, inRange}
 use Rattle.model.specs.Time.{newMode, newUntil}
 use Rattle.model.specs.Sweep.{marker}
-use Rattle.model.specs.Effects.{insert, newHold, newRow, added, rowsAfter}
+use Rattle.model.specs.Effects.{insertByKey, newHold, newRow, added, rowsAfter}
 use Rattle.model.specs.Refusals.{defaultTooLate, missing, namesMarker, barred, tooLate, spends, full}
 use Rattle.model.specs.Answers.{reply}
 use Rattle.model.proofs.Room.{length-insert}
@@ -95,7 +95,7 @@ module _ (g : Config) (now : ℕ) (r : Retention) (x : NewLock) (e : lockMeans x
 
 module _ (j : Judged) (c : ℕ) (s : State) (rules : List Rule) (xs : List Row) (now : ℕ) (v : Verb) (x : Row)
     (o : Open (bucketBy s rules xs) (both now) v) (one : added (bucketBy s rules xs) (both now) v ≡ 1)
-    (more : rowsAfter (bucketBy s rules xs) (both now) v ≡ insert x xs) where
+    (more : rowsAfter (bucketBy s rules xs) (both now) v ≡ insertByKey x xs) where
   add-11 : s .next ≡ 4294967296 → Judges j c xs (Refused 11) (tableDecision c (bucketBy s rules xs) (both now) v)
   add-11 e = refuse-11 j c (bucketBy s rules xs) (both now) v o (rw one (omega arith))
 
@@ -103,7 +103,7 @@ module _ (j : Judged) (c : ℕ) (s : State) (rules : List Rule) (xs : List Row) 
     add-12 : c ≤ length xs → Judges j c xs (Refused 12) (tableDecision c (bucketBy s rules xs) (both now) v)
     add-12 l = refuse-12 j c (bucketBy s rules xs) (both now) v o (rw one (omega arith)) (rw (more, length-insert) (omega arith))
 
-    add-done : (p : Plan) → length xs < c → changeMeans j xs (p .change) ≡ insert x xs → changeTakes (p .change) ≡ 1
+    add-done : (p : Plan) → length xs < c → changeMeans j xs (p .change) ≡ insertByKey x xs → changeTakes (p .change) ≡ 1
         → textOf (p .answer) ≡ answerText (reply (bucketBy s rules xs) (both now) v) → Feasible j c xs (Accepted p)
         → Judges j c xs (Accepted p) (tableDecision c (bucketBy s rules xs) (both now) v)
     add-done p l er et ex f =
@@ -210,12 +210,12 @@ marker-open s rules xs now k y = record { there = refl; no-marker = refl; unbarr
 -- What is found under a key has that key.
 found-key : (k : List ℕ) (xs : List Row) (i : ℕ) → places.currentIn k xs ≡ At i → keyHere xs i ≡ k
 unfolding places.currentIn
-found-key k xs i e = go (places.rowFrom xs (places.keyPlace k xs)) refl
+found-key k xs i e = go (places.nthRow xs (places.keyPlace k xs)) refl
   where
     here : i ≡ places.keyPlace k xs
     here = sym (ap places.placeFound e) ∙ current-place k xs
 
-    go : (o : Option Row) → places.rowFrom xs (places.keyPlace k xs) ≡ o → keyHere xs i ≡ k
+    go : (o : Option Row) → places.nthRow xs (places.keyPlace k xs) ≡ o → keyHere xs i ≡ k
     go none q = let f : Free (places.keyPlace k xs) ≡ At i = rw q at e in let z : _≡_ {A = ℕ} 0 1 = cc in absurd (omega arith)
     go (some y) q =
         elim (either (same (y .key) k)) [
@@ -244,7 +244,7 @@ module _ (s : State) (numbers keys line : List ℕ) (now : ℕ) (p : Place) (y :
       at-place : places.placeFound r ≡ i → i ≡ places.keyPlace (partOf line p) (rowsIn s numbers keys)
       at-place e = sym e ∙ ap places.placeFound found ∙ current-place key (rowsIn s numbers keys) ∙ rw ek
 
-      marker-at : places.placeFound r ≡ i → insertAt i (rowFrom n (partOf line p)) (rowsIn s numbers keys) ≡ insert (marker now (s .next) (partOf line p)) (rowsIn s numbers keys)
+      marker-at : places.placeFound r ≡ i → insertAt i (rowFrom n (partOf line p)) (rowsIn s numbers keys) ≡ insertByKey (marker now (s .next) (partOf line p)) (rowsIn s numbers keys)
       marker-at e = rw (new (partOf line p), at-place e) (sym (insert-place (marker now (s .next) (partOf line p)) (rowsIn s numbers keys)))
 
       pub marker-new : r ≡ Free i → Inside line p

@@ -9,12 +9,12 @@ use Rattle.buffers.specs.Choices.{pick}
 use Rattle.buffers.proofs.Tests.{and-l, and-r}
 use Rattle.calendar.specs.Calendar.{latest}
 use Rattle.model.specs.Settings.{Bucket, sound}
-use Rattle.model.specs.Requests.{Verb, Call, Request, reads, inRange}
+use Rattle.model.specs.Requests.{Verb, Context, Request, reads, inRange}
 use Rattle.model.specs.Time.{Now, nowOf}
 use Rattle.model.specs.Refusals.{halfGiven, lacksRight, pastDate, missing, namesMarker, barred, tooLate, spends, full, refusal}
 
 -- What holds of an accepted line, a field for each condition.
-pub record Accepted (c : ℕ) (b : Bucket) (g : Call) (now : Now) (w : Verb) : Type 0 where
+pub record Accepted (c : ℕ) (b : Bucket) (g : Context) (now : Now) (w : Verb) : Type 0 where
   pub whole : sound c b ≡ true
   pub roomy : ltb (g .room) 256 ≡ false
   pub instant : leb (g .clock) latest ≡ true
@@ -34,7 +34,7 @@ skip : (a : Bool) (n m : ℕ) → pick a (suc n) m ≡ 0 → (a ≡ false) × (m
 skip true n m e = absurd (omega arith)
 skip false n m e = (refl, e)
 
-pub accepted-line : (c : ℕ) (b : Bucket) (q : Request) → refusal c b (reads q) ≡ 0 → Accepted c b (q .call) (nowOf b (q .call)) (q .verb)
+pub accepted-line : (c : ℕ) (b : Bucket) (q : Request) → refusal c b (reads q) ≡ 0 → Accepted c b (q .context) (nowOf b (q .context)) (q .verb)
 unfolding refusal
 accepted-line c b q e =
     let s1 = skip _ _ _ e in
@@ -54,7 +54,7 @@ accepted-line c b q e =
       whole = not-false _ (s1 .0);
       roomy = s2 .0;
       instant = and-l _ _ ranges;
-      in-range = and-r (leb (q .call .clock) latest) _ ranges;
+      in-range = and-r (leb (q .context .clock) latest) _ ranges;
       not-half = s4 .0;
       permitted = s5 .0;
       future = s6 .0;
@@ -66,7 +66,7 @@ accepted-line c b q e =
       fitting = s12 .0;
     }
 
-pub accepts : (c : ℕ) (b : Bucket) (q : Request) → Accepted c b (q .call) (nowOf b (q .call)) (q .verb) → refusal c b (reads q) ≡ 0
+pub accepts : (c : ℕ) (b : Bucket) (q : Request) → Accepted c b (q .context) (nowOf b (q .context)) (q .verb) → refusal c b (reads q) ≡ 0
 unfolding refusal
 accepts c b q p =
     simp (p .whole, p .roomy, p .instant, p .in-range, p .not-half, p .permitted, p .future, p .present, p .no-marker, p .free, p .in-time, p .unspent, p .fitting)

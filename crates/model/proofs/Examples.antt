@@ -17,7 +17,7 @@ use Rattle.model.specs.Locks.{locked, admits}
 use Rattle.model.specs.Effects.{added, removed as rowsRemoved, rowsAfter, setConfig, configAfter}
 use Rattle.model.specs.Refusals.{halfGiven, needs, granted, lacksRight, pastDate, missing, namesMarker, barred, tooLate, spends, full, refusal}
 use Rattle.model.specs.Answers.{done, made, marked, removed, sweptCounts, shown, reply}
-use Rattle.model.specs.Run.{Reply, no, ok, replies, run, accepted}
+use Rattle.model.specs.Run.{Reply, no, ok, replies, run, lineEvents}
 use Rattle.model.specs.LockClause.{Held, InCompliance, InGovernance, OnHold}
 use Rattle.model.proofs.LockClause.{lock-clause}
 
@@ -27,7 +27,7 @@ abbrev letters : Rights
 letters = record { r = true; w = true; d = true; t = true; h = true; b = true; c = true }
 
 abbrev line : ℕ → Verb → Line
-line t v = reads (record { call = record { room = 256; clock = t; who = letters }; verb = v })
+line t v = reads (record { context = record { room = 256; clock = t; who = letters }; verb = v })
 
 abbrev key : List ℕ
 key = bytes "q/7"
@@ -129,9 +129,9 @@ pub record Examples : Type 0 where
   pub starred : Starred
   pub sweep-marks : sweptAt 86400001 ≡ ok done ∷ ok (made (numbered 1)) ∷ ok (sweptCounts 0 1) ∷ []
   pub sweep-waits : sweptAt 86400000 ≡ ok done ∷ ok (made (numbered 1)) ∷ ok (sweptCounts 0 0) ∷ []
-  pub compliance-held : Held (run 1024 fresh four) (accepted 1024 fresh four) 1 (InCompliance 1709337600000)
-  pub governance-held : Held (run 1 fresh governed) (accepted 1 fresh governed) 1 (InGovernance D)
-  pub hold-held : Held (run 1 fresh on-hold) (accepted 1 fresh on-hold) 1 OnHold
+  pub compliance-held : Held (run 1024 fresh four) (lineEvents 1024 fresh four) 1 (InCompliance 1709337600000)
+  pub governance-held : Held (run 1 fresh governed) (lineEvents 1 fresh governed) 1 (InGovernance D)
+  pub hold-held : Held (run 1 fresh on-hold) (lineEvents 1 fresh on-hold) 1 OnHold
 
 pub examples : Examples
 unfolding isKeyByte isKey isPrefix periodEnd expiresAt soundRow soundRules soundConfig fits sound inRange defaultEnd locked admits added rowsRemoved rowsAfter setConfig configAfter halfGiven needs granted lacksRight pastDate missing namesMarker barred tooLate spends full refusal reply

@@ -13,7 +13,7 @@ use Rattle.model.specs.Rows.{Row}
 use Rattle.model.specs.Settings.{fresh}
 use Rattle.model.specs.Requests.{Line}
 use Rattle.model.specs.Refusals.{Check, check, firstOf, FirstHolds}
-use Rattle.model.specs.Run.{run, accepted}
+use Rattle.model.specs.Run.{run, lineEvents}
 use Rattle.model.specs.LockClause.{timeAfter, versions, distinct}
 use Rattle.model.proofs.Versions.{cons-none}
 use Rattle.model.proofs.LockClause.{good-fresh}
@@ -85,5 +85,5 @@ always-distinct c ls =
     distinct-once ((run c fresh ls) .rows) (λ v. elim (i .single v) [ inl e ↦ inl e | inr e ↦ inr (e .0, e .1) ])
 
 -- The bucket's time is the largest clock reading of the accepted lines.
-pub always-time : (c : ℕ) (ls : List Line) → (run c fresh ls) .settings .time ≡ timeAfter (accepted c fresh ls)
+pub always-time : (c : ℕ) (ls : List Line) → (run c fresh ls) .settings .time ≡ timeAfter (lineEvents c fresh ls)
 always-time c ls = (good-fresh c ls) .invariant .time

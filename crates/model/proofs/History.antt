@@ -19,7 +19,7 @@ pub made-snoc : (es : List Event) (e : Event) (v : ℕ) → madeWith (es ++ (e �
 made-snoc es e v = making-snoc (λ u. none) es e v
 
 -- The largest clock reading.
-pub time-snoc : (es : List Event) (e : Event) → timeAfter (es ++ (e ∷ [])) ≡ max (timeAfter es) (e .request .call .clock)
+pub time-snoc : (es : List Event) (e : Event) → timeAfter (es ++ (e ∷ [])) ≡ max (timeAfter es) (e .request .context .clock)
 time-snoc [] e = omega arith
 time-snoc (x ∷ xs) e = rw (time-snoc xs e) (omega arith)
 

@@ -12,7 +12,7 @@ use Rattle.buffers.specs.Choices.{pick, thenSome, isSome, orZero}
 use Rattle.buffers.proofs.Tests.{either}
 use Rattle.model.specs.Rows.{Row, isMarker}
 use Rattle.model.specs.Settings.{Bucket, fresh}
-use Rattle.model.specs.Requests.{Version, Name, name, Terms, Get, Verb, Put, Copy, Retain, Hold, AddMarker, DeleteVersion, Set, Sweep, Ask, Call, Request}
+use Rattle.model.specs.Requests.{Version, Name, name, Terms, Get, Verb, Put, Copy, Retain, Hold, AddMarker, DeleteVersion, Set, Sweep, Ask, Context, Request}
 use Rattle.model.specs.Time.{Now, nowOf}
 use Rattle.model.specs.Effects.{rowOf, setRetention, setHold, holdNumber, newRow, added, rowsAfter, after}
 use Rattle.model.specs.Refusals.{missing, namesMarker}
@@ -44,14 +44,14 @@ pub fresh-invariant : Invariant fresh []
 fresh-invariant = record { time = refl; unused = λ v l. refl; unmade = λ v l. refl; single = λ v. inl refl }
 
 -- An accepted line, from its parts, and the list with it at the end.
-abbrev pub asked : Call → Verb → Request
-asked g w = record { call = g; verb = w }
+abbrev pub asked : Context → Verb → Request
+asked g w = record { context = g; verb = w }
 
-abbrev pub event : Bucket → Call → Verb → Event
-event b g w = record { before = b; request = asked g w; answered = λ v. givesNumber v (answerTo b (asked g w)) }
+abbrev pub eventOf : Bucket → Context → Verb → Event
+eventOf b g w = record { before = b; request = asked g w; answered = λ v. givesNumber v (answerTo b (asked g w)) }
 
-abbrev pub with : List Event → Bucket → Call → Verb → List Event
-with es b g w = es ++ (event b g w ∷ [])
+abbrev pub with : List Event → Bucket → Context → Verb → List Event
+with es b g w = es ++ (eventOf b g w ∷ [])
 
 -- ## The row that a line names
 
@@ -82,15 +82,15 @@ find xs es n s f g = go (rowOf xs n) refl f g
 -- ## The rows that a line adds
 
 -- The line makes a version whose number was not taken.
-made-now : (b : Bucket) (es : List Event) (g : Call) (w : Verb) (v : ℕ) → madeWith es v ≡ none → answers v (event b g w) ≡ true → madeWith (with es b g w) v ≡ makingBy (λ u. madeWith es u) (event b g w) w
-made-now b es g w v e m = made-snoc es (event b g w) v ∙ simp (e, m)
+made-now : (b : Bucket) (es : List Event) (g : Context) (w : Verb) (v : ℕ) → madeWith es v ≡ none → answers v (eventOf b g w) ≡ true → madeWith (with es b g w) v ≡ makingBy (λ u. madeWith es u) (eventOf b g w) w
+made-now b es g w v e m = made-snoc es (eventOf b g w) v ∙ simp (e, m)
 
 -- A version that was made before stays made with the same.
-pub made-before : (b : Bucket) (es : List Event) (g : Call) (w : Verb) (v : ℕ) (m : Making) → madeWith es v ≡ some m → madeWith (with es b g w) v ≡ some m
-made-before b es g w v m e = made-snoc es (event b g w) v ∙ simp e
+pub made-before : (b : Bucket) (es : List Event) (g : Context) (w : Verb) (v : ℕ) (m : Making) → madeWith es v ≡ some m → madeWith (with es b g w) v ≡ some m
+made-before b es g w v m e = made-snoc es (eventOf b g w) v ∙ simp e
 
 -- A PUT's row.
-pub put-held : (b : Bucket) (es : List Event) (g : Call) (k : List ℕ) (body size : ℕ) (t : Terms) → Invariant b es → (v : ℕ) → eqb (b .settings .next) v ≡ true → Held (after b (asked g (Put k body size t))) (with es b g (Put k body size t)) v (λ x. x ≡ newRow (b .settings) ((nowOf b g) .stamp) k body size t)
+pub put-held : (b : Bucket) (es : List Event) (g : Context) (k : List ℕ) (body size : ℕ) (t : Terms) → Invariant b es → (v : ℕ) → eqb (b .settings .next) v ≡ true → Held (after b (asked g (Put k body size t))) (with es b g (Put k body size t)) v (λ x. x ≡ newRow (b .settings) ((nowOf b g) .stamp) k body size t)
 unfolding rowsAfter reply
 put-held b es g k body size t i v e =
     let here : b .settings .next ≤ v = omega (arith, eqb-true (b .settings .next) v e) in
@@ -103,10 +103,10 @@ put-held b es g k body size t i v e =
     }
 
 -- A COPY's row.
-abbrev pub copyRow : Bucket → Call → Name → List ℕ → Terms → Row
+abbrev pub copyRow : Bucket → Context → Name → List ℕ → Terms → Row
 copyRow b g n k t = newRow (b .settings) ((nowOf b g) .stamp) k (thenSome (rowOf (b .rows) n) 0 (λ x. x .body)) (thenSome (rowOf (b .rows) n) 0 (λ x. x .size)) t
 
-pub copy-held : (c : ℕ) (b : Bucket) (es : List Event) (g : Call) (n : Name) (k : List ℕ) (t : Terms) → Accepted c b g (nowOf b g) (Copy n k t) → Invariant b es → (v : ℕ) → eqb (b .settings .next) v ≡ true → Held (after b (asked g (Copy n k t))) (with es b g (Copy n k t)) v (λ x. x ≡ copyRow b g n k t)
+pub copy-held : (c : ℕ) (b : Bucket) (es : List Event) (g : Context) (n : Name) (k : List ℕ) (t : Terms) → Accepted c b g (nowOf b g) (Copy n k t) → Invariant b es → (v : ℕ) → eqb (b .settings .next) v ≡ true → Held (after b (asked g (Copy n k t))) (with es b g (Copy n k t)) v (λ x. x ≡ copyRow b g n k t)
 unfolding rowsAfter reply missing namesMarker
 copy-held c b es g n k t p i v e =
     let here : b .settings .next ≤ v = omega (arith, eqb-true (b .settings .next) v e) in
@@ -131,7 +131,7 @@ held-numbered n l s = inr (s .row, s .once, inl (s .isData, s .unaltered), l)
 next-is : (n v : ℕ) → eqb n v ≡ true → v < n + 1
 next-is n v e = omega (arith, eqb-true n v e)
 
-numbered-after : (c : ℕ) (b : Bucket) (es : List Event) (g : Call) (w : Verb) → Accepted c b g (nowOf b g) w → Invariant b es → (v : ℕ) → b .settings .next ≤ v → Numbered (with es b g w) (b .settings .next + added b (nowOf b g) w) v (versions v (rowsAfter b (nowOf b g) w))
+numbered-after : (c : ℕ) (b : Bucket) (es : List Event) (g : Context) (w : Verb) → Accepted c b g (nowOf b g) w → Invariant b es → (v : ℕ) → b .settings .next ≤ v → Numbered (with es b g w) (b .settings .next + added b (nowOf b g) w) v (versions v (rowsAfter b (nowOf b g) w))
 unfolding rowsAfter added
 numbered-after c b es g (Put k body size t) p i v l =
     elim (either (eqb (b .settings .next) v)) [
@@ -182,7 +182,7 @@ shown-answers none v = refl
 shown-answers (some x) v = refl
 
 -- A line makes no version whose number it leaves for later.
-not-made : (b : Bucket) (g : Call) (w : Verb) (v : ℕ) → b .settings .next + added b (nowOf b g) w ≤ v → answers v (event b g w) ≡ false
+not-made : (b : Bucket) (g : Context) (w : Verb) (v : ℕ) → b .settings .next + added b (nowOf b g) w ≤ v → answers v (eventOf b g w) ≡ false
 unfolding added reply
 not-made b g (Put k body size t) v l = ne-eqb _ v (λ q. omega arith)
 not-made b g (Copy n k t) v l = ne-eqb _ v (λ q. omega arith)
@@ -195,23 +195,23 @@ not-made b g Sweep v l = refl
 not-made b g (Ask (Get n)) v l = shown-answers (rowOf (b .rows) n) v
 
 -- What a line leaves of a known row is known.
-known-after : (b : Bucket) (es : List Event) (g : Call) (w : Verb) (v : ℕ) (x y : Row) → y .kind ≡ x .kind → makingOf y ≡ makingOf x → Known es v x → Known (with es b g w) v y
+known-after : (b : Bucket) (es : List Event) (g : Context) (w : Verb) (v : ℕ) (x y : Row) → y .kind ≡ x .kind → makingOf y ≡ makingOf x → Known es v x → Known (with es b g w) v y
 known-after b es g w v x y k m (inl s) = inl (k ∙ s .0, rw m (made-before b es g w v (makingOf x) (s .1)))
 known-after b es g w v x y k m (inr s) = inr (k ∙ s)
 
-one-after : (b : Bucket) (es : List Event) (g : Call) (w : Verb) (v : ℕ) (x : Row) (ys : List Row) → Known es v x → Change (b .rows) ((nowOf b g) .judge) w v x ys → AtMostOne ys (with es b g w) v
+one-after : (b : Bucket) (es : List Event) (g : Context) (w : Verb) (v : ℕ) (x : Row) (ys : List Row) → Known es v x → Change (b .rows) ((nowOf b g) .judge) w v x ys → AtMostOne ys (with es b g w) v
 one-after b es g w v x ys s (kept e) = inr (x, e, known-after b es g w v x x refl refl s)
 one-after b es g w v x ys s (relocked r y e p q n) =
     inr (_, e, known-after b es g w v x (setRetention (orZero (r .mode)) (orZero (r .date)) x) refl refl s)
 one-after b es g w v x ys s (reheld on e n) = inr (_, e, known-after b es g w v x (setHold (holdNumber on) x) refl refl s)
 one-after b es g w v x ys s (dropped y e p n) = inl e
 
-pub invariant-after : (c : ℕ) (b : Bucket) (es : List Event) (g : Call) (w : Verb) → Accepted c b g (nowOf b g) w → Invariant b es → Invariant (after b (asked g w)) (with es b g w)
+pub invariant-after : (c : ℕ) (b : Bucket) (es : List Event) (g : Context) (w : Verb) → Accepted c b g (nowOf b g) w → Invariant b es → Invariant (after b (asked g w)) (with es b g w)
 invariant-after c b es g w p i =
     record {
-      time = sym (time-snoc es (event b g w) ∙ rw (sym (i .time)));
+      time = sym (time-snoc es (eventOf b g w) ∙ rw (sym (i .time)));
       unused = λ v l. elim (numbered-after c b es g w p i v (omega arith)) [ inl e ↦ e | inr s ↦ absurd (omega (arith, s .3)) ];
-      unmade = λ v l. made-snoc es (event b g w) v ∙ simp (i .unmade v (omega arith), not-made b g w v l);
+      unmade = λ v l. made-snoc es (eventOf b g w) v ∙ simp (i .unmade v (omega arith), not-made b g w v l);
       single = λ v. elim (either (leb (b .settings .next) v)) [
         | inl e ↦ elim (numbered-after c b es g w p i v (leb-true (b .settings .next) v e)) [ inl s ↦ inl s | inr s ↦ inr (s .0, s .1, s .2) ]
         | inr e ↦

@@ -27,7 +27,7 @@ use Rattle.model.specs.Requests.{
   Set,
   Sweep,
   Ask,
-  Call,
+  Context,
   bypassOf,
   isName,
   isRetention,
@@ -57,7 +57,7 @@ pub data Change (xs : List Row) (now : ℕ) (w : Verb) (v : ℕ) (x : Row) (ys :
 names-version : (v : ℕ) (xs : List Row) (n : Name) (x : Row) → versions v xs ≡ x ∷ [] → rowOf xs n ≡ some x → thenSome (rowOf xs n) false (λ y. eqb (y .number) v) ≡ true
 names-version v xs n x e f = rw f (eq-eqb (x .number) v (number-is v xs x e))
 
-retained : (c : ℕ) (b : Bucket) (g : Call) (now : Now) (n : Name) (r : Retention) (y : Bool) → Accepted c b g now (Retain n r y) → (v : ℕ) (x : Row) → versions v (b .rows) ≡ x ∷ [] → Change (b .rows) (now .judge) (Retain n r y) v x (versions v (rowsAfter b now (Retain n r y)))
+retained : (c : ℕ) (b : Bucket) (g : Context) (now : Now) (n : Name) (r : Retention) (y : Bool) → Accepted c b g now (Retain n r y) → (v : ℕ) (x : Row) → versions v (b .rows) ≡ x ∷ [] → Change (b .rows) (now .judge) (Retain n r y) v x (versions v (rowsAfter b now (Retain n r y)))
 unfolding rowsAfter barred inRange
 retained c b g now n r y p v x e =
     let moved = change-version v (isNamed (b .rows) n) (setRetention (orZero (r .mode)) (orZero (r .date))) (λ _. refl) (b .rows) x e in
@@ -78,7 +78,7 @@ held b now n on v x e =
       | inr t ↦ kept (moved ∙ rw t)
     ]
 
-deleted : (c : ℕ) (b : Bucket) (g : Call) (now : Now) (k : List ℕ) (u : Version) (y : Bool) → Accepted c b g now (DeleteVersion k u y) → (v : ℕ) (x : Row) → versions v (b .rows) ≡ x ∷ [] → Change (b .rows) (now .judge) (DeleteVersion k u y) v x (versions v (rowsAfter b now (DeleteVersion k u y)))
+deleted : (c : ℕ) (b : Bucket) (g : Context) (now : Now) (k : List ℕ) (u : Version) (y : Bool) → Accepted c b g now (DeleteVersion k u y) → (v : ℕ) (x : Row) → versions v (b .rows) ≡ x ∷ [] → Change (b .rows) (now .judge) (DeleteVersion k u y) v x (versions v (rowsAfter b now (DeleteVersion k u y)))
 unfolding rowsAfter barred
 deleted c b g now k u y p v x e =
     let left = keep-version v (λ z. not (isNamed (b .rows) (name k (some u)) z)) (b .rows) x e in
@@ -90,7 +90,7 @@ deleted c b g now k u y p v x e =
     ]
 
 -- Each verb.
-pub changed : (c : ℕ) (b : Bucket) (g : Call) (now : Now) (w : Verb) → Accepted c b g now w → (v : ℕ) (x : Row) → v < b .settings .next → versions v (b .rows) ≡ x ∷ [] → Change (b .rows) (now .judge) w v x (versions v (rowsAfter b now w))
+pub changed : (c : ℕ) (b : Bucket) (g : Context) (now : Now) (w : Verb) → Accepted c b g now w → (v : ℕ) (x : Row) → v < b .settings .next → versions v (b .rows) ≡ x ∷ [] → Change (b .rows) (now .judge) w v x (versions v (rowsAfter b now w))
 unfolding rowsAfter
 changed c b g now (Put k body size t) p v x l e = kept (insert-other v _ (b .rows) (ne-eqb _ v (λ q. omega arith)) ∙ e)
 changed c b g now (Copy n k t) p v x l e = kept (insert-other v _ (b .rows) (ne-eqb _ v (λ q. omega arith)) ∙ e)

@@ -12,7 +12,7 @@ use Rattle.buffers.specs.Choices.{isSome, orZero}
 use Rattle.buffers.proofs.Tests.{either, and-l, and-r, or-one, or-none}
 use Rattle.model.specs.Rows.{Row, governance, compliance}
 use Rattle.model.specs.Settings.{Bucket}
-use Rattle.model.specs.Requests.{Retention, Verb, Call, isThe, bypassOf, isModeField}
+use Rattle.model.specs.Requests.{Retention, Verb, Context, isThe, bypassOf, isModeField}
 use Rattle.model.specs.Time.{nowOf}
 use Rattle.model.specs.Locks.{locked, noEarlier, admits}
 use Rattle.model.specs.Effects.{setRetention, setHold, holdNumber, rowsAfter, after}
@@ -38,7 +38,7 @@ held-below b es v L i s =
       | inr e ↦ leb-false (b .settings .next) v e
     ]
 
-held-changed : (b : Bucket) (es : List Event) (g : Call) (w : Verb) (v : ℕ) (L : Row → Type 0) (s : Held b es v L) → Lasts (b .rows) ((nowOf b g) .judge) w v L → Change (b .rows) ((nowOf b g) .judge) w v (s .row) (versions v (rowsAfter b (nowOf b g) w)) → Held (after b (asked g w)) (with es b g w) v L
+held-changed : (b : Bucket) (es : List Event) (g : Context) (w : Verb) (v : ℕ) (L : Row → Type 0) (s : Held b es v L) → Lasts (b .rows) ((nowOf b g) .judge) w v L → Change (b .rows) ((nowOf b g) .judge) w v (s .row) (versions v (rowsAfter b (nowOf b g) w)) → Held (after b (asked g w)) (with es b g w) v L
 held-changed b es g w v L s h (kept e) =
     record { row = s .row; once = e; isData = s .isData; unaltered = made-before b es g w v _ (s .unaltered); lock = s .lock }
 held-changed b es g w v L s h (relocked r y e p q n) =
@@ -48,7 +48,7 @@ held-changed b es g w v L s h (reheld on e n) =
 held-changed b es g w v L s h (dropped y e p n) = absurd (h .stay (s .row) y (s .lock) p n)
 
 -- Each accepted line keeps a held version whose lock outlasts it.
-pub held-after : (c : ℕ) (b : Bucket) (es : List Event) (g : Call) (w : Verb) → Accepted c b g (nowOf b g) w → Invariant b es → (v : ℕ) (L : Row → Type 0) → Lasts (b .rows) ((nowOf b g) .judge) w v L → Held b es v L → Held (after b (asked g w)) (with es b g w) v L
+pub held-after : (c : ℕ) (b : Bucket) (es : List Event) (g : Context) (w : Verb) → Accepted c b g (nowOf b g) w → Invariant b es → (v : ℕ) (L : Row → Type 0) → Lasts (b .rows) ((nowOf b g) .judge) w v L → Held b es v L → Held (after b (asked g w)) (with es b g w) v L
 held-after c b es g w p i v L h s =
     held-changed b es g w v L s h (changed c b g (nowOf b g) w p v (s .row) (held-below b es v L i s) (s .once))
 

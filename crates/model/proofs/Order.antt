@@ -11,7 +11,7 @@ use Rattle.buffers.specs.Lists.{all, keep, change, same}
 use Rattle.buffers.proofs.Tests.{either, and-i, and-l, and-r, or-l, or-r, or-one, or-none}
 use Rattle.buffers.proofs.Lists.{same-path, all-as, all-keep, all-change}
 use Rattle.model.specs.Rows.{Row, before, ahead, ordered}
-use Rattle.model.specs.Effects.{insert}
+use Rattle.model.specs.Effects.{insertByKey}
 
 -- ## Keys
 
@@ -73,7 +73,7 @@ ahead-trans x y z p q =
 
 -- ## Changes of the table
 
-pub all-insert : (p : Row → Bool) (x : Row) (xs : List Row) → p x ≡ true → all p xs ≡ true → all p (insert x xs) ≡ true
+pub all-insert : (p : Row → Bool) (x : Row) (xs : List Row) → p x ≡ true → all p xs ≡ true → all p (insertByKey x xs) ≡ true
 all-insert p x [] h e = and-i (p x) _ h refl
 all-insert p x (y ∷ ys) h e =
     elim (either (before (y .key) (x .key))) [
@@ -90,11 +90,11 @@ ahead-new x y t l =
     ]
 
 -- A new row with a number above all others.
-pub ordered-insert : (x : Row) (xs : List Row) → all (λ y. ltb (y .number) (x .number)) xs ≡ true → ordered xs ≡ true → ordered (insert x xs) ≡ true
+pub ordered-insert : (x : Row) (xs : List Row) → all (λ y. ltb (y .number) (x .number)) xs ≡ true → ordered xs ≡ true → ordered (insertByKey x xs) ≡ true
 ordered-insert x [] l o = refl
 ordered-insert x (y ∷ ys) l o =
     elim (either (before (y .key) (x .key))) [
-      | inl t ↦ rw t (and-i (all (ahead y) (insert x ys)) _
+      | inl t ↦ rw t (and-i (all (ahead y) (insertByKey x ys)) _
           (all-insert (ahead y) x ys (or-l (before (y .key) (x .key)) _ t) (and-l _ _ o))
           (ordered-insert x ys (and-r (ltb (y .number) (x .number)) _ l) (and-r (all (ahead y) ys) _ o)))
       | inr t ↦

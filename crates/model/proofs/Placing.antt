@@ -13,7 +13,7 @@ use Rattle.buffers.specs.Lists.{change}
 use Rattle.buffers.proofs.Tests.{and-l, and-r, or-one}
 use Rattle.model.specs.Rows.{Row}
 use Rattle.model.specs.Settings.{Bucket}
-use Rattle.model.specs.Requests.{Name, Retention, Verb, Put, Copy, Retain, Hold, AddMarker, DeleteVersion, Set, Sweep, Ask, Call, isThe}
+use Rattle.model.specs.Requests.{Name, Retention, Verb, Put, Copy, Retain, Hold, AddMarker, DeleteVersion, Set, Sweep, Ask, Context, isThe}
 use Rattle.model.specs.Time.{nowOf, defaultEnd, newMode, newUntil}
 use Rattle.model.specs.Effects.{rowOf, isNamed, setRetention, setHold, holdNumber, newHold, rowsAfter, after}
 use Rattle.model.specs.Refusals.{missing, namesMarker}
@@ -22,7 +22,7 @@ use Rattle.model.specs.Run.{Event}
 use Rattle.model.specs.LockClause.{answers, makes, gives, putsBy, isOn, holdsBy, makingOf, Held, OnHold}
 use Rattle.model.proofs.Versions.{change-version, found-named}
 use Rattle.model.proofs.Accepted.{Accepted}
-use Rattle.model.proofs.Invariant.{Invariant, asked, event, with, Found, find, made-before, put-held, copy-held}
+use Rattle.model.proofs.Invariant.{Invariant, asked, eventOf, with, Found, find, made-before, put-held, copy-held}
 use Rattle.model.proofs.Locks.{the-is}
 
 pub held-as : {b : Bucket} {es : List Event} {v : ℕ} {L M : Row → Type 0} → Held b es v L → ((x : Row) → L x → M x) → Held b es v M
@@ -33,7 +33,7 @@ abbrev pub Under : ℕ → ℕ → Row → Type 0
 Under mode d x = (x .mode ≡ mode) × (x .until ≡ d)
 
 -- The lock fields of a PUT or COPY that put its version under a mode until d give its row that mode and date.
-given-under : (b : Bucket) (g : Call) (w : Verb) (mode d : ℕ) (r : Retention) → (o : Option ℕ) → r .mode ≡ o → 0 < mode → gives mode d (event b g w) r ≡ true → (newMode (b .settings .config) r ≡ mode) × (newUntil (b .settings .config) ((nowOf b g) .stamp) r ≡ d)
+given-under : (b : Bucket) (g : Context) (w : Verb) (mode d : ℕ) (r : Retention) → (o : Option ℕ) → r .mode ≡ o → 0 < mode → gives mode d (eventOf b g w) r ≡ true → (newMode (b .settings .config) r ≡ mode) × (newUntil (b .settings .config) ((nowOf b g) .stamp) r ≡ d)
 given-under b g w mode d r none q l e =
     let f : (eqb (b .settings .config .default .mode) mode && eqb (defaultEnd (b .settings .config) ((nowOf b g) .stamp)) d) ≡ true = rw q at e in
     let m : b .settings .config .default .mode ≡ mode = eqb-true _ mode (and-l _ _ f) in
@@ -48,7 +48,7 @@ given-under b g w mode d r (some n) q l e =
     ]
 
 -- The row that a line names, changed in place.
-named-held : (b : Bucket) (es : List Event) (g : Call) (w : Verb) (n : Name) (f : Row → Row) → ((y : Row) → (f y) .number ≡ y .number) → ((y : Row) → (f y) .kind ≡ y .kind) → ((y : Row) → makingOf (f y) ≡ makingOf y) → rowsAfter b (nowOf b g) w ≡ change (isNamed (b .rows) n) f (b .rows) → ((x : Row) × Found (b .rows) es n x) → (v : ℕ) → thenSome (rowOf (b .rows) n) false (λ y. eqb (y .number) v) ≡ true → (x : Row) × Held (after b (asked g w)) (with es b g w) v (λ y. y ≡ f x)
+named-held : (b : Bucket) (es : List Event) (g : Context) (w : Verb) (n : Name) (f : Row → Row) → ((y : Row) → (f y) .number ≡ y .number) → ((y : Row) → (f y) .kind ≡ y .kind) → ((y : Row) → makingOf (f y) ≡ makingOf y) → rowsAfter b (nowOf b g) w ≡ change (isNamed (b .rows) n) f (b .rows) → ((x : Row) × Found (b .rows) es n x) → (v : ℕ) → thenSome (rowOf (b .rows) n) false (λ y. eqb (y .number) v) ≡ true → (x : Row) × Held (after b (asked g w)) (with es b g w) v (λ y. y ≡ f x)
 named-held b es g w n f same-number same-kind same-making rows (x, s) v e =
     let is : x .number ≡ v = eqb-true (x .number) v (rw (s .found) at e) in (
       x,
@@ -61,13 +61,13 @@ named-held b es g w n f same-number same-kind same-making rows (x, s) v e =
       },
     )
 
-retain-held : (c : ℕ) (b : Bucket) (es : List Event) (g : Call) (n : Name) (r : Retention) (y : Bool) → Accepted c b g (nowOf b g) (Retain n r y) → Invariant b es → (v : ℕ) → thenSome (rowOf (b .rows) n) false (λ x. eqb (x .number) v) ≡ true → Held (after b (asked g (Retain n r y))) (with es b g (Retain n r y)) v (Under (orZero (r .mode)) (orZero (r .date)))
+retain-held : (c : ℕ) (b : Bucket) (es : List Event) (g : Context) (n : Name) (r : Retention) (y : Bool) → Accepted c b g (nowOf b g) (Retain n r y) → Invariant b es → (v : ℕ) → thenSome (rowOf (b .rows) n) false (λ x. eqb (x .number) v) ≡ true → Held (after b (asked g (Retain n r y))) (with es b g (Retain n r y)) v (Under (orZero (r .mode)) (orZero (r .date)))
 unfolding rowsAfter missing namesMarker
 retain-held c b es g n r y p i v e =
     let s = named-held b es g (Retain n r y) n (setRetention (orZero (r .mode)) (orZero (r .date))) (λ _. refl) (λ _. refl) (λ _. refl) refl (find (b .rows) es n (i .single) (p .present) (p .no-marker)) v e in
     held-as (s .1) (λ x q. rw q (refl, refl))
 
-hold-held : (c : ℕ) (b : Bucket) (es : List Event) (g : Call) (n : Name) (on : Bool) → Accepted c b g (nowOf b g) (Hold n on) → Invariant b es → (v : ℕ) → thenSome (rowOf (b .rows) n) false (λ x. eqb (x .number) v) ≡ true → Held (after b (asked g (Hold n on))) (with es b g (Hold n on)) v (λ x. x .hold ≡ holdNumber on)
+hold-held : (c : ℕ) (b : Bucket) (es : List Event) (g : Context) (n : Name) (on : Bool) → Accepted c b g (nowOf b g) (Hold n on) → Invariant b es → (v : ℕ) → thenSome (rowOf (b .rows) n) false (λ x. eqb (x .number) v) ≡ true → Held (after b (asked g (Hold n on))) (with es b g (Hold n on)) v (λ x. x .hold ≡ holdNumber on)
 unfolding rowsAfter missing namesMarker
 hold-held c b es g n on p i v e =
     let s = named-held b es g (Hold n on) n (setHold (holdNumber on)) (λ _. refl) (λ _. refl) (λ _. refl) refl (find (b .rows) es n (i .single) (p .present) (p .no-marker)) v e in
@@ -78,14 +78,14 @@ makes-and : (es : List Event) (v : ℕ) (e : Event) (t : Bool) → (makes es v e
 makes-and es v e t h = (and-l (answers v e) _ (and-l (makes es v e) _ h), and-r (makes es v e) _ h)
 
 -- The line that puts the version under a mode until d.
-pub puts-held : (c : ℕ) (b : Bucket) (es : List Event) (g : Call) (w : Verb) → Accepted c b g (nowOf b g) w → Invariant b es → (mode d v : ℕ) → 0 < mode → putsBy es mode d v (event b g w) w ≡ true → Held (after b (asked g w)) (with es b g w) v (Under mode d)
+pub puts-held : (c : ℕ) (b : Bucket) (es : List Event) (g : Context) (w : Verb) → Accepted c b g (nowOf b g) w → Invariant b es → (mode d v : ℕ) → 0 < mode → putsBy es mode d v (eventOf b g w) w ≡ true → Held (after b (asked g w)) (with es b g w) v (Under mode d)
 unfolding reply
 puts-held c b es g (Put k body size t) p i mode d v l e =
-    let m = makes-and es v (event b g (Put k body size t)) (gives mode d (event b g (Put k body size t)) (t .retention)) e in
+    let m = makes-and es v (eventOf b g (Put k body size t)) (gives mode d (eventOf b g (Put k body size t)) (t .retention)) e in
     let f = given-under b g (Put k body size t) mode d (t .retention) (t .retention .mode) refl l (m .1) in
     held-as (put-held b es g k body size t i v (m .0)) (λ x q. rw q f)
 puts-held c b es g (Copy n k t) p i mode d v l e =
-    let m = makes-and es v (event b g (Copy n k t)) (gives mode d (event b g (Copy n k t)) (t .retention)) e in
+    let m = makes-and es v (eventOf b g (Copy n k t)) (gives mode d (eventOf b g (Copy n k t)) (t .retention)) e in
     let f = given-under b g (Copy n k t) mode d (t .retention) (t .retention .mode) refl l (m .1) in
     held-as (copy-held c b es g n k t p i v (m .0)) (λ x q. rw q f)
 puts-held c b es g (Retain n r y) p i mode d v l e =
@@ -104,13 +104,13 @@ on-is none e = absurd (false≢true e)
 on-is (some on) e = rw e
 
 -- The line that puts the version on hold.
-pub holds-held : (c : ℕ) (b : Bucket) (es : List Event) (g : Call) (w : Verb) → Accepted c b g (nowOf b g) w → Invariant b es → (v : ℕ) → holdsBy es v (event b g w) w ≡ true → Held (after b (asked g w)) (with es b g w) v OnHold
+pub holds-held : (c : ℕ) (b : Bucket) (es : List Event) (g : Context) (w : Verb) → Accepted c b g (nowOf b g) w → Invariant b es → (v : ℕ) → holdsBy es v (eventOf b g w) w ≡ true → Held (after b (asked g w)) (with es b g w) v OnHold
 unfolding reply
 holds-held c b es g (Put k body size t) p i v e =
-    let m = makes-and es v (event b g (Put k body size t)) (isOn (t .hold)) e in
+    let m = makes-and es v (eventOf b g (Put k body size t)) (isOn (t .hold)) e in
     held-as (put-held b es g k body size t i v (m .0)) (λ x q. rw q (on-is (t .hold) (m .1)))
 holds-held c b es g (Copy n k t) p i v e =
-    let m = makes-and es v (event b g (Copy n k t)) (isOn (t .hold)) e in
+    let m = makes-and es v (eventOf b g (Copy n k t)) (isOn (t .hold)) e in
     held-as (copy-held c b es g n k t p i v (m .0)) (λ x q. rw q (on-is (t .hold) (m .1)))
 holds-held c b es g (Retain n r y) p i v e = absurd (false≢true e)
 holds-held c b es g (Hold n on) p i v e =

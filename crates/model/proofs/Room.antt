@@ -15,11 +15,11 @@ use Rattle.model.specs.Settings.{Rule, Bucket}
 use Rattle.model.specs.Requests.{name, Verb, Put, Copy, Retain, Hold, AddMarker, DeleteVersion, Set, Sweep, Ask}
 use Rattle.model.specs.Time.{Now}
 use Rattle.model.specs.Sweep.{Fate, stays, goes, gains, fate, inPlace, marks, removes, swept, counted}
-use Rattle.model.specs.Effects.{rowOf, sameVersion, isNamed, insert, added, removed, rowsAfter}
+use Rattle.model.specs.Effects.{rowOf, sameVersion, isNamed, insertByKey, added, removed, rowsAfter}
 use Rattle.model.specs.Refusals.{missing}
 use Rattle.model.proofs.SoundRows.{apart, version-refl}
 
-pub length-insert : (x : Row) (xs : List Row) → length (insert x xs) ≡ length xs + 1
+pub length-insert : (x : Row) (xs : List Row) → length (insertByKey x xs) ≡ length xs + 1
 length-insert x [] = refl
 length-insert x (y ∷ ys) =
     elim (either (before (y .key) (x .key))) [

@@ -17,7 +17,7 @@ use Rattle.text.specs.Keys.{isKey, isPrefix}
 use Rattle.calendar.specs.Calendar.{latest}
 use Rattle.model.specs.Rows.{Row, isMode, ordered, soundData, soundRow, bodies, largestSize}
 use Rattle.model.specs.Settings.{Rule, Config, Bucket, fresh, absentRule, spentNumber, isDays, isSet, soundDefault, soundRule, soundRules, soundConfig, fits, sound}
-use Rattle.model.specs.Requests.{Name, Retention, Terms, Period, Setting, DefaultRetention, LifecycleRule, Verb, Put, Copy, Retain, Hold, AddMarker, DeleteVersion, Set, Sweep, Ask, Call, Request, Line, unreadable, reads, isModeField, isPeriodField, isName, isRetention, isSetting, inRange}
+use Rattle.model.specs.Requests.{Name, Retention, Terms, Period, Setting, DefaultRetention, LifecycleRule, Verb, Put, Copy, Retain, Hold, AddMarker, DeleteVersion, Set, Sweep, Ask, Context, Request, Line, unreadable, reads, isModeField, isPeriodField, isName, isRetention, isSetting, inRange}
 use Rattle.model.specs.Time.{Now, nowOf}
 use Rattle.model.specs.Sweep.{marks, counted}
 use Rattle.model.specs.Effects.{rowOf, isNamed, setRetention, setHold, holdNumber, added, rowsAfter, defaultFrom, setConfig, configAfter, after}
@@ -83,7 +83,7 @@ on-or-off : (on : Bool) → leb (holdNumber on) 1 ≡ true
 on-or-off true = refl
 on-or-off false = refl
 
-module _ (c : ℕ) (b : Bucket) (g : Call) (now : Now) (s : Whole c b) (l : b .settings .time ≤ now .stamp) where
+module _ (c : ℕ) (b : Bucket) (g : Context) (now : Now) (s : Whole c b) (l : b .settings .time ≤ now .stamp) where
   rows-put : (k : List ℕ) (body size : ℕ) (t : Terms) → Accepted c b g now (Put k body size t) → all (soundRow (b .settings .next + 1) (now .stamp)) (rowsAfter b now (Put k body size t)) ≡ true
   unfolding rowsAfter inRange halfGiven pastDate tooLate
   rows-put k body size t p =
@@ -191,7 +191,7 @@ unfolding sound
 sound-after c b q e =
     let p = accepted-line c b q e in
     let w = whole c b (p .whole) in
-    let g = q .call in
+    let g = q .context in
     let clock-fits = leb-true (g .clock) latest (p .instant) in
     let old-fits = leb-true (b .settings .time) latest (w .time-fits) in
     let s₁ = fits-after c b (nowOf b g) (q .verb) (p .fitting) in

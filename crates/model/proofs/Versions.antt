@@ -18,7 +18,7 @@ use Rattle.model.specs.Requests.{Name}
 use Rattle.model.specs.Time.{Now}
 use Rattle.model.specs.Locks.{locked}
 use Rattle.model.specs.Sweep.{marker, applying, due, Fate, stays, goes, gains, fate, inPlace, marks, swept, counted}
-use Rattle.model.specs.Effects.{rowOf, sameVersion, isNamed, insert}
+use Rattle.model.specs.Effects.{rowOf, sameVersion, isNamed, insertByKey}
 use Rattle.model.specs.LockClause.{versions}
 
 -- The row has the number that it is found by.
@@ -42,7 +42,7 @@ cons-none v x xs h =
 
 -- ## Insertion
 
-pub insert-other : (v : ℕ) (x : Row) (xs : List Row) → eqb (x .number) v ≡ false → versions v (insert x xs) ≡ versions v xs
+pub insert-other : (v : ℕ) (x : Row) (xs : List Row) → eqb (x .number) v ≡ false → versions v (insertByKey x xs) ≡ versions v xs
 insert-other v x [] e = simp e
 insert-other v x (y ∷ ys) e =
     elim (either (before (y .key) (x .key))) [
@@ -53,7 +53,7 @@ insert-other v x (y ∷ ys) e =
       | inr t ↦ simp (t, e)
     ]
 
-pub insert-new : (v : ℕ) (x : Row) (xs : List Row) → eqb (x .number) v ≡ true → versions v xs ≡ [] → versions v (insert x xs) ≡ x ∷ []
+pub insert-new : (v : ℕ) (x : Row) (xs : List Row) → eqb (x .number) v ≡ true → versions v xs ≡ [] → versions v (insertByKey x xs) ≡ x ∷ []
 insert-new v x [] e h = simp e
 insert-new v x (y ∷ ys) e h =
     let other = cons-none v y ys h in

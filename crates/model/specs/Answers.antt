@@ -41,7 +41,7 @@ reply b now Sweep = sweptCounts (rowsRemoved b now Sweep) (added b now Sweep)
 reply b now (Ask (Get n)) = thenSome (rowOf (b .rows) n) done (λ x. shown x)
 
 abbrev pub answerTo : Bucket → Request → Answer
-answerTo b q = reply b (nowOf b (q .call)) (q .verb)
+answerTo b q = reply b (nowOf b (q .context)) (q .verb)
 
 -- The answer is that of a PUT or COPY, and gives this number.
 abbrev pub givesNumber : ℕ → Answer → Bool

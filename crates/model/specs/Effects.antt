@@ -34,9 +34,9 @@ isNamed xs n y = thenSome (rowOf xs n) false (λ x. sameVersion x y)
 -- ## Changes of the table
 
 -- A new row, which has the highest number, stands before the first row whose key is not before its own.
-abbrev pub insert : Row → List Row → List Row
-insert x [] = x ∷ []
-insert x (y ∷ ys) = pick (before (y .key) (x .key)) (y ∷ insert x ys) (x ∷ y ∷ ys)
+abbrev pub insertByKey : Row → List Row → List Row
+insertByKey x [] = x ∷ []
+insertByKey x (y ∷ ys) = pick (before (y .key) (x .key)) (y ∷ insertByKey x ys) (x ∷ y ∷ ys)
 
 abbrev pub setRetention : ℕ → ℕ → Row → Row
 setRetention m d x =
@@ -97,13 +97,13 @@ removed b now (Ask q) = 0
 
 -- The table. A copy takes body and length from its source.
 unfoldable pub rowsAfter : Bucket → Now → Verb → List Row
-rowsAfter b now (Put k body size t) = insert (newRow (b .settings) (now .stamp) k body size t) (b .rows)
+rowsAfter b now (Put k body size t) = insertByKey (newRow (b .settings) (now .stamp) k body size t) (b .rows)
 rowsAfter b now (Copy n k t) =
     let source = rowOf (b .rows) n in
-    insert (newRow (b .settings) (now .stamp) k (thenSome source 0 (λ x. x .body)) (thenSome source 0 (λ x. x .size)) t) (b .rows)
+    insertByKey (newRow (b .settings) (now .stamp) k (thenSome source 0 (λ x. x .body)) (thenSome source 0 (λ x. x .size)) t) (b .rows)
 rowsAfter b now (Retain n r y) = change (isNamed (b .rows) n) (setRetention (orZero (r .mode)) (orZero (r .date))) (b .rows)
 rowsAfter b now (Hold n on) = change (isNamed (b .rows) n) (setHold (holdNumber on)) (b .rows)
-rowsAfter b now (AddMarker k y) = insert (marker (now .stamp) (b .settings .next) k) (b .rows)
+rowsAfter b now (AddMarker k y) = insertByKey (marker (now .stamp) (b .settings .next) k) (b .rows)
 rowsAfter b now (DeleteVersion k v y) = keep (λ x. not (isNamed (b .rows) (name k (some v)) x)) (b .rows)
 rowsAfter b now (Set s) = b .rows
 rowsAfter b now Sweep = swept (b .settings .config .rules) now (b .settings .next) none (b .rows)
@@ -127,7 +127,7 @@ configAfter s v = thenSome (settingOf v) s (λ a. setConfig a s)
 -- Now becomes the bucket's time.
 abbrev pub after : Bucket → Request → Bucket
 after b q =
-    let now = nowOf b (q .call) in
+    let now = nowOf b (q .context) in
     record {
       settings = record {
         time = now .stamp;

@@ -14,18 +14,18 @@ use Rattle.model.specs.Requests.{Retention, Verb, Put, Copy, Retain, Hol
 use Rattle.model.specs.Time.{nowOf, defaultEnd}
 use Rattle.model.specs.Effects.{rowOf}
 use Rattle.model.specs.Refusals.{namedRow}
-use Rattle.model.specs.Run.{Event, run, accepted}
+use Rattle.model.specs.Run.{Event, run, lineEvents}
 
 -- ## Time
 
 -- The bucket's time: the largest clock reading of the accepted lines, 0 when fresh.
 abbrev pub timeAfter : List Event → ℕ
 timeAfter [] = 0
-timeAfter (e ∷ es) = max (e .request .call .clock) (timeAfter es)
+timeAfter (e ∷ es) = max (e .request .context .clock) (timeAfter es)
 
 -- The line's now, from which creation and dates are taken.
 abbrev pub nowAt : Event → ℕ
-nowAt e = (nowOf (e .before) (e .request .call)) .stamp
+nowAt e = (nowOf (e .before) (e .request .context)) .stamp
 
 -- ## Names
 
@@ -199,4 +199,4 @@ pub record Kept (b : Bucket) (es : List Event) : Type 0 where
 
 -- The lock clause (demand 3): a fresh bucket of any capacity, any list of lines.
 abbrev pub LockClause : Type 0
-LockClause = (c : ℕ) (ls : List Line) → Kept (run c fresh ls) (accepted c fresh ls)
+LockClause = (c : ℕ) (ls : List Line) → Kept (run c fresh ls) (lineEvents c fresh ls)

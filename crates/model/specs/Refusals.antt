@@ -10,14 +10,14 @@ use Rattle.buffers.specs.Lists.{all}
 use Rattle.calendar.specs.Calendar.{latest}
 use Rattle.model.specs.Rows.{Row, isMarker}
 use Rattle.model.specs.Settings.{Config, Bucket, hasDefault, spentNumber, fits, sound}
-use Rattle.model.specs.Requests.{Letter, reading, writing, deleting, retaining, holding, bypassing, configuring, Rights, has, Retention, Terms, Setting, DefaultRetention, LifecycleRule, Get, Verb, Put, Copy, Retain, Hold, AddMarker, DeleteVersion, Set, Sweep, Ask, Call, Request, Line, unreadable, reads, roomOf, nameOf, termsOf, retentionOf, settingOf, inRange}
+use Rattle.model.specs.Requests.{Letter, reading, writing, deleting, retaining, holding, bypassing, configuring, Rights, has, Retention, Terms, Setting, DefaultRetention, LifecycleRule, Get, Verb, Put, Copy, Retain, Hold, AddMarker, DeleteVersion, Set, Sweep, Ask, Context, Request, Line, unreadable, reads, roomOf, nameOf, termsOf, retentionOf, settingOf, inRange}
 use Rattle.model.specs.Time.{Now, nowOf, defaultEnd}
 use Rattle.model.specs.Locks.{locked, admits}
 use Rattle.model.specs.Effects.{rowOf, added, rowsAfter}
 
 -- ## 3. A field is outside its range
 
-abbrev pub outOfRange : Call → Verb → Bool
+abbrev pub outOfRange : Context → Verb → Bool
 outOfRange g v = not (leb (g .clock) latest && inRange v)
 
 -- ## 4. Exactly one of mode and date (or period) is `-`
@@ -168,8 +168,8 @@ pub record FirstHolds (xs : List Check) (n : ℕ) : Type 0 where
 abbrev pub fieldChecks : Bucket → Request → List Check
 fieldChecks b q =
     check 4 (halfGiven (q .verb))
-    ∷ check 5 (lacksRight (b .settings .config) (q .call .who) (q .verb))
-    ∷ check 6 (pastDate ((nowOf b (q .call)) .stamp) (q .verb))
+    ∷ check 5 (lacksRight (b .settings .config) (q .context .who) (q .verb))
+    ∷ check 6 (pastDate ((nowOf b (q .context)) .stamp) (q .verb))
     ∷ []
 
 -- The conditions on the table and the settings.
@@ -187,7 +187,7 @@ tableChecks c b now v =
 abbrev pub requestChecks : ℕ → Bucket → Line → List Check
 requestChecks c b (unreadable room) = check 3 true ∷ []
 requestChecks c b (reads q) =
-    check 3 (outOfRange (q .call) (q .verb)) ∷ fieldChecks b q ++ tableChecks c b (nowOf b (q .call)) (q .verb)
+    check 3 (outOfRange (q .context) (q .verb)) ∷ fieldChecks b q ++ tableChecks c b (nowOf b (q .context)) (q .verb)
 
 -- The twelve conditions in 01's order; whether the whole is sound is told apart, since buffers hold more than the bucket.
 abbrev pub checks : Bool → ℕ → Bucket → Line → List Check

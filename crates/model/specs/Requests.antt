@@ -84,13 +84,13 @@ pub data Verb : Type 0 where
   Ask : Query → Verb
 
 -- What comes with any verb: the answer buffer's length, the clock's reading, the rights.
-pub record Call : Type 0 where
+pub record Context : Type 0 where
   pub room : ℕ
   pub clock : ℕ
   pub who : Rights
 
 pub record Request : Type 0 where
-  pub call : Call
+  pub context : Context
   pub verb : Verb
 
 -- A line can't be read, or it reads as a request; its answer buffer has a length in either case.
@@ -100,7 +100,7 @@ pub data Line : Type 0 where
 
 abbrev pub roomOf : Line → ℕ
 roomOf (unreadable room) = room
-roomOf (reads q) = q .call .room
+roomOf (reads q) = q .context .room
 
 -- ## The fields that several verbs have
 

@@ -30,14 +30,14 @@ pub record Event : Type 0 where
   pub request : Request
   pub answered : ℕ → Bool
 
-abbrev pub event : Bucket → Line → List Event
-event b (unreadable room) = []
-event b (reads q) = record { before = b; request = q; answered = λ v. givesNumber v (answerTo b q) } ∷ []
+abbrev pub lineEvent : Bucket → Line → List Event
+lineEvent b (unreadable room) = []
+lineEvent b (reads q) = record { before = b; request = q; answered = λ v. givesNumber v (answerTo b q) } ∷ []
 
 -- The accepted lines of a list, in order.
-abbrev pub accepted : ℕ → Bucket → List Line → List Event
-accepted c b [] = []
-accepted c b (l ∷ ls) = pick (eqb (refusal c b l) 0) (event b l) [] ++ accepted c (serve c b l) ls
+abbrev pub lineEvents : ℕ → Bucket → List Line → List Event
+lineEvents c b [] = []
+lineEvents c b (l ∷ ls) = pick (eqb (refusal c b l) 0) (lineEvent b l) [] ++ lineEvents c (serve c b l) ls
 
 -- What a line gets back: a refusal's number, or an answer.
 pub data Reply : Type 0 where

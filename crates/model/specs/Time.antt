@@ -3,7 +3,7 @@ use Prim.Native.Nat.{ℕ, max}
 use Rattle.buffers.specs.Choices.{pick, thenSome, orZero}
 use Rattle.calendar.specs.Periods.{periodEnd}
 use Rattle.model.specs.Settings.{Bucket, Config, hasDefault}
-use Rattle.model.specs.Requests.{Call, Retention}
+use Rattle.model.specs.Requests.{Context, Retention}
 
 -- The now of a line: locks and expiry are judged by the one, creation and dates are taken from the other. They are the same.
 pub record Now : Type 0 where
@@ -11,7 +11,7 @@ pub record Now : Type 0 where
   pub stamp : ℕ
 
 -- The larger of the bucket's time and the line's reading.
-abbrev pub nowOf : Bucket → Call → Now
+abbrev pub nowOf : Bucket → Context → Now
 nowOf b g = record { judge = max (b .settings .time) (g .clock); stamp = max (b .settings .time) (g .clock) }
 
 -- The date from the default: now plus its period.

@@ -76,11 +76,11 @@ module _ (s : Settings) (numbers keys line answer : List ℕ) where
 
   -- A readable line that the reader keeps within its ranges is done as it is decided.
   pub outcome-said : (q : Said) → whole s numbers keys ≡ true → 256 ≤ length answer → readLine line ≡ some q → (leb (q .clock) latest && inRange (q .verb)) ≡ true
-      → done s numbers keys ((nowOf (bucketOf s numbers keys) (asked (length answer) q .call)) .stamp) (q .verb) answer (decision (capacity keys) (bucketOf s numbers keys) (asked (length answer) q)) ≡ outcome s numbers keys line answer
+      → done s numbers keys ((nowOf (bucketOf s numbers keys) (asked (length answer) q .context)) .stamp) (q .verb) answer (decision (capacity keys) (bucketOf s numbers keys) (asked (length answer) q)) ≡ outcome s numbers keys line answer
   unfolding outcome refusalOf
   outcome-said q w l e r =
       let b = bucketOf s numbers keys in
       let a = asked (length answer) q in
-      let now = nowOf (bucketOf s numbers keys) (asked (length answer) q .call) in
+      let now = nowOf (bucketOf s numbers keys) (asked (length answer) q .context) in
       simp (w, e, le-ltb _ _ l, r)
       (sym (done-decide (now .stamp) (q .verb) (fieldChecks b a ++ tableChecks (capacity keys) b now (q .verb)) (effect b now (q .verb)) refl))

@@ -18,14 +18,14 @@ use Rattle.outcome.specs.Outcome.{Outcome, refused, accepted, refusalOf,
 text-fits : (t a : List ℕ) → length t ≤ length (t ++ drop (length t) a)
 text-fits t a = simp length-append (omega arith)
 
-pub outcome-fits : (s : Settings) (n b line a : List ℕ) → (outcome s n b line a) .length ≤ length ((outcome s n b line a) .answer)
+pub outcome-fits : (s : Settings) (n b line a : List ℕ) → (outcome s n b line a) .len ≤ length ((outcome s n b line a) .answer)
 unfolding outcome
 outcome-fits s n b line a = go (eqb (refusalOf s n b line a) 0) (readLine line)
   where
     end : (t : Bool) (o : Option Said) → Outcome
     end t o = pick t (thenSome o (refused 3 s n b a) (λ q. accepted s n b (asked (length a) q) a)) (refused (refusalOf s n b line a) s n b a)
 
-    go : (t : Bool) (o : Option Said) → (end t o) .length ≤ length ((end t o) .answer)
+    go : (t : Bool) (o : Option Said) → (end t o) .len ≤ length ((end t o) .answer)
     go false o = omega arith
     go true none = omega arith
     go true (some q) = text-fits (answerText (answerTo (bucketOf s n b) (asked (length a) q))) a

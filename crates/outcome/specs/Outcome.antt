@@ -44,7 +44,7 @@ settingsFrom s used =
 -- What a call returns and leaves.
 pub record Outcome : Type 0 where
   pub number : ℕ
-  pub length : ℕ
+  pub len : ℕ
   pub settings : Settings
   pub numbers : List ℕ
   pub keys : List ℕ
@@ -52,7 +52,7 @@ pub record Outcome : Type 0 where
 
 -- A refusal leaves everything as it was.
 abbrev pub refused : ℕ → Settings → List ℕ → List ℕ → List ℕ → Outcome
-refused n s numbers keys answer = record { number = n; length = 0; settings = s; numbers = numbers; keys = keys; answer = answer }
+refused n s numbers keys answer = record { number = n; len = 0; settings = s; numbers = numbers; keys = keys; answer = answer }
 
 -- The text stands at the buffer's start; bytes after it are untouched.
 abbrev pub written : List ℕ → List ℕ → List ℕ
@@ -64,7 +64,7 @@ accepted s numbers keys q answer =
     let b = bucketOf s numbers keys in
     record {
       number = 0;
-      length = length (answerText (answerTo b q));
+      len = length (answerText (answerTo b q));
       settings = settingsFrom ((after b q) .settings) (length ((after b q) .rows));
       numbers = numbersOf (capacity keys) ((after b q) .rows);
       keys = keysOf (capacity keys) ((after b q) .rows);

@@ -20,7 +20,7 @@ abbrev pub carried : Settings → List ℕ → ℕ → Verb → List ℕ → Eff
 carried s keys now v answer e =
     record {
       number = 0;
-      length = length (e .text);
+      len = length (e .text);
       settings = settingsFrom (settingsAfter (settingsMean s) now (e .taken) v) (length (e .rows));
       numbers = numbersOf (capacity keys) (e .rows);
       keys = keysOf (capacity keys) (e .rows);

@@ -37,7 +37,7 @@ left r numbers keys answer = record { step = r; numbers = numbers; keys = keys; 
 abbrev pub performed : State → List ℕ → List ℕ → Effect → Left
 performed s keys answer e =
     record {
-      step = Accepted (record { length = length (e .text); used = length (e .rows); next = s .next + e .taken });
+      step = Accepted (record { len = length (e .text); used = length (e .rows); next = s .next + e .taken });
       numbers = numbersOf (capacity keys) (e .rows);
       keys = keysOf (capacity keys) (e .rows);
       answer = written (e .text) answer;

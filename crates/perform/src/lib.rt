@@ -19,7 +19,7 @@ ghost use Rattle.perform.specs.Steps.{left, stepOf, Performable, Actable
 
 // What an accepted request leaves beside the table: the answer's length, the used rows and the next version number.
 pub struct Done {
-    pub length: usize,
+    pub len: usize,
     pub used: usize,
     pub next: u64,
 }
@@ -50,9 +50,9 @@ fn carry_out(
             let change = plan.change;
             let text = plan.answer;
             let p = apply::apply_change(rows, keys, line, s.used, s.next, change, instant, fates);
-            let length = answers::write_answer(answer, text);
+            let len = answers::write_answer(answer, text);
             Step::Accepted(Done {
-                length,
+                len,
                 used: p.used,
                 next: p.next,
             })

@@ -18,8 +18,8 @@ use Rattle.dates.proofs.Reading.{read-most}
 use Rattle.model.specs.Settings.{days, years, isPeriod}
 use Rattle.model.specs.Rows.{bodies}
 use Rattle.model.specs.Requests.{Version, numbered, Name, Retention, Terms, Verb, AddMarker, DeleteVersion, Period, isVersion, isName, isModeField, isDateField, isRetention, isPeriodField, inRange}
-use Rattle.fields.specs.Fields.{keyOf, prefixOf, versionOf, modeOf, untilOf, periodOf}
-use Rattle.request.specs.Grammar.{nameAt, retentionAt, termsOf, putOf, copyOf, retainOf, setHoldOf, deleteOf, defaultOf, ruleOf, sweepOf, getOf, otherByWord, verbByWord, Said, readLine}
+use Rattle.fields.specs.Fields.{readKey, readPrefix, readVersion, readMode, readUntil, readPeriod}
+use Rattle.request.specs.Grammar.{nameAt, retentionAt, termsAt, putOf, copyOf, retainOf, setHoldOf, deleteOf, defaultOf, ruleOf, sweepOf, getOf, otherByWord, verbByWord, Said, readLine}
 
 -- whatever is read passes the test
 record Passes (A : Type 0) (p : A → Bool) (w : Option A) : Type 0 where
@@ -45,16 +45,16 @@ ruleset ways = (pass-none, pass-some, pass-pick, pass-then, refl)
 -- ## Fields
 
 module _ (s : List ℕ) where
-  key-in : (k : List ℕ) → keyOf s ≡ some k → isKey k ≡ true
-  unfolding keyOf
+  key-in : (k : List ℕ) → readKey s ≡ some k → isKey k ≡ true
+  unfolding readKey
   key-in k e = (go (isKey s) refl) .holds k e
     where
       go : (t : Bool) → isKey s ≡ t → Passes (List ℕ) isKey (pick t (some s) none)
       go true h = pass-some (List ℕ) isKey s h
       go false h = pass-none (List ℕ) isKey
 
-  prefix-in : (k : List ℕ) → prefixOf s ≡ some k → isPrefix k ≡ true
-  unfolding prefixOf
+  prefix-in : (k : List ℕ) → readPrefix s ≡ some k → isPrefix k ≡ true
+  unfolding readPrefix
   prefix-in k e = (go (isPrefix s) refl) .holds k e
     where
       go : (t : Bool) → isPrefix s ≡ t → Passes (List ℕ) isPrefix (pick t (some s) none)
@@ -85,32 +85,32 @@ module _ (s : List ℕ) where
   years-in n e = let h = positive-range 100 s n e in rw (le-leb 1 n (h .from), le-leb n 100 (h .to))
 
 module _ (s : List ℕ) where
-  version-passes : Passes (Option Version) isVersion (versionOf s)
-  unfolding versionOf
+  version-passes : Passes (Option Version) isVersion (readVersion s)
+  unfolding readVersion
   version-passes = search (ways, numbered-in) depth 9
 
-  mode-passes : Passes (Option ℕ) isModeField (modeOf s)
-  unfolding modeOf
+  mode-passes : Passes (Option ℕ) isModeField (readMode s)
+  unfolding readMode
   mode-passes = search ways depth 9
 
-  until-passes : Passes (Option ℕ) isDateField (untilOf s)
-  unfolding untilOf
+  until-passes : Passes (Option ℕ) isDateField (readUntil s)
+  unfolding readUntil
   until-passes = search (ways, clock-in) depth 9
 
-  period-passes : Passes (Option Period) isPeriodField (periodOf s)
-  unfolding periodOf
+  period-passes : Passes (Option Period) isPeriodField (readPeriod s)
+  unfolding readPeriod
   period-passes = search (ways, days-in, years-in) depth 12
 
-  version-in : (v : Option Version) → versionOf s ≡ some v → isVersion v ≡ true
+  version-in : (v : Option Version) → readVersion s ≡ some v → isVersion v ≡ true
   version-in = version-passes .holds
 
-  mode-in : (m : Option ℕ) → modeOf s ≡ some m → isModeField m ≡ true
+  mode-in : (m : Option ℕ) → readMode s ≡ some m → isModeField m ≡ true
   mode-in = mode-passes .holds
 
-  until-in : (d : Option ℕ) → untilOf s ≡ some d → isDateField d ≡ true
+  until-in : (d : Option ℕ) → readUntil s ≡ some d → isDateField d ≡ true
   until-in = until-passes .holds
 
-  period-in : (p : Option Period) → periodOf s ≡ some p → isPeriodField p ≡ true
+  period-in : (p : Option Period) → readPeriod s ≡ some p → isPeriodField p ≡ true
   period-in = period-passes .holds
 
 ruleset fields = (and-i, key-in, prefix-in, version-in, mode-in, until-in, period-in, number-in, body-in, place-in)
@@ -133,11 +133,11 @@ module _ (s : List ℕ) (i j : ℕ) where
   retention-in = retention-passes .holds
 
 module _ (s : List ℕ) where
-  terms-passes : Passes Terms (λ t. isRetention (t .retention)) (termsOf s)
-  unfolding termsOf
+  terms-passes : Passes Terms (λ t. isRetention (t .retention)) (termsAt s)
+  unfolding termsAt
   terms-passes = search (ways, retention-in) depth 12
 
-  terms-in : (t : Terms) → termsOf s ≡ some t → isRetention (t .retention) ≡ true
+  terms-in : (t : Terms) → termsAt s ≡ some t → isRetention (t .retention) ≡ true
   terms-in = terms-passes .holds
 
 -- ## Verbs

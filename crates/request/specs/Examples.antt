@@ -16,8 +16,8 @@ use Rattle.dates.specs.Reading.{digitOf, twoDigits, fourDigits, dayNumber, dayA
 use Rattle.model.specs.Rows.{compliance}
 use Rattle.model.specs.Settings.{days}
 use Rattle.model.specs.Requests.{Rights, numbered, name, noRetention, Verb, Put, AddMarker, DeleteVersion, Set, DefaultRetention, Ask, Get}
-use Rattle.fields.specs.Fields.{rightsIn, rightsOf, keyOf, versionOf, modeOf, untilOf, holdOf, bypassOf, periodOf}
-use Rattle.request.specs.Grammar.{nameAt, retentionAt, termsOf, putOf, deleteOf, defaultOf, getOf, otherByWord, verbByWord, Said, readLine}
+use Rattle.fields.specs.Fields.{rightsIn, readRights, readKey, readVersion, readMode, readUntil, readHold, readBypass, readPeriod}
+use Rattle.request.specs.Grammar.{nameAt, retentionAt, termsAt, putOf, deleteOf, defaultOf, getOf, otherByWord, verbByWord, Said, readLine}
 
 -- the bytes of a text in which `|` stands for a tab
 abbrev withTabs : List ℕ → List ℕ
@@ -65,7 +65,7 @@ pub record Examples : Type 0 where
 
 -- each by computing
 pub examples : Examples
-unfolding isDigit leadingZero numberOf positiveOf fieldOf isKeyByte isPrefix isKey leap yearsLength monthStart monthLength validDay daysOf digitOf twoDigits fourDigits dayNumber dayAt secondOfDay secondAt placeOf milliseconds fractionOf readDate rightsIn rightsOf keyOf versionOf modeOf untilOf holdOf bypassOf periodOf nameAt retentionAt termsOf putOf deleteOf defaultOf getOf otherByWord verbByWord readLine
+unfolding isDigit leadingZero numberOf positiveOf fieldOf isKeyByte isPrefix isKey leap yearsLength monthStart monthLength validDay daysOf digitOf twoDigits fourDigits dayNumber dayAt secondOfDay secondAt placeOf milliseconds fractionOf readDate rightsIn readRights readKey readVersion readMode readUntil readHold readBypass readPeriod nameAt retentionAt termsAt putOf deleteOf defaultOf getOf otherByWord verbByWord readLine
 examples =
     record {
       default = refl;

@@ -12,21 +12,21 @@ use Rattle.text.specs.Fields.{fieldOf, tabsIn}
 use Rattle.dates.specs.Reading.{readDate}
 use Rattle.model.specs.Rows.{largestSize}
 use Rattle.model.specs.Requests.{Rights, Name, name, Retention, Terms, DefaultRetention, LifecycleRule, Get, Verb, Put, Copy, Retain, Hold, AddMarker, DeleteVersion, Set, Sweep, Ask, Request, Line, unreadable, reads}
-use Rattle.fields.specs.Fields.{rightsOf, keyOf, prefixOf, versionOf, modeOf, untilOf, switchOf, holdOf, bypassOf, periodOf}
+use Rattle.fields.specs.Fields.{readRights, readKey, readPrefix, readVersion, readMode, readUntil, readSwitch, readHold, readBypass, readPeriod}
 
 -- ## Fields that several verbs have
 
 -- key and version
 unfoldable pub nameAt : List ℕ → ℕ → ℕ → Option Name
-nameAt s i j = thenSome (keyOf (fieldOf s i)) none (λ k. thenSome (versionOf (fieldOf s j)) none (λ v. some (name k v)))
+nameAt s i j = thenSome (readKey (fieldOf s i)) none (λ k. thenSome (readVersion (fieldOf s j)) none (λ v. some (name k v)))
 
 -- mode and date
 unfoldable pub retentionAt : List ℕ → ℕ → ℕ → Option Retention
-retentionAt s i j = thenSome (modeOf (fieldOf s i)) none (λ m. thenSome (untilOf (fieldOf s j)) none (λ d. some (record { mode = m; date = d })))
+retentionAt s i j = thenSome (readMode (fieldOf s i)) none (λ m. thenSome (readUntil (fieldOf s j)) none (λ d. some (record { mode = m; date = d })))
 
 -- mode, date and hold: fields 6 to 8 of a PUT or COPY
-unfoldable pub termsOf : List ℕ → Option Terms
-termsOf s = thenSome (retentionAt s 6 7) none (λ r. thenSome (holdOf (fieldOf s 8)) none (λ h. some (record { retention = r; hold = h })))
+unfoldable pub termsAt : List ℕ → Option Terms
+termsAt s = thenSome (retentionAt s 6 7) none (λ r. thenSome (readHold (fieldOf s 8)) none (λ h. some (record { retention = r; hold = h })))
 
 -- ## The verbs
 
@@ -34,10 +34,10 @@ termsOf s = thenSome (retentionAt s 6 7) none (λ r. thenSome (holdOf (fieldOf s
 unfoldable pub putOf : List ℕ → Option Verb
 putOf s =
     pick (eqb (tabsIn s) 8)
-    (thenSome (keyOf (fieldOf s 3)) none (λ k.
+    (thenSome (readKey (fieldOf s 3)) none (λ k.
     thenSome (numberOf 18446744073709551615 (fieldOf s 4)) none (λ body.
     thenSome (numberOf largestSize (fieldOf s 5)) none (λ size.
-    thenSome (termsOf s) none (λ t.
+    thenSome (termsAt s) none (λ t.
     some (Put k body size t))))))
     none
 
@@ -46,8 +46,8 @@ unfoldable pub copyOf : List ℕ → Option Verb
 copyOf s =
     pick (eqb (tabsIn s) 8)
     (thenSome (nameAt s 3 4) none (λ n.
-    thenSome (keyOf (fieldOf s 5)) none (λ k.
-    thenSome (termsOf s) none (λ t.
+    thenSome (readKey (fieldOf s 5)) none (λ k.
+    thenSome (termsAt s) none (λ t.
     some (Copy n k t)))))
     none
 
@@ -57,7 +57,7 @@ retainOf s =
     pick (eqb (tabsIn s) 7)
     (thenSome (nameAt s 3 4) none (λ n.
     thenSome (retentionAt s 5 6) none (λ r.
-    thenSome (bypassOf (fieldOf s 7)) none (λ y.
+    thenSome (readBypass (fieldOf s 7)) none (λ y.
     some (Retain n r y)))))
     none
 
@@ -66,7 +66,7 @@ unfoldable pub setHoldOf : List ℕ → Option Verb
 setHoldOf s =
     pick (eqb (tabsIn s) 5)
     (thenSome (nameAt s 3 4) none (λ n.
-    thenSome (switchOf (fieldOf s 5)) none (λ on.
+    thenSome (readSwitch (fieldOf s 5)) none (λ on.
     some (Hold n on))))
     none
 
@@ -74,9 +74,9 @@ setHoldOf s =
 unfoldable pub deleteOf : List ℕ → Option Verb
 deleteOf s =
     pick (eqb (tabsIn s) 5)
-    (thenSome (keyOf (fieldOf s 3)) none (λ k.
-    thenSome (versionOf (fieldOf s 4)) none (λ v.
-    thenSome (bypassOf (fieldOf s 5)) none (λ y.
+    (thenSome (readKey (fieldOf s 3)) none (λ k.
+    thenSome (readVersion (fieldOf s 4)) none (λ v.
+    thenSome (readBypass (fieldOf s 5)) none (λ y.
     some (thenSome v (AddMarker k y) (λ u. DeleteVersion k u y))))))
     none
 
@@ -84,8 +84,8 @@ deleteOf s =
 unfoldable pub defaultOf : List ℕ → Option Verb
 defaultOf s =
     pick (eqb (tabsIn s) 4)
-    (thenSome (modeOf (fieldOf s 3)) none (λ m.
-    thenSome (periodOf (fieldOf s 4)) none (λ p.
+    (thenSome (readMode (fieldOf s 3)) none (λ m.
+    thenSome (readPeriod (fieldOf s 4)) none (λ p.
     some (Set (DefaultRetention m p)))))
     none
 
@@ -94,7 +94,7 @@ unfoldable pub ruleOf : List ℕ → Option Verb
 ruleOf s =
     pick (eqb (tabsIn s) 6)
     (thenSome (numberOf 7 (fieldOf s 3)) none (λ i.
-    thenSome (prefixOf (fieldOf s 4)) none (λ p.
+    thenSome (readPrefix (fieldOf s 4)) none (λ p.
     thenSome (numberOf 36500 (fieldOf s 5)) none (λ current.
     thenSome (numberOf 36500 (fieldOf s 6)) none (λ noncurrent.
     some (Set (LifecycleRule i (record { prefix = p; currentDays = current; noncurrentDays = noncurrent }))))))))
@@ -139,13 +139,13 @@ unfoldable pub readLine : List ℕ → Option Said
 readLine s =
     pick (ltb 512 (length s)) none
     (thenSome (readDate (fieldOf s 0)) none (λ clock.
-    thenSome (rightsOf (fieldOf s 1)) none (λ who.
+    thenSome (readRights (fieldOf s 1)) none (λ who.
     thenSome (verbByWord (fieldOf s 2) s) none (λ v.
     some (record { clock = clock; who = who; verb = v })))))
 
 -- The request that a readable line asks, with an answer buffer of this length.
 abbrev pub asked : ℕ → Said → Request
-asked room q = record { call = record { room = room; clock = q .clock; who = q .who }; verb = q .verb }
+asked room q = record { context = record { room = room; clock = q .clock; who = q .who }; verb = q .verb }
 
 -- The line as the bucket meets it.
 abbrev pub lineOf : ℕ → List ℕ → Line

@@ -22,7 +22,7 @@ ghost use mathlib.Core.Path.{_≡_};
 ghost use Prim.Native.Nat.{_<_};
 ghost use Rattle.text.specs.Fields.{fieldOf, Split};
 ghost use Rattle.text.specs.Numbers.{valueOf, numberOf};
-ghost use Rattle.request.specs.Grammar.{nameAt, retentionAt, termsOf, putOf, copyOf, retainOf, setHoldOf, deleteOf, defaultOf, ruleOf, sweepOf, getOf, otherByWord, verbByWord};
+ghost use Rattle.request.specs.Grammar.{nameAt, retentionAt, termsAt, putOf, copyOf, retainOf, setHoldOf, deleteOf, defaultOf, ruleOf, sweepOf, getOf, otherByWord, verbByWord};
 ghost use Rattle.request.specs.Meaning.{retentionFrom, termsFrom, Named, Does};
 
 // Key and version.
@@ -67,7 +67,7 @@ fn read_retention(line: &[u8], marks: &[usize], i: usize, j: usize) -> Retention
 // Mode, date and hold of a PUT or COPY.
 fn read_terms(line: &[u8], marks: &[usize]) -> TermsRead
     requires { ⌜ Split (now line) (now marks) ⌝ }
-    ensures { λ r. ⌜ termsFrom r ≡ termsOf (now (line .entry)) ⌝ }
+    ensures { λ r. ⌜ termsFrom r ≡ termsAt (now (line .entry)) ⌝ }
 {
     let RetentionRead::Is(retention) = read_retention(line, marks, 6, 7) else {
         return TermsRead::Bad;

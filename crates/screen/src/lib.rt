@@ -135,23 +135,23 @@ fn is_allowed(a: Rights, verb: Verb) -> bool
     }
 }
 
-fn is_past(d: Until, now: u64) -> bool
-    ensures { λ r. ⌜ r ≡ isPast now (untilMeans d) ⌝ }
+fn is_past(d: Until, instant: u64) -> bool
+    ensures { λ r. ⌜ r ≡ isPast instant (untilMeans d) ⌝ }
 {
     match d {
         Until::Missing => false,
-        Until::Given(t) => t <= now,
+        Until::Given(t) => t <= instant,
     }
 }
 
-fn is_past_date(verb: Verb, now: u64) -> bool
-    ensures { λ r. ⌜ ((line : List ℕ) → r ≡ pastDate now (verbMeans line verb)) ⌝ }
+fn is_past_date(verb: Verb, instant: u64) -> bool
+    ensures { λ r. ⌜ ((line : List ℕ) → r ≡ pastDate instant (verbMeans line verb)) ⌝ }
 {
     match verb {
         Verb::Act(a) => {
             let r = retention_of(a);
             let d = r.until;
-            is_past(d, now)
+            is_past(d, instant)
         }
         Verb::Set(_) => false,
         Verb::Sweep => false,
@@ -159,8 +159,8 @@ fn is_past_date(verb: Verb, now: u64) -> bool
 }
 
 // The first of refusals 4 to 6 that holds, or 0; keys play no part.
-fn screen(q: Request, now: u64) -> u64
-    ensures { λ r. ⌜ ((s : Config) (line : List ℕ) → r ≡ screened s (rightsMeans (q .rights)) now (verbMeans line (q .verb))) ⌝ }
+fn screen(q: Request, instant: u64) -> u64
+    ensures { λ r. ⌜ ((s : Config) (line : List ℕ) → r ≡ screened s (rightsMeans (q .rights)) instant (verbMeans line (q .verb))) ⌝ }
 {
     let a = q.rights;
     let verb = q.verb;
@@ -168,7 +168,7 @@ fn screen(q: Request, now: u64) -> u64
         return 4;
     }
     if is_allowed(a, verb) {
-        if is_past_date(verb, now) {
+        if is_past_date(verb, instant) {
             return 6;
         }
         return 0;

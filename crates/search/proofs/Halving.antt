@@ -18,7 +18,7 @@ use Rattle.table.specs.Places.{keyAt}
 use Rattle.table.proofs.Held.{rows-length}
 use Rattle.model.specs.Rows.{Row, before, ahead, ordered}
 use Rattle.model.proofs.Order.{before-trans, ahead-trans}
-use Rattle.search.specs.Places.{leading, rowFrom, foundIf, keyPlace, currentIn, versionPlace, versionIn}
+use Rattle.search.specs.Places.{leading, nthRow, foundIf, keyPlace, currentIn, versionPlace, versionIn}
 use Rattle.search.specs.Keys.{isOrder}
 use Rattle.search.specs.Searching.{Searchable}
 use Rattle.search.specs.declared.Order.{Order}
@@ -30,7 +30,7 @@ use Rattle.search.proofs.Positions.{no-row, all-row, rows-row, number-a
 -- ## The rows that pass a test
 
 module _ (q : Row → Bool) where
-  leading-stops : (xs : List Row) (i : ℕ) (y : Row) → rowFrom xs i ≡ some y → q y ≡ false → leading q xs ≤ i
+  leading-stops : (xs : List Row) (i : ℕ) (y : Row) → nthRow xs i ≡ some y → q y ≡ false → leading q xs ≤ i
   leading-stops [] i y f e = omega arith
   leading-stops (x ∷ xs) zero y f e = let g : x ≡ y = cc in rw (g, e) (omega arith)
   leading-stops (x ∷ xs) (suc i) y f e =
@@ -41,7 +41,7 @@ module _ (q : Row → Bool) where
 
   -- A test that each row passes that is ahead of one that passes.
   leading-passes : ((x y : Row) → ahead x y ≡ true → q y ≡ true → q x ≡ true)
-      → (xs : List Row) (i : ℕ) (y : Row) → ordered xs ≡ true → rowFrom xs i ≡ some y → q y ≡ true → i < leading q xs
+      → (xs : List Row) (i : ℕ) (y : Row) → ordered xs ≡ true → nthRow xs i ≡ some y → q y ≡ true → i < leading q xs
   leading-passes m [] i y o f e = absurd (no-row i y f)
   leading-passes m (x ∷ xs) zero y o f e = let g : x ≡ y = cc in rw (g, e) (omega arith)
   leading-passes m (x ∷ xs) (suc i) y o f e =
@@ -49,7 +49,7 @@ module _ (q : Row → Bool) where
       rw t (omega (arith, leading-passes m xs i y (and-r (all (ahead x) xs) _ o) f e))
 
   -- All rows ahead of one that pass stand in front of it.
-  leading-reaches : (xs : List Row) (i : ℕ) (y : Row) → ordered xs ≡ true → rowFrom xs i ≡ some y → ((x : Row) → ahead x y ≡ true → q x ≡ true) → i ≤ leading q xs
+  leading-reaches : (xs : List Row) (i : ℕ) (y : Row) → ordered xs ≡ true → nthRow xs i ≡ some y → ((x : Row) → ahead x y ≡ true → q x ≡ true) → i ≤ leading q xs
   leading-reaches [] i y o f m = absurd (no-row i y f)
   leading-reaches (x ∷ xs) zero y o f m = omega arith
   leading-reaches (x ∷ xs) (suc i) y o f m =
@@ -106,7 +106,7 @@ module _ (q : Row → Bool) (falls : (x y : Row) → ahead x y ≡ true → q y 
 
 -- whether the row at a position passes a test
 pub record Tells (p : Row → Bool) (n b : List ℕ) (u i : ℕ) (r : Bool) : Type 0 where
-  pub tells : r ≡ thenSome (rowFrom (rowsOf n b u) i) false p
+  pub tells : r ≡ thenSome (nthRow (rowsOf n b u) i) false p
 
 module _ (p : Row → Bool) (n b : List ℕ) (u i : ℕ) where
   tells-behind : u ≤ i → Tells p n b u i false

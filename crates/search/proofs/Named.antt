@@ -14,10 +14,10 @@ use Rattle.buffers.proofs.Tests.{either, eqb-sym, clash, and-l, and-r, or-one}
 use Rattle.buffers.proofs.Lists.{first-none, first-as, same-path, all-as, same-sym}
 use Rattle.model.specs.Rows.{Row, before, ahead, ordered}
 use Rattle.model.specs.Requests.{Name, name, numbered}
-use Rattle.model.specs.Effects.{rowOf, sameVersion, isNamed, insert}
+use Rattle.model.specs.Effects.{rowOf, sameVersion, isNamed, insertByKey}
 use Rattle.model.proofs.SoundRows.{apart, version-refl}
 use Rattle.table.specs.Changes.{insertAt, removeAt}
-use Rattle.search.specs.Places.{leading, rowFrom, foundIf, keyPlace, currentIn, versionPlace, versionIn, rowFound, placeFound}
+use Rattle.search.specs.Places.{leading, nthRow, foundIf, keyPlace, currentIn, versionPlace, versionIn, rowFound, placeFound}
 use Rattle.search.proofs.Comparing.{before-one}
 use Rattle.search.proofs.Positions.{all-row, place-if}
 use Rattle.search.proofs.Halving.{versionRow}
@@ -27,7 +27,7 @@ use Rattle.search.proofs.Halving.{versionRow}
 -- A row more in front.
 found-next : (p : Row → Bool) (x : Row) (xs : List Row) (i : ℕ) → rowFound (x ∷ xs) (foundIf p (x ∷ xs) (suc i)) ≡ rowFound xs (foundIf p xs i)
 found-next p x xs i =
-    elim (either (thenSome (rowFrom xs i) false p)) [
+    elim (either (thenSome (nthRow xs i) false p)) [
       | inl t ↦ rw t
       | inr t ↦ rw t
     ]
@@ -82,7 +82,7 @@ version-row k v xs o =
 
 -- ## A new row
 
-pub insert-place : (x : Row) (xs : List Row) → insert x xs ≡ insertAt (keyPlace (x .key) xs) x xs
+pub insert-place : (x : Row) (xs : List Row) → insertByKey x xs ≡ insertAt (keyPlace (x .key) xs) x xs
 unfolding keyPlace
 insert-place x [] = refl
 insert-place x (y ∷ ys) =
@@ -111,7 +111,7 @@ keep-all : (x : Row) (xs : List Row) → all (λ y. not (sameVersion x y)) xs �
 keep-all x [] e = refl
 keep-all x (y ∷ ys) e = rw (and-l (not (sameVersion x y)) _ e) (ap (λ (l : List Row). y ∷ l) (keep-all x ys (and-r (not (sameVersion x y)) _ e)))
 
-change-at : (x : Row) (f : Row → Row) (xs : List Row) (i : ℕ) → ordered xs ≡ true → rowFrom xs i ≡ some x → change (sameVersion x) f xs ≡ set xs i (f x)
+change-at : (x : Row) (f : Row → Row) (xs : List Row) (i : ℕ) → ordered xs ≡ true → nthRow xs i ≡ some x → change (sameVersion x) f xs ≡ set xs i (f x)
 change-at x f [] i o e = refl
 change-at x f (y ∷ ys) zero o e =
     let q : x ≡ y = cc in
@@ -121,7 +121,7 @@ change-at x f (y ∷ ys) (suc i) o e =
     let here : sameVersion x y ≡ false = (apart y x (all-row (ahead y) ys i x (and-l _ _ o) e)) .1 in
     rw here (ap (λ (l : List Row). y ∷ l) (change-at x f ys i (and-r (all (ahead y) ys) _ o) e))
 
-keep-at : (x : Row) (xs : List Row) (i : ℕ) → ordered xs ≡ true → rowFrom xs i ≡ some x → keep (λ y. not (sameVersion x y)) xs ≡ removeAt i xs
+keep-at : (x : Row) (xs : List Row) (i : ℕ) → ordered xs ≡ true → nthRow xs i ≡ some x → keep (λ y. not (sameVersion x y)) xs ≡ removeAt i xs
 keep-at x [] zero o e = refl
 keep-at x [] (suc i) o e = refl
 keep-at x (y ∷ ys) zero o e =
@@ -132,7 +132,7 @@ keep-at x (y ∷ ys) (suc i) o e =
     let here : sameVersion x y ≡ false = (apart y x (all-row (ahead y) ys i x (and-l _ _ o) e)) .1 in
     rw here (ap (λ (l : List Row). y ∷ l) (keep-at x ys i (and-r (all (ahead y) ys) _ o) e))
 
-module _ (xs : List Row) (n : Name) (i : ℕ) (x : Row) (o : ordered xs ≡ true) (e : rowOf xs n ≡ some x) (p : rowFrom xs i ≡ some x) where
+module _ (xs : List Row) (n : Name) (i : ℕ) (x : Row) (o : ordered xs ≡ true) (e : rowOf xs n ≡ some x) (p : nthRow xs i ≡ some x) where
   -- A change of the row that a line names is made at its position.
   pub change-named : (f : Row → Row) → change (isNamed xs n) f xs ≡ set xs i (f x)
   change-named f = let h : change (λ y. isNamed xs n y) f xs ≡ set xs i (f x) = simp e (change-at x f xs i o p) in h

@@ -15,31 +15,31 @@ use Rattle.buffers.proofs.Tests.{either, and-l, and-r}
 use Rattle.table.specs.Layout.{rowAt, rowsOf, Holds}
 use Rattle.table.proofs.Held.{rows-length, row-at, held-numbers, held-keys, held-rows, held-first}
 use Rattle.model.specs.Rows.{Row, before, ordered}
-use Rattle.search.specs.Places.{leading, rowFrom, foundIf, keyPlace, currentIn, versionPlace, versionIn, placeFound}
+use Rattle.search.specs.Places.{leading, nthRow, foundIf, keyPlace, currentIn, versionPlace, versionIn, placeFound}
 use Rattle.search.specs.Searching.{Searchable}
 use Rattle.search.specs.declared.Found.{Found}
 use Rattle.search.specs.declared.Found.the-variants.{At, Place}
 
 -- ## In a list
 
-pub no-row : (i : ℕ) (y : Row) → rowFrom [] i ≡ some y → ⊥
+pub no-row : (i : ℕ) (y : Row) → nthRow [] i ≡ some y → ⊥
 no-row zero y f = let z : _≡_ {A = ℕ} 0 1 = cc in omega arith
 no-row (suc i) y f = let z : _≡_ {A = ℕ} 0 1 = cc in omega arith
 
 -- What all rows pass, the row at a position passes.
-pub all-row : (p : Row → Bool) (xs : List Row) (i : ℕ) (y : Row) → all p xs ≡ true → rowFrom xs i ≡ some y → p y ≡ true
+pub all-row : (p : Row → Bool) (xs : List Row) (i : ℕ) (y : Row) → all p xs ≡ true → nthRow xs i ≡ some y → p y ≡ true
 all-row p [] i y e f = absurd (no-row i y f)
 all-row p (x ∷ xs) zero y e f = let g : x ≡ y = cc in rw g at (and-l (p x) _ e)
 all-row p (x ∷ xs) (suc i) y e f = all-row p xs i y (and-r (p x) _ e) f
 
-pub row-below : (xs : List Row) (i : ℕ) (y : Row) → rowFrom xs i ≡ some y → i < length xs
+pub row-below : (xs : List Row) (i : ℕ) (y : Row) → nthRow xs i ≡ some y → i < length xs
 row-below [] i y f = absurd (no-row i y f)
 row-below (x ∷ xs) zero y f = omega arith
 row-below (x ∷ xs) (suc i) y f = omega (arith, row-below xs i y f)
 
 -- ## In the buffers
 
-pub rows-row : (n b : List ℕ) (u i : ℕ) → i < u → rowFrom (rowsOf n b u) i ≡ some (rowAt n b i)
+pub rows-row : (n b : List ℕ) (u i : ℕ) → i < u → nthRow (rowsOf n b u) i ≡ some (rowAt n b i)
 rows-row n b u i h = rw (drop-cons (rowsOf n b u) i (rowAt n b i) (rw (rows-length n b u) h)) (ap some (sym (row-at n b u i (rowAt n b i) h)))
 
 pub number-at : (n b : List ℕ) (i : ℕ) → (rowAt n b i) .number ≡ getD n (8 * i) 0
@@ -68,15 +68,15 @@ leading-most q (x ∷ xs) =
 module _ (p : Row → Bool) (xs : List Row) (m : ℕ) where
   pub place-if : placeFound (foundIf p xs m) ≡ m
   place-if =
-      elim (either (thenSome (rowFrom xs m) false p)) [
+      elim (either (thenSome (nthRow xs m) false p)) [
         | inl t ↦ rw t
         | inr t ↦ rw t
       ]
 
   at-below : (i : ℕ) → foundIf p xs m ≡ At i → i < length xs
-  at-below i e = go (rowFrom xs m) refl
+  at-below i e = go (nthRow xs m) refl
     where
-      go : (o : Option Row) → rowFrom xs m ≡ o → i < length xs
+      go : (o : Option Row) → nthRow xs m ≡ o → i < length xs
       go none q = let f : Place m ≡ At i = rw q at e in let z : _≡_ {A = ℕ} 0 1 = cc in absurd (omega arith)
       go (some y) q = let f : i ≡ m = sym (ap placeFound e) ∙ place-if in omega (arith, row-below xs m y q)
 

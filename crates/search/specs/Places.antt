@@ -22,12 +22,12 @@ headOf [] = none
 headOf (x ∷ xs) = some x
 
 -- the row at a position
-abbrev pub rowFrom : List Row → ℕ → Option Row
-rowFrom xs i = headOf (drop i xs)
+abbrev pub nthRow : List Row → ℕ → Option Row
+nthRow xs i = headOf (drop i xs)
 
 -- the position, found if the row there passes a test
 abbrev pub foundIf : (Row → Bool) → List Row → ℕ → Found
-foundIf p xs i = pick (thenSome (rowFrom xs i) false p) (At i) (Place i)
+foundIf p xs i = pick (thenSome (nthRow xs i) false p) (At i) (Place i)
 
 -- where a key's rows start or would start: behind the rows whose keys are before it
 unfoldable pub keyPlace : List ℕ → List Row → ℕ
@@ -47,7 +47,7 @@ versionIn k v xs = foundIf (λ x. same (x .key) k && eqb (x .number) v) xs (vers
 
 -- the row that a `Found` stands for
 abbrev pub rowFound : List Row → Found → Option Row
-rowFound xs (At i) = rowFrom xs i
+rowFound xs (At i) = nthRow xs i
 rowFound xs (Place i) = none
 
 -- its position

@@ -5,11 +5,11 @@ use mathlib.Core.List.{List}
 use Rattle.settings.specs.declared.Settings.{Settings}
 use Rattle.outcome.specs.Outcome.{Outcome, outcome}
 use Rattle.engine.specs.declared.Served.{Served}
-use Rattle.engine.specs.Served.{served}
+use Rattle.engine.specs.Served.{outcomeFrom}
 use Rattle.engine.proofs.Serving.{answer-fits}
 use Rattle.stations.specs.Leaves.{Leaves}
 
-module _ (s : Settings) (n b line a n′ b′ a′ : List ℕ) (r : Served) (q : served r n′ b′ a′ ≡ outcome s n b line a) where
+module _ (s : Settings) (n b line a n′ b′ a′ : List ℕ) (r : Served) (q : outcomeFrom r n′ b′ a′ ≡ outcome s n b line a) where
   pub line-leaves : Leaves (r .settings) n′ b′ a′ (outcome s n b line a)
   line-leaves =
       record {

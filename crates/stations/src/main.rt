@@ -27,7 +27,7 @@ fn print_line(
     ensures { λ r. ⌜ Leaves r (now (rows .exit)) (now (keys .exit)) (now (answer .exit)) (outcome s (now (rows .entry)) (now (keys .entry)) (now (line .entry)) (now (answer .entry))) ⌝ }
 {
     let r = engine::serve(s, rows, keys, line, answer);
-    let len = r.length;
+    let len = r.len;
     let after = r.settings;
     if r.number == 0 {
         io::write_all(STDOUT_FILENO, &answer[0..len]);

@@ -13,32 +13,32 @@ use Rattle.buffers.specs.Ranges.{Within}
 use Rattle.buffers.proofs.Tests.{either}
 use Rattle.buffers.proofs.Parts.{part-cut}
 use Rattle.text.specs.Fields.{onFirst}
-use Rattle.text.specs.Keys.{has}
+use Rattle.text.specs.Keys.{contains}
 use Rattle.text.specs.Lines.{linesOf, feedAt}
 use Rattle.text.proofs.Scans.{next}
 
 -- ## Blocks without a line feed
 
-module _ (s : List ℕ) (f : Bool) (i : ℕ) (l : length s ≡ 16) (q : has s 10 ≡ f || has (drop i s) 10) where
-  pub found-step : i < 16 → has s 10 ≡ (f || eqb (getD s i 0) 10) || has (drop (i + 1) s) 10
-  found-step h = q ∙ rw (next s i (omega arith)) (sym (or-assoc f (eqb (getD s i 0) 10) (has (drop (i + 1) s) 10)))
+module _ (s : List ℕ) (f : Bool) (i : ℕ) (l : length s ≡ 16) (q : contains s 10 ≡ f || contains (drop i s) 10) where
+  pub found-step : i < 16 → contains s 10 ≡ (f || eqb (getD s i 0) 10) || contains (drop (i + 1) s) 10
+  found-step h = q ∙ rw (next s i (omega arith)) (sym (or-assoc f (eqb (getD s i 0) 10) (contains (drop (i + 1) s) 10)))
 
-  pub found-end : 16 ≤ i → f ≡ has s 10
+  pub found-end : 16 ≤ i → f ≡ contains s 10
   found-end h = sym (q ∙ rw (drop-of-length-le s {i = i} (omega arith)) (or-false f))
 
-pub found-start : (s : List ℕ) → has s 10 ≡ false || has (drop 0 s) 10
+pub found-start : (s : List ℕ) → contains s 10 ≡ false || contains (drop 0 s) 10
 found-start s = refl
 
 pub ruleset found-cases = (found-start, found-step, found-end)
 
-feed-clear : (k : ℕ) (s : List ℕ) → k ≤ length s → has (take k s) 10 ≡ false → feedAt s ≡ k + feedAt (drop k s)
+feed-clear : (k : ℕ) (s : List ℕ) → k ≤ length s → contains (take k s) 10 ≡ false → feedAt s ≡ k + feedAt (drop k s)
 feed-clear zero s h e = omega arith
 feed-clear (suc k) [] h e = absurd (omega arith)
 feed-clear (suc k) (b ∷ s) h e =
     elim (either (eqb b 10)) [
       | inl t ↦ absurd (false≢true (sym (rw t at e)))
       | inr t ↦
-          let c : has (take k s) 10 ≡ false = rw t at e in
+          let c : contains (take k s) 10 ≡ false = rw t at e in
           let x = feed-clear k s (omega arith) c in
           rw t (omega arith)
     ]
@@ -49,11 +49,11 @@ module _ (s : List ℕ) (i : ℕ) (h : 16 ≤ length s - i) where
       let d = length-drop i s in
       rw (part-cut s i 16) (length-take-le 16 (drop i s) (omega arith))
 
-  pub skip-step : (r : Bool) → r ≡ has (take (i + 16 - i) (drop i s)) 10 → r ≡ false → feedAt s ≡ i + feedAt (drop i s) → feedAt s ≡ i + 16 + feedAt (drop (i + 16) s)
+  pub skip-step : (r : Bool) → r ≡ contains (take (i + 16 - i) (drop i s)) 10 → r ≡ false → feedAt s ≡ i + feedAt (drop i s) → feedAt s ≡ i + 16 + feedAt (drop (i + 16) s)
   skip-step r e t q =
       let z : i + 16 - i ≡ 16 = omega arith in
       let d = length-drop i s in
-      let c : has (take 16 (drop i s)) 10 ≡ false = rw z at (sym e ∙ t) in
+      let c : contains (take 16 (drop i s)) 10 ≡ false = rw z at (sym e ∙ t) in
       let x = feed-clear 16 (drop i s) (omega arith) c in
       rw (← drop-drop 16 i s) (omega arith)
 

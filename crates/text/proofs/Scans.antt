@@ -11,7 +11,7 @@ use lib.Dec.{eqb}
 use borrow.Author.Tests.{eq-eqb, ne-eqb}
 use Rattle.buffers.specs.Choices.{pick}
 use Rattle.buffers.specs.Lists.{all, same, begins}
-use Rattle.text.specs.Keys.{has}
+use Rattle.text.specs.Keys.{contains}
 
 -- ## The rest of a list
 
@@ -35,16 +35,16 @@ pub ruleset all-cases = (all-stop, all-step, all-end)
 -- ## A byte stands in a text
 
 module _ (s : List ℕ) (b i : ℕ) where
-  pub has-hit : i < length s → getD s i 0 ≡ b → has s b ≡ has (drop i s) b → true ≡ has s b
+  pub has-hit : i < length s → getD s i 0 ≡ b → contains s b ≡ contains (drop i s) b → true ≡ contains s b
   has-hit h t q = sym (q ∙ rw (next s i h, eq-eqb _ _ t))
 
-  pub has-step : i < length s → (getD s i 0 ≡ b → ⊥) → has s b ≡ has (drop i s) b → has s b ≡ has (drop (i + 1) s) b
+  pub has-step : i < length s → (getD s i 0 ≡ b → ⊥) → contains s b ≡ contains (drop i s) b → contains s b ≡ contains (drop (i + 1) s) b
   has-step h t q = q ∙ rw (next s i h, ne-eqb _ _ t)
 
-  pub has-end : length s ≤ i → has s b ≡ has (drop i s) b → false ≡ has s b
+  pub has-end : length s ≤ i → contains s b ≡ contains (drop i s) b → false ≡ contains s b
   has-end h q = sym (q ∙ rw (drop-of-length-le s h))
 
-pub ruleset has-cases = (has-hit, has-step, has-end)
+pub ruleset contains-cases = (has-hit, has-step, has-end)
 
 -- ## One text begins another
 

@@ -24,5 +24,5 @@ unfoldable pub isKey : List ℕ → Bool
 isKey s = pick (eqb (length s) 0) false (isPrefix s)
 
 -- the byte stands in the text
-abbrev pub has : List ℕ → ℕ → Bool
-has s b = any (λ a. eqb a b) s
+abbrev pub contains : List ℕ → ℕ → Bool
+contains s b = any (λ a. eqb a b) s

@@ -8,7 +8,7 @@ ghost use Rattle.buffers.specs.Writes.{Wrote};
 ghost use Rattle.text.specs.Numbers.{valueOf, isDigit, leadingZero, digitMore, digitsOf, numberOf, positiveOf};
 ghost use Rattle.text.specs.Fields.{tabsIn, startOf, fieldOf, partOf, Split, Found};
 ghost use Rattle.text.specs.Lines.{feedAt};
-ghost use Rattle.text.specs.Keys.{isKeyByte, keyBytes, isPrefix, isKey, has};
+ghost use Rattle.text.specs.Keys.{isKeyByte, keyBytes, isPrefix, isKey, contains};
 ghost use Rattle.text.specs.Printing.{pairOf, digits};
 
 // A number that was read, or one that can't be read.
@@ -73,7 +73,7 @@ fn find_start(line: &[u8], marks: &[usize], i: usize) -> usize
 // A line feed stands among the 16 bytes. With no way out of it the loop is compiled to vector code.
 fn has_feed(block: &[u8]) -> bool
     requires { ⌜ length (now block) ≡ 16 ⌝ }
-    ensures { λ r. ⌜ r ≡ has (now (block .entry)) 10 ⌝ }
+    ensures { λ r. ⌜ r ≡ contains (now (block .entry)) 10 ⌝ }
 {
     let mut found = false;
     let mut i = 0;
@@ -254,7 +254,7 @@ pub fn is_word(text: &[u8], word: &[u8]) -> bool
 
 // The byte stands in the text.
 pub fn contains(text: &[u8], b: u8) -> bool
-    ensures { λ r. ⌜ r ≡ has (now (text .entry)) b ⌝ }
+    ensures { λ r. ⌜ r ≡ contains (now (text .entry)) b ⌝ }
 {
     let mut i = 0;
     while i < text.len() {

@@ -67,10 +67,10 @@ module _ (s : State) (n b : List ℕ) (w : Ready s n b) where
       pub present-below : i < length (rowsIn s n b)
       present-below = rw (rows-length n b (s .used)) used
 
-      here : places.rowFrom (rowsIn s n b) i ≡ some (rowAt n b i)
+      here : places.nthRow (rowsIn s n b) i ≡ some (rowAt n b i)
       here = rows-row n b (s .used) i used
 
-      pub present-place : (m : Numbers) → m ≡ numbersIn (take 8 (drop (8 * i) n)) → places.rowFrom (rowsIn s n b) i ≡ some (rowFrom m (keyHere (rowsIn s n b) i))
+      pub present-place : (m : Numbers) → m ≡ numbersIn (take 8 (drop (8 * i) n)) → places.nthRow (rowsIn s n b) i ≡ some (rowFrom m (keyHere (rowsIn s n b) i))
       present-place m q = rw (here, q)
 
       pub present-row : (m : Numbers) → m ≡ numbersIn (take 8 (drop (8 * i) n)) → rowOf (rowsIn s n b) (name k v) ≡ some (rowFrom m (keyHere (rowsIn s n b) i))

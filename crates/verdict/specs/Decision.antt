@@ -35,4 +35,4 @@ tableDecision c b now v = decide (tableChecks c b now v) (effect b now v)
 
 -- By refusals 4 to 12.
 abbrev pub decision : ℕ → Bucket → Request → Decision
-decision c b q = decide (fieldChecks b q ++ tableChecks c b (nowOf b (q .call)) (q .verb)) (effect b (nowOf b (q .call)) (q .verb))
+decision c b q = decide (fieldChecks b q ++ tableChecks c b (nowOf b (q .context)) (q .verb)) (effect b (nowOf b (q .context)) (q .verb))

@@ -29,7 +29,7 @@ use Rattle.verdict.specs.Decision.{Decision, refuses, does}
 
 -- the key of the row at a position
 abbrev pub keyHere : List Row → ℕ → List ℕ
-keyHere xs i = thenSome (places.rowFrom xs i) [] (λ x. x .key)
+keyHere xs i = thenSome (places.nthRow xs i) [] (λ x. x .key)
 
 -- what is judged, beside the verdict: the line, the next number, now, and the fates of a sweep
 pub record Judged : Type 0 where
@@ -92,4 +92,4 @@ foundBy xs k (some (numbered n)) = places.versionIn k n xs
 -- It is not there; or it stands at a position, with these numbers and its key.
 abbrev pub Looks : List Row → Name → Looked → Type 0
 Looks xs n Absent = rowOf xs n ≡ none
-Looks xs n (Present i m) = (rowOf xs n ≡ some (rowFrom m (keyHere xs i))) × (places.rowFrom xs i ≡ some (rowFrom m (keyHere xs i))) × (i < length xs)
+Looks xs n (Present i m) = (rowOf xs n ≡ some (rowFrom m (keyHere xs i))) × (places.nthRow xs i ≡ some (rowFrom m (keyHere xs i))) × (i < length xs)

@@ -9,12 +9,12 @@ use Rattle.model.specs.Settings.{Rule, Default, Config, Bucket, spentNumber, so
 use Rattle.table.specs.Layout.{rowsOf, capacity, Holds}
 use Rattle.verdict.specs.declared.State.{State}
 
-abbrev pub defaultOf : State → Default
-defaultOf s = record { mode = s .mode; count = s .count; unit = s .unit }
+abbrev pub defaultBy : State → Default
+defaultBy s = record { mode = s .mode; count = s .count; unit = s .unit }
 
 -- the config of a state, with these rules
 abbrev pub configBy : State → List Rule → Config
-configBy s rules = record { default = defaultOf s; rules = rules }
+configBy s rules = record { default = defaultBy s; rules = rules }
 
 -- the bucket of a state, with these rules and rows
 abbrev pub bucketBy : State → List Rule → List Row → Bucket
@@ -31,6 +31,6 @@ pub record Ready (s : State) (numbers keys : List ℕ) : Type 0 where
   pub rows-sound : all (soundRow (s .next) (s .time)) (rowsIn s numbers keys) ≡ true
   pub from-one : 1 ≤ s .next
   pub next-fits : s .next ≤ spentNumber
-  pub default-sound : soundDefault (defaultOf s) ≡ true
+  pub default-sound : soundDefault (defaultBy s) ≡ true
   pub used-fits : s .used ≤ capacity keys
   pub capacity-fits : capacity keys ≤ 1024

@@ -95,14 +95,14 @@ pub fn look(rows: &[u64], keys: &[u8], s: State, key: &[u8], version: Version) -
 }
 
 // The lock of a new row with no mode given.
-fn default_lock(s: State, now: u64) -> NewLock
-    requires { ⌜ (s .count ≤ 36500) × (now ≤ latest) ⌝ }
-    ensures { λ x. ⌜ ((rules : List Rule) (d : Option ℕ) → lockMeans x ≡ newLock (configBy s rules) now (record { mode = none; date = d })) ⌝ }
+fn default_lock(s: State, instant: u64) -> NewLock
+    requires { ⌜ (s .count ≤ 36500) × (instant ≤ latest) ⌝ }
+    ensures { λ x. ⌜ ((rules : List Rule) (d : Option ℕ) → lockMeans x ≡ newLock (configBy s rules) instant (record { mode = none; date = d })) ⌝ }
 {
     if s.mode == 0 {
         return NewLock::Lock(0, 0);
     }
-    let end = calendar::period_end(now, s.count, s.unit);
+    let end = calendar::period_end(instant, s.count, s.unit);
     if calendar::LATEST < end {
         return NewLock::TooLate;
     }
@@ -110,14 +110,14 @@ fn default_lock(s: State, now: u64) -> NewLock
 }
 
 // The mode and date that a PUT or COPY gives its row: those given, or the default's.
-pub fn new_lock(s: State, r: Retention, now: u64) -> NewLock
-    requires { ⌜ (s .count ≤ 36500) × (now ≤ latest) ⌝ }
-    ensures { λ x. ⌜ ((rules : List Rule) → lockMeans x ≡ newLock (configBy s rules) now (retentionMeans r)) ⌝ }
+pub fn new_lock(s: State, r: Retention, instant: u64) -> NewLock
+    requires { ⌜ (s .count ≤ 36500) × (instant ≤ latest) ⌝ }
+    ensures { λ x. ⌜ ((rules : List Rule) → lockMeans x ≡ newLock (configBy s rules) instant (retentionMeans r)) ⌝ }
 {
     let mode = r.mode;
     let until = r.until;
     match mode {
-        Mode::Missing => default_lock(s, now),
+        Mode::Missing => default_lock(s, instant),
         Mode::Governance => NewLock::Lock(1, fields::date_number(until)),
         Mode::Compliance => NewLock::Lock(2, fields::date_number(until)),
     }
@@ -145,12 +145,12 @@ fn is_no_earlier(d: Until, than: u64) -> bool
 }
 
 // RETAIN's rule.
-pub fn is_admitted(n: Numbers, now: u64, bypass: bool, r: Retention) -> bool
-    ensures { λ x. ⌜ ((k : List ℕ) → x ≡ admits now bypass (rowFrom n k) (retentionMeans r)) ⌝ }
+pub fn is_admitted(n: Numbers, instant: u64, bypass: bool, r: Retention) -> bool
+    ensures { λ x. ⌜ ((k : List ℕ) → x ≡ admits instant bypass (rowFrom n k) (retentionMeans r)) ⌝ }
 {
     let mode = r.mode;
     let until = r.until;
-    if n.until <= now {
+    if n.until <= instant {
         return true;
     }
     if n.mode == 2 {

@@ -1,13 +1,13 @@
 -- `read_key` meets its contract.
 use Rattle.fields.proofs.Readers.{part-yes, part-no}
 use Rattle.text.specs.Keys.{isKey}
-use Rattle.fields.specs.Fields.{keyOf}
+use Rattle.fields.specs.Fields.{readKey}
 use borrow.Author.Needs.{needs}
 use Rattle.fields.proofs.read_key.Statement.{statement}
 use Rattle.fields.proofs.read_key.Tie as tie
 
 pub read-key-spec : {M : Type 1} → statement M
-unfolding keyOf
+unfolding readKey
 read-key-spec =
     tie.close
     (tie.spec

@@ -1,12 +1,12 @@
 -- `read_mode` meets its contract.
 use Rattle.buffers.proofs.Choices.{picks}
-use Rattle.fields.specs.Fields.{modeOf}
+use Rattle.fields.specs.Fields.{readMode}
 use borrow.Author.Needs.{needs}
 use Rattle.fields.proofs.read_mode.Statement.{statement}
 use Rattle.fields.proofs.read_mode.Tie as tie
 
 pub read-mode-spec : {M : Type 1} → statement M
-unfolding modeOf
+unfolding readMode
 read-mode-spec =
     tie.close
     (tie.spec

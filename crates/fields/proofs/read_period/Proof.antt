@@ -2,13 +2,13 @@
 use Rattle.buffers.proofs.Choices.{picks}
 use Rattle.text.proofs.Values.{values}
 use Rattle.fields.proofs.Readers.{front-is}
-use Rattle.fields.specs.Fields.{periodOf}
+use Rattle.fields.specs.Fields.{readPeriod}
 use borrow.Author.Needs.{needs}
 use Rattle.fields.proofs.read_period.Statement.{statement}
 use Rattle.fields.proofs.read_period.Tie as tie
 
 pub read-period-spec : {M : Type 1} → statement M
-unfolding periodOf
+unfolding readPeriod
 read-period-spec =
     tie.close
     (tie.spec

@@ -1,13 +1,13 @@
 -- `read_prefix` meets its contract.
 use Rattle.fields.proofs.Readers.{part-yes, part-no}
 use Rattle.text.specs.Keys.{isPrefix}
-use Rattle.fields.specs.Fields.{prefixOf}
+use Rattle.fields.specs.Fields.{readPrefix}
 use borrow.Author.Needs.{needs}
 use Rattle.fields.proofs.read_prefix.Statement.{statement}
 use Rattle.fields.proofs.read_prefix.Tie as tie
 
 pub read-prefix-spec : {M : Type 1} → statement M
-unfolding prefixOf
+unfolding readPrefix
 read-prefix-spec =
     tie.close
     (tie.spec

@@ -1,12 +1,12 @@
 -- `read_rights` meets its contract.
 use Rattle.buffers.proofs.Choices.{picks, some-is}
-use Rattle.fields.specs.Fields.{rightsOf}
+use Rattle.fields.specs.Fields.{readRights}
 use borrow.Author.Needs.{needs}
 use Rattle.fields.proofs.read_rights.Statement.{statement}
 use Rattle.fields.proofs.read_rights.Tie as tie
 
 pub read-rights-spec : {M : Type 1} → statement M
-unfolding rightsOf
+unfolding readRights
 read-rights-spec =
     tie.close
     (tie.spec

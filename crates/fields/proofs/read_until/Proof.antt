@@ -1,13 +1,13 @@
 -- `read_until` meets its contract.
 use Rattle.buffers.proofs.Choices.{picks}
 use Rattle.dates.proofs.Reading.{dates}
-use Rattle.fields.specs.Fields.{untilOf}
+use Rattle.fields.specs.Fields.{readUntil}
 use borrow.Author.Needs.{needs}
 use Rattle.fields.proofs.read_until.Statement.{statement}
 use Rattle.fields.proofs.read_until.Tie as tie
 
 pub read-until-spec : {M : Type 1} → statement M
-unfolding untilOf
+unfolding readUntil
 read-until-spec =
     tie.close
     (tie.spec

@@ -2,14 +2,14 @@
 use Prim.Native.Nat.{_-_, _≤_}
 use mathlib.Core.Path.{_≡_}
 use lib.ListN.{length, drop}
-use Rattle.text.specs.Keys.{has}
-use Rattle.text.proofs.Scans.{has-cases}
+use Rattle.text.specs.Keys.{contains}
+use Rattle.text.proofs.Scans.{contains-cases}
 use borrow.Author.Needs.{needs}
 use Rattle.text.proofs.contains.Statement.{statement}
 use Rattle.text.proofs.contains.Tie as tie
 
 abbrev Inv-loop : tie.InvT-loop
-Inv-loop text b i₀ i = (i ≤ length text) × (has text b ≡ has (drop i text) b)
+Inv-loop text b i₀ i = (i ≤ length text) × (contains text b ≡ contains (drop i text) b)
 
 abbrev μ-loop : tie.MeasureT-loop
 μ-loop text b i₀ i = length text - i
@@ -20,10 +20,10 @@ contains-spec =
     (tie.spec
     Inv-loop
     μ-loop
-    (λ c. search (needs, has-cases))
-    (λ c. search (needs, has-cases))
-    (λ c. search (needs, has-cases))
-    (λ c. search (needs, has-cases))
-    (λ c. search (needs, has-cases))
-    (λ c. search (needs, has-cases))
-    (λ c. search (needs, has-cases)))
+    (λ c. search (needs, contains-cases))
+    (λ c. search (needs, contains-cases))
+    (λ c. search (needs, contains-cases))
+    (λ c. search (needs, contains-cases))
+    (λ c. search (needs, contains-cases))
+    (λ c. search (needs, contains-cases))
+    (λ c. search (needs, contains-cases)))

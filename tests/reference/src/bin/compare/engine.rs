@@ -1,7 +1,7 @@
 //! The engine's C entries, each slice a pointer and a length.
 
 extern "C" {
-    fn hub_serve(
+    fn knitpasture_serve(
         settings: *mut u8,
         settings_length: usize,
         rows: *mut u8,
@@ -13,7 +13,7 @@ extern "C" {
         answer: *mut u8,
         answer_length: usize,
     ) -> u64;
-    fn hub_fresh(
+    fn knitpasture_fresh(
         settings: *mut u8,
         settings_length: usize,
         rows: *mut u8,
@@ -26,7 +26,7 @@ extern "C" {
 pub fn serve(settings: &mut [u8], rows: &mut [u8], keys: &mut [u8], line: &[u8], answer: &mut [u8]) -> u64 {
     // SAFETY: each pointer comes with the length of the slice that it is taken from.
     unsafe {
-        hub_serve(
+        knitpasture_serve(
             settings.as_mut_ptr(),
             settings.len(),
             rows.as_mut_ptr(),
@@ -44,7 +44,7 @@ pub fn serve(settings: &mut [u8], rows: &mut [u8], keys: &mut [u8], line: &[u8],
 pub fn fresh(settings: &mut [u8], rows: &mut [u8], keys: &mut [u8]) -> u64 {
     // SAFETY: each pointer comes with the length of the slice that it is taken from.
     unsafe {
-        hub_fresh(
+        knitpasture_fresh(
             settings.as_mut_ptr(),
             settings.len(),
             rows.as_mut_ptr(),

@@ -1,8 +1,8 @@
 -- `serve_read` meets its contract: each way through it is one of the cited laws.
-use Rattle.hub.proofs.Serving.{line-cases}
+use Rattle.knitpasture.proofs.Serving.{line-cases}
 use borrow.Author.Needs.{needs}
-use Rattle.hub.proofs.serve_read.Statement.{statement}
-use Rattle.hub.proofs.serve_read.Tie as tie
+use Rattle.knitpasture.proofs.serve_read.Statement.{statement}
+use Rattle.knitpasture.proofs.serve_read.Tie as tie
 
 pub serve-read-spec : {M : Type 1} → statement M
 serve-read-spec =

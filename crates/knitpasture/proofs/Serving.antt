@@ -18,12 +18,12 @@ use Rattle.outcome.specs.Outcome.{Outcome, settingsFrom, refused, outcome}
 use Rattle.outcome.proofs.Back.{settings-back}
 use Rattle.outcome.proofs.Demands.{outcome-refused}
 use Rattle.engine.specs.declared.Served.{Served}
-use Rattle.engine.specs.Served.{served}
-use Rattle.hub.specs.Bytes.{numbersFrom, numbersBytes, ByteOutcome, byteOutcome, outcomeBytes, servedBytes, freshSettings, freshOutcome}
+use Rattle.engine.specs.Served.{outcomeFrom}
+use Rattle.knitpasture.specs.Bytes.{numbersFrom, numbersBytes, ByteOutcome, byteOutcome, outcomeBytes, spelledServed, freshSettings, freshOutcome}
 
 -- ## A line
 
-module _ (s : Settings) (settings rows n keys line answer : List ℕ) (r : Served) (n′ keys′ answer′ : List ℕ) (e : served r n′ keys′ answer′ ≡ outcome s n keys line answer) where
+module _ (s : Settings) (settings rows n keys line answer : List ℕ) (r : Served) (n′ keys′ answer′ : List ℕ) (e : outcomeFrom r n′ keys′ answer′ ≡ outcome s n keys line answer) where
   number-is : r .number ≡ (outcome s n keys line answer) .number
   number-is = ap (λ (o : Outcome). o .number) e
 
@@ -41,7 +41,7 @@ module _ (s : Settings) (settings rows n keys line answer : List ℕ) (r : Serve
 pub ruleset line-cases = (line-refused, line-accepted)
 
 pub line-read : (o : ByteOutcome) (k : ℕ) (s : Settings) (settings rows n keys line answer : List ℕ) → s ≡ settingsOf settings → n ≡ numbersFrom k rows
-    → o ≡ outcomeBytes (outcome s n keys line answer) settings rows keys answer → o ≡ servedBytes k settings rows keys line answer
+    → o ≡ outcomeBytes (outcome s n keys line answer) settings rows keys answer → o ≡ spelledServed k settings rows keys line answer
 line-read o k s settings rows n keys line answer e f q = rw (← e, ← f) q
 
 -- A table of as many numbers as the rows have is lent of the room for all.
@@ -51,8 +51,8 @@ part-long rows room e h =
     rw n (length-take-le (length rows / 8) room (omega arith))
 
 pub line-served : (o : ByteOutcome) (settings rows keys line answer room : List ℕ) → length room ≡ 8192 → length rows ≤ 65536
-    → o ≡ servedBytes (length (midOf 0 (length rows / 8 - 0) room)) settings rows keys line answer → o ≡ servedBytes (length rows / 8) settings rows keys line answer
-line-served o settings rows keys line answer room e h q = q ∙ ap (λ (k : ℕ). servedBytes k settings rows keys line answer) (part-long rows room e h)
+    → o ≡ spelledServed (length (midOf 0 (length rows / 8 - 0) room)) settings rows keys line answer → o ≡ spelledServed (length rows / 8) settings rows keys line answer
+line-served o settings rows keys line answer room e h q = q ∙ ap (λ (k : ℕ). spelledServed k settings rows keys line answer) (part-long rows room e h)
 
 -- ## A fresh bucket
 

@@ -15,9 +15,9 @@ use Rattle.settings.specs.Meaning.{settingsSound}
 use Rattle.settings.proofs.RoundTrip.{settings-back}
 use Rattle.bucket.specs.Whole.{whole}
 use Rattle.bucket.proofs.Whole.{fresh-whole}
-use Rattle.hub.specs.Bytes.{numbersFrom, freshSettings, freshOutcome, hubFresh}
-use Rattle.hub.proofs.Numbers.{zeros-read}
-use Rattle.hub.proofs.Fits.{whole-fits}
+use Rattle.knitpasture.specs.Bytes.{numbersFrom, freshSettings, freshOutcome, hubFresh}
+use Rattle.knitpasture.proofs.Numbers.{zeros-read}
+use Rattle.knitpasture.proofs.Fits.{whole-fits}
 
 fresh-fresh : Fresh freshSettings
 unfolding blockOf isBlock isPrefix settingsSound soundConfig soundRules

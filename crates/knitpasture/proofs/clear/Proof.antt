@@ -1,8 +1,8 @@
 -- `clear` meets its contract.
-use Rattle.hub.proofs.Serving.{cleared}
+use Rattle.knitpasture.proofs.Serving.{cleared}
 use borrow.Author.Needs.{needs}
-use Rattle.hub.proofs.clear.Statement.{statement}
-use Rattle.hub.proofs.clear.Tie as tie
+use Rattle.knitpasture.proofs.clear.Statement.{statement}
+use Rattle.knitpasture.proofs.clear.Tie as tie
 
 pub clear-spec : {M : Type 1} → statement M
 clear-spec = tie.close

@@ -18,9 +18,9 @@ use Rattle.bucket.proofs.Whole.{whole-parts}
 use Rattle.outcome.specs.Outcome.{Outcome, outcome}
 use Rattle.outcome.proofs.Demands.{refusal-range, outcome-number, accepted-of-whole}
 use Rattle.outcome.proofs.Kept.{outcome-whole}
-use Rattle.hub.specs.Bytes.{numbersFrom, numbersBytes, ByteOutcome, byteOutcome, outcomeBytes, spelledOutcome, servedBytes, hubServed}
-use Rattle.hub.proofs.Numbers.{length-bytes, numbers-back}
-use Rattle.hub.proofs.Fits.{whole-fits, whole-words}
+use Rattle.knitpasture.specs.Bytes.{numbersFrom, numbersBytes, ByteOutcome, byteOutcome, outcomeBytes, spelledOutcome, spelledServed, hubServed}
+use Rattle.knitpasture.proofs.Numbers.{length-bytes, numbers-back}
+use Rattle.knitpasture.proofs.Fits.{whole-fits, whole-words}
 
 -- ## A line
 
@@ -47,7 +47,7 @@ module _ (settings rows keys line answer : List ℕ) where
   core-most : core .number ≤ 12
   core-most = rw (outcome-number (settingsOf settings) (numbersFrom (length rows / 8) rows) keys line answer) (refusal-range (settingsOf settings) (numbersFrom (length rows / 8) rows) keys line answer)
 
-  fitting : call ≡ servedBytes (length rows / 8) settings rows keys line answer → Refuses ⊎ Accepts
+  fitting : call ≡ spelledServed (length rows / 8) settings rows keys line answer → Refuses ⊎ Accepts
   fitting e =
       elim (either (eqb (core .number) 0)) [
         | inl t ↦ inr (record { zero = eqb-true (core .number) 0 t; is = e ∙ rw t })

@@ -45,15 +45,15 @@ outcomeBytes o settings rows keys answer =
 abbrev pub spelledOutcome : ℕ → List ℕ → List ℕ → List ℕ → List ℕ → List ℕ → Outcome
 spelledOutcome n settings rows keys line answer = outcome (settingsOf settings) (numbersFrom n rows) keys line answer
 
-abbrev pub servedBytes : ℕ → List ℕ → List ℕ → List ℕ → List ℕ → List ℕ → ByteOutcome
-servedBytes n settings rows keys line answer = outcomeBytes (spelledOutcome n settings rows keys line answer) settings rows keys answer
+abbrev pub spelledServed : ℕ → List ℕ → List ℕ → List ℕ → List ℕ → List ℕ → ByteOutcome
+spelledServed n settings rows keys line answer = outcomeBytes (spelledOutcome n settings rows keys line answer) settings rows keys answer
 
 -- The settings are 688 bytes, and the rows whole numbers, at most those of 1024 rows; whether rows and keys fit one c the outcome tells.
 unfoldable pub hubServed : List ℕ → List ℕ → List ℕ → List ℕ → List ℕ → ByteOutcome
 hubServed settings rows keys line answer =
     pick (eqb (length settings) 688)
     (pick (ltb 65536 (length rows)) (byteOutcome 1 settings rows keys answer)
-    (pick (eqb (length rows % 8) 0) (servedBytes (length rows / 8) settings rows keys line answer)
+    (pick (eqb (length rows % 8) 0) (spelledServed (length rows / 8) settings rows keys line answer)
     (byteOutcome 1 settings rows keys answer)))
     (byteOutcome 1 settings rows keys answer)
 

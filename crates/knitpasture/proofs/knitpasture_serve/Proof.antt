@@ -1,14 +1,14 @@
--- `hub_serve` meets its contract: each way through it is one of the cited laws.
+-- `knitpasture_serve` meets its contract: each way through it is one of the cited laws.
 use Rattle.buffers.proofs.Choices.{picks}
-use Rattle.hub.specs.Bytes.{hubServed}
-use Rattle.hub.proofs.Serving.{line-served}
+use Rattle.knitpasture.specs.Bytes.{hubServed}
+use Rattle.knitpasture.proofs.Serving.{line-served}
 use borrow.Author.Needs.{needs}
-use Rattle.hub.proofs.hub_serve.Statement.{statement}
-use Rattle.hub.proofs.hub_serve.Tie as tie
+use Rattle.knitpasture.proofs.knitpasture_serve.Statement.{statement}
+use Rattle.knitpasture.proofs.knitpasture_serve.Tie as tie
 
-pub hub-serve-spec : {M : Type 1} → statement M
+pub knitpasture-serve-spec : {M : Type 1} → statement M
 unfolding hubServed
-hub-serve-spec =
+knitpasture-serve-spec =
     tie.close
     (tie.spec
     (λ c. search (picks, needs))

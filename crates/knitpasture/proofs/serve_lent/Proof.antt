@@ -42,10 +42,10 @@ use denote.Triple.Walked.{says, Stays, stay-ref, stay-none-slice, gave-slice, wa
 use denote.Exit.{yes}
 use Rattle.settings.specs.declared.Settings.{Settings}
 use Rattle.outcome.specs.Outcome.{outcome}
-use Rattle.engine.specs.Served.{served}
-use Rattle.hub.specs.Lent.{lentFrom}
+use Rattle.engine.specs.Served.{outcomeFrom}
+use Rattle.knitpasture.specs.Lent.{lentOutcomeFrom}
 use Rattle.engine.specs.declared.Served.{Served}
-use Rattle.hub.proofs.serve_lent.Key.{name as #hub·serve-lent}
+use Rattle.knitpasture.proofs.serve_lent.Key.{name as #knitpasture·serve-lent}
 use denote.Struct.Laws as LL
 use Rattle.settings.proofs.Settings as T
 use Rattle.settings.proofs.Settings.Laws as T′
@@ -54,9 +54,9 @@ use Rattle.engine.proofs.Served.Laws as N′
 use Rattle.engine.proofs.serve as srv
 use Rattle.engine.proofs.serve.Symbol as serve-def
 use Rattle.engine.proofs.serve.Met as serve-thm
-use Rattle.hub.proofs.serve_lent as serve-lent
-use Rattle.hub.proofs.serve_lent.Statement as stated
-use Rattle.hub.proofs.serve_lent.Code as code
+use Rattle.knitpasture.proofs.serve_lent as serve-lent
+use Rattle.knitpasture.proofs.serve_lent.Statement as stated
+use Rattle.knitpasture.proofs.serve_lent.Code as code
 
 abbrev stayed : Stays (serve-lent.ended .signature .params) (serve-lent.ended .kept)
 stayed =
@@ -121,7 +121,7 @@ module _ {M : Type 1} (𝓤 : URA M) (H : Heap 𝓤) (A : Atoms 𝓤) (W : Given
 
   abbrev Says : Served → Lasts → Type 0
   Says r zs =
-      served r (zs .1 .0) (zs .1 .1 .0) (zs .1 .1 .1 .1 .0) ≡ outcome h (x₁ .now) (x₂ .now) (x₃ .now) (x₄ .now)
+      outcomeFrom r (zs .1 .0) (zs .1 .1 .0) (zs .1 .1 .1 .1 .0) ≡ outcome h (x₁ .now) (x₂ .now) (x₃ .now) (x₄ .now)
 
   asked : ent 𝓤 (sep 𝓤 (sep 𝓤 (A .lft κ₁ q₁) (sep 𝓤 (A .lft κ₂ q₂) (sep 𝓤 (A .lft κ₃ q₃) (sep 𝓤 (A .lft κ₄ q₄) (sem 𝓤 H A ftrue))))) (sem 𝓤 H A whole-own)) (Serve 𝓤 H A at-mem run .pre to)
   asked = qed W (toks ∷ ‵ whole-own ∷ []) ∵ join ! $ frame ! $ done !
@@ -140,7 +140,7 @@ module _ {M : Type 1} (𝓤 : URA M) (H : Heap 𝓤) (A : Atoms 𝓤) (W : Given
   exits r zs e fits l₁ l₂ l₄ =
       qed W (‵ (fobs γ (R .coded .code (r .settings))) ∷ ‵ (fbor κ (Body (mem R) b o γ)) ∷ ‵ (flft κ q) ∷ toks ∷ ‵ (finally u64 (x₁ .name) (zs .1 .0)) ∷ ‵ (finally u8 (x₂ .name) (zs .1 .1 .0)) ∷ ‵ line ∷ ‵ (finally u8 (x₄ .name) (zs .1 .1 .1 .1 .0)) ∷ []) ∵
       suffices ! _ (ends-at 𝓤 H A serve-lent.ended stayed (serve-lent.clauses 𝓤 H A at-mem run) W ((κs, (q, (q₁, (q₂, (q₃, (q₄, tt))))), tt, a, vals), tt) (vint w64 (r .number)) (r .number)
-      (r .settings, (zs .1 .0, (zs .1 .1 .0, (tt, (zs .1 .1 .1 .1 .0, tt))))) (tt, (l₁, (l₂, (tt, (l₄, tt)))))) $ says ! (ap lentFrom e) $
+      (r .settings, (zs .1 .0, (zs .1 .1 .0, (tt, (zs .1 .1 .1 .1 .0, tt))))) (tt, (l₁, (l₂, (tt, (l₄, tt)))))) $ says ! (ap lentOutcomeFrom e) $
       move ! (2 ∷ 3 ∷ []) $ join ! $ frame ! $ feqI ! (List Val) (vptr b o ∷ []) (vptr b o ∷ []) refl $ fjoin3 ! $
       -- [what settings owns; rows' last list; keys'; what line owns; answer's last list]
       nothing ! $ move ! (5 ∷ 0 ∷ []) $ fjoin ! $ move ! (4 ∷ 0 ∷ []) $ fjoin ! $ move ! (3 ∷ 0 ∷ []) $ fjoin ! $ move ! (2 ∷ 0 ∷ []) $ fjoin ! $ move ! (1 ∷ 0 ∷ []) $ fjoin ! $
@@ -213,6 +213,6 @@ pub serve-lent-spec : {M : Type 1} → stated.statement M
 unfolding code.routine tablesOf
 serve-lent-spec 𝓤 H 𝓜 𝓖 𝓡 =
     entered 𝓤 H (tripleOf 𝓤 H (𝓖 .A) serve-lent.signature (serve-lent.spec 𝓤 H (𝓖 .A) (𝓜 .mem) (𝓡 .run)))
-    (tables 𝓤 H 𝓜 𝓡 code.env .C) (tables 𝓤 H 𝓜 𝓡 code.env .Λ) #hub·serve-lent code.function (code.unfolded 𝓤 H 𝓜 𝓡)
+    (tables 𝓤 H 𝓜 𝓡 code.env .C) (tables 𝓤 H 𝓜 𝓡 code.env .Λ) #knitpasture·serve-lent code.function (code.unfolded 𝓤 H 𝓜 𝓡)
     (serve-lent-meets 𝓤 H (𝓖 .A) (givenOf 𝓤 H 𝓜 𝓖) (𝓜 .mem) (𝓡 .run) (tablesOf 𝓤 H 𝓜 (tables 𝓤 H 𝓜 𝓡 code.env))
     (cited 𝓤 H (Serve 𝓤 H (𝓖 .A) (𝓜 .mem) (𝓡 .run)) 𝓜 𝓡 code.env #engine·serve serve-def.routine code.calls-engine·serve (serve-thm.met 𝓤 H 𝓜 𝓖 𝓡)))

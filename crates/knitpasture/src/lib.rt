@@ -4,8 +4,8 @@ ghost use mathlib.Core.Path.{_≡_};
 ghost use Prim.Native.Nat.{_*_};
 ghost use lib.ListN.{length, replicate};
 ghost use Rattle.outcome.specs.Outcome.{outcome};
-ghost use Rattle.hub.specs.Lent.{lent, lentFrom};
-ghost use Rattle.hub.specs.Bytes.{numbersFrom, numbersBytes, byteOutcome, outcomeBytes, servedBytes, hubServed, freshOutcome, hubFresh};
+ghost use Rattle.knitpasture.specs.Lent.{lentOutcome, lentOutcomeFrom};
+ghost use Rattle.knitpasture.specs.Bytes.{numbersFrom, numbersBytes, byteOutcome, outcomeBytes, spelledServed, hubServed, freshOutcome, hubFresh};
 
 // Serves a line on settings that are lent and altered here, and returns 0 or the refusal.
 pub fn serve_lent(
@@ -15,7 +15,7 @@ pub fn serve_lent(
     line: &[u8],
     answer: &mut [u8],
 ) -> u64
-    ensures { λ r. ⌜ lent r (now (settings .exit)) (now (rows .exit)) (now (keys .exit)) (now (answer .exit)) ≡ lentFrom (outcome (now (settings .entry)) (now (rows .entry)) (now (keys .entry)) (now (line .entry)) (now (answer .entry))) ⌝ }
+    ensures { λ r. ⌜ lentOutcome r (now (settings .exit)) (now (rows .exit)) (now (keys .exit)) (now (answer .exit)) ≡ lentOutcomeFrom (outcome (now (settings .entry)) (now (rows .entry)) (now (keys .entry)) (now (line .entry)) (now (answer .entry))) ⌝ }
 {
     let r = engine::serve(*settings, rows, keys, line, answer);
     *settings = r.settings;
@@ -88,7 +88,7 @@ fn serve_bytes(
     numbers: &mut [u64],
 ) -> u64
     requires { ⌜ (length (now settings) ≡ 688) × (length (now rows) ≡ 8 * length (now numbers)) ⌝ }
-    ensures { λ r. ⌜ byteOutcome r (now (settings .exit)) (now (rows .exit)) (now (keys .exit)) (now (answer .exit)) ≡ servedBytes (length (now (numbers .entry))) (now (settings .entry)) (now (rows .entry)) (now (keys .entry)) (now (line .entry)) (now (answer .entry)) ⌝ }
+    ensures { λ r. ⌜ byteOutcome r (now (settings .exit)) (now (rows .exit)) (now (keys .exit)) (now (answer .exit)) ≡ spelledServed (length (now (numbers .entry))) (now (settings .entry)) (now (rows .entry)) (now (keys .entry)) (now (line .entry)) (now (answer .entry)) ⌝ }
 {
     let s = settings::decode(settings);
     read_numbers(rows, numbers);
@@ -97,7 +97,7 @@ fn serve_bytes(
 
 // Serves a line on settings and rows as bytes, and returns 0 or the refusal.
 #[no_mangle]
-pub extern "C" fn hub_serve(
+pub extern "C" fn knitpasture_serve(
     settings: &mut [u8],
     rows: &mut [u8],
     keys: &mut [u8],
@@ -130,7 +130,7 @@ fn clear(b: &mut [u8])
 
 // Makes the bytes those of a fresh bucket, and returns 0, or 1 where their lengths don't fit one capacity.
 #[no_mangle]
-pub extern "C" fn hub_fresh(settings: &mut [u8], rows: &mut [u8], keys: &mut [u8]) -> u64
+pub extern "C" fn knitpasture_fresh(settings: &mut [u8], rows: &mut [u8], keys: &mut [u8]) -> u64
     ensures { λ r. ⌜ freshOutcome r (now (settings .exit)) (now (rows .exit)) (now (keys .exit)) ≡ hubFresh (now (settings .entry)) (now (rows .entry)) (now (keys .entry)) ⌝ }
 {
     if settings.len() != 688 {

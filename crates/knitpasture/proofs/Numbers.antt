@@ -16,7 +16,7 @@ use Rattle.buffers.proofs.Words.{length-spelled, number-spelled, spelled-number
 use Rattle.buffers.proofs.Writes.{wrote-both, wrote-as}
 use Rattle.settings.specs.Bytes.{isWord}
 use Rattle.settings.proofs.Decoding.{filled}
-use Rattle.hub.specs.Bytes.{numbersFrom, numbersBytes}
+use Rattle.knitpasture.specs.Bytes.{numbersFrom, numbersBytes}
 
 -- ## Lengths
 

@@ -1,8 +1,8 @@
 -- `serve_bytes` meets its contract.
-use Rattle.hub.proofs.Serving.{line-read}
+use Rattle.knitpasture.proofs.Serving.{line-read}
 use borrow.Author.Needs.{needs}
-use Rattle.hub.proofs.serve_bytes.Statement.{statement}
-use Rattle.hub.proofs.serve_bytes.Tie as tie
+use Rattle.knitpasture.proofs.serve_bytes.Statement.{statement}
+use Rattle.knitpasture.proofs.serve_bytes.Tie as tie
 
 pub serve-bytes-spec : {M : Type 1} → statement M
 serve-bytes-spec =
