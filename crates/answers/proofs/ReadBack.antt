@@ -1,13 +1,68 @@
--- The date in a GET's answer reads back as the same instant.
+-- A GET's answer read back: its fields, and the date among them.
 use Prim.Native.Nat.{ℕ, _≤_}
-use mathlib.Core.Path.{_≡_}
+use mathlib.Core.Path.{_≡_, refl, _∙_, ap}
+use mathlib.Core.Logic.{inl, inr}
+use mathlib.Core.Bool.{true}
+use mathlib.Core.List.{List, [], _∷_, _++_, append-assoc}
 use mathlib.Core.Option.{some}
+use lib.Dec.{eqb}
 use borrow.Author.Tests.{ne-eqb}
+use Rattle.buffers.specs.Texts.{bytes}
+use Rattle.buffers.specs.Lists.{all}
+use Rattle.buffers.proofs.Tests.{either}
+use Rattle.text.specs.Fields.{fields, fieldOf, tabbed}
+use Rattle.text.specs.Lines.{firstLine}
+use Rattle.text.proofs.Joined.{visible, digits-visible, fields-back, first-line}
 use Rattle.calendar.specs.Calendar.{latest}
 use Rattle.dates.specs.Reading.{readDate}
+use Rattle.dates.proofs.Printing.{date-visible}
 use Rattle.dates.proofs.RoundTrip.{round-trip}
-use Rattle.answers.specs.Text.{untilText}
+use Rattle.model.specs.Rows.{Row, governance}
+use Rattle.model.specs.Answers.{shown}
+use Rattle.answers.specs.Text.{fieldsText, okText, modeText, untilText, holdText, rowFields, answerText}
 
-pub until-back : (m d : ℕ) → (m ≡ 0 → ⊥) → d ≤ latest → readDate (untilText m d) ≡ some d
+mode-visible : (m : ℕ) → visible (modeText m) ≡ true
+unfolding modeText
+mode-visible m =
+    elim (either (eqb m 0)) [
+      | inl t ↦ rw t
+      | inr t ↦ elim (either (eqb m governance)) [
+        | inl u ↦ simp (t, u)
+        | inr u ↦ simp (t, u)
+      ]
+    ]
+
+until-visible : (m d : ℕ) → visible (untilText m d) ≡ true
 unfolding untilText
-until-back m d n h = simp (ne-eqb m 0 n) (round-trip d h)
+until-visible m d =
+    elim (either (eqb m 0)) [
+      | inl t ↦ rw t
+      | inr t ↦ rw t (date-visible d)
+    ]
+
+hold-visible : (h : ℕ) → visible (holdText h) ≡ true
+unfolding holdText
+hold-visible h =
+    elim (either (eqb h 0)) [
+      | inl t ↦ rw t
+      | inr t ↦ rw t
+    ]
+
+module _ (x : Row) (room : List ℕ) where
+  fields-visible : all visible (rowFields x) ≡ true
+  fields-visible = simp (digits-visible, mode-visible, until-visible, hold-visible)
+
+  -- The first line of a buffer that the answer begins is the answer without its line feed.
+  row-line : firstLine (answerText (shown x) ++ room) ≡ bytes "ok" ++ tabbed (rowFields x)
+  unfolding okText fieldsText
+  row-line =
+      let t : answerText (shown x) ++ room ≡ (bytes "ok" ++ tabbed (rowFields x)) ++ 10 ∷ room = simp append-assoc in
+      ap firstLine t ∙ first-line (bytes "ok") (rowFields x) room refl fields-visible
+
+  row-fields : fields (firstLine (answerText (shown x) ++ room)) ≡ bytes "ok" ∷ rowFields x
+  row-fields = ap fields row-line ∙ fields-back (bytes "ok") (rowFields x) refl fields-visible
+
+  -- The fifth field after `ok` reads as the row's date.
+  pub until-back : (x .mode ≡ 0 → ⊥) → x .until ≤ latest → readDate (fieldOf (firstLine (answerText (shown x) ++ room)) 5) ≡ some (x .until)
+  unfolding fieldOf untilText
+  until-back m h = rw row-fields (simp (ne-eqb (x .mode) 0 m) (round-trip (x .until) h))

@@ -1,14 +1,14 @@
--- Calls over bytes are calls on what the bytes spell.
-use Prim.Native.Nat.{ℕ, _*_, _/_, _≤_}
+-- Calls over bytes are calls on what the bytes spell: the demands of the C entries.
+use Prim.Native.Nat.{ℕ, zero, suc, _*_, _/_, _%_, _≤_}
 use mathlib.Core.Path.{_≡_, refl, sym, _∙_, ap, ap₂, subst⁻¹}
 use mathlib.Core.Logic.{inl, inr}
-use mathlib.Core.Bool.{true}
+use mathlib.Core.Bool.{true, false}
 use mathlib.Core.List.{List, [], _∷_, _++_}
 use mathlib.Core.Option.{Option, some, none}
 use native.Mathlib.Omega.{arith}
-use lib.Dec.{eqb}
+use lib.Dec.{eqb, ltb}
 use lib.ListN.{length, length-replicate}
-use borrow.Author.Tests.{eqb-true, eqb-false}
+use borrow.Author.Tests.{eqb-true, eqb-false, eq-eqb, ltb-false}
 use Rattle.buffers.specs.Choices.{pick}
 use Rattle.buffers.proofs.Tests.{either}
 use Rattle.model.specs.Run.{Event}
@@ -16,120 +16,235 @@ use Rattle.model.specs.LockClause.{Kept}
 use Rattle.settings.specs.Bytes.{settingsOf}
 use Rattle.settings.proofs.RoundTrip.{settings-length}
 use Rattle.table.specs.Layout.{capacity}
+use Rattle.bucket.specs.Whole.{whole}
+use Rattle.bucket.proofs.Whole.{whole-parts}
 use Rattle.request.specs.Grammar.{Said, readLine, asked}
-use Rattle.outcome.specs.Outcome.{Outcome, outcome}
-use Rattle.knitpasture.specs.Bytes.{numbersFrom, ByteOutcome, outcomeBytes, FreshOutcome, freshSettings}
-use Rattle.knitpasture.proofs.Hub.{reads-as, hub-hands-on, hub-refused}
+use Rattle.outcome.specs.Outcome.{Outcome, refused, refusalOf}
+use Rattle.outcome.proofs.Demands.{accepted-of-whole}
+use Rattle.knitpasture.specs.Bytes.{numbersFrom, ByteOutcome, byteOutcome, outcomeBytes, hubServed, FreshOutcome, freshOutcome, freshSettings, hubFresh}
+use Rattle.knitpasture.proofs.Hub.{reads-as, hub-hands-on, hub-range, hub-refused}
 use Rattle.knitpasture.proofs.Fits.{whole-fits}
 use Rattle.knitpasture.proofs.FreshBucket.{fresh-made, reads-fresh}
 use Rattle.guarantee.specs.Calls.{Lent, Call, held, freshLent, served, leaves, isAccepted, left, callEvent, callEvents, answersNumber}
-use Rattle.guarantee.specs.Bytes.{Bytes, lentOf, servedBytes, leavesBytes, leftBytes, byteEvent, byteEvents, freshBytes, Demand3Bytes}
-use Rattle.guarantee.proofs.Demands.{demand-1}
+use Rattle.guarantee.specs.Bytes.{Bytes, lentOf, Sized, servedBytes, leavesBytes, UnchangedBytes, AcceptedBytes, Demand1Bytes, Demand2Bytes, WrongLengths, madeFresh, freshBytes, FreshMade, leftBytes, byteEvent, byteEvents, Demand3Bytes}
+use Rattle.guarantee.proofs.Demands.{demand-1, demand-2, number-is}
 use Rattle.guarantee.proofs.Runs.{Whole, whole-after}
-use Rattle.guarantee.proofs.LockClause.{fresh-is-whole, demand-3}
+use Rattle.guarantee.proofs.LockClause.{demand-3}
 
--- The bytes have the lengths for c rows, and spell a whole bucket.
-pub record Spells (c : ℕ) (b : Bytes) (s : Lent) : Type 0 where
-  pub most : c ≤ 1024
-  pub is : lentOf b ≡ s
-  pub settings-long : length (b .settings) ≡ 688
-  pub rows-long : length (b .rows) ≡ 64 * c
-  pub is-whole : Whole c s
+-- ## A call on bytes of the lengths of c rows
 
--- Bytes whose parts read as those of an outcome spell what it leaves.
-spelled-as : (b : Bytes) (o o′ : Outcome) → settingsOf (b .settings) ≡ o .settings → numbersFrom (length (b .rows) / 8) (b .rows) ≡ o .numbers → b .keys ≡ o .keys → o ≡ o′ → lentOf b ≡ leaves o′
-spelled-as b o o′ es en ek e = rw (es, en, ek) (ap leaves e)
-
-spelled-fresh : (b : Bytes) (s : Lent) (n : ℕ) → length (b .rows) / 8 ≡ n → settingsOf (b .settings) ≡ s .settings → numbersFrom n (b .rows) ≡ s .numbers → b .keys ≡ s .keys → lentOf b ≡ s
-spelled-fresh b s n k es en ek = rw (k, es, en, ek)
-
-module _ (c : ℕ) (b : Bytes) (s : Lent) (l : Call) (w : Spells c b s) where
-  -- The call returns, and leaves in the answer buffer, what the call on the spelled bucket does.
-  is-served : servedBytes b l ≡ outcomeBytes (served s l) (b .settings) (b .rows) (b .keys) (l .answer)
+module _ (c : ℕ) (b : Bytes) (l : Call) (z : Sized c b) where
+  is-served : servedBytes b l ≡ outcomeBytes (served (lentOf b) l) (b .settings) (b .rows) (b .keys) (l .answer)
   is-served =
-      let r = w .rows-long in
-      let m = w .most in
-      reads-as (b .settings) (b .rows) (b .keys) (l .line) (l .answer) (s .settings) (s .numbers) (s .keys) (w .settings-long) (omega arith) (omega arith)
-      (ap (λ (x : Lent). x .settings) (w .is)) (ap (λ (x : Lent). x .numbers) (w .is)) (ap (λ (x : Lent). x .keys) (w .is))
+      let r = z .rows-long in
+      let m = z .most in
+      reads-as (b .settings) (b .rows) (b .keys) (l .line) (l .answer) (lentOf b .settings) (lentOf b .numbers) (b .keys) (z .settings-long) (omega arith) (omega arith) refl refl refl
 
-  same-number : (servedBytes b l) .number ≡ (served s l) .number
-  same-number = elim (either (eqb ((served s l) .number) 0)) [
-    | inl t ↦ ap (λ (o : ByteOutcome). o .number) is-served ∙ rw t (sym (eqb-true ((served s l) .number) 0 t))
+  -- It returns what the call on the spelled bucket does.
+  pub same-number : (servedBytes b l) .number ≡ (served (lentOf b) l) .number
+  same-number = elim (either (eqb ((served (lentOf b) l) .number) 0)) [
+    | inl t ↦ ap (λ (o : ByteOutcome). o .number) is-served ∙ rw t (sym (eqb-true ((served (lentOf b) l) .number) 0 t))
     | inr t ↦ ap (λ (o : ByteOutcome). o .number) is-served ∙ rw t
   ]
 
-  same-answer : eqb ((served s l) .number) 0 ≡ true → (servedBytes b l) .answer ≡ (served s l) .answer
+  same-answer : eqb ((served (lentOf b) l) .number) 0 ≡ true → (servedBytes b l) .answer ≡ (served (lentOf b) l) .answer
   same-answer t = ap (λ (o : ByteOutcome). o .answer) is-served ∙ rw t
 
-  spelled-refused : (((served s l) .number) ≡ 0 → ⊥) → Spells c (leavesBytes (servedBytes b l)) (leaves (served s l))
-  spelled-refused z =
-      let kept : leavesBytes (servedBytes b l) ≡ b = ap leavesBytes (hub-refused (b .settings) (b .rows) (b .keys) (l .line) (l .answer) (λ e. z (sym same-number ∙ e))) in
-      let same : leaves (served s l) ≡ s = ap leaves ((demand-1 s l) .writes-nothing z) in
-      rw (kept, same) w
+  -- What it leaves has the same lengths, and spells what the call on the spelled bucket leaves.
+  pub record Spells : Type 0 where
+    pub sized : Sized c (leavesBytes (servedBytes b l))
+    pub is : lentOf (leavesBytes (servedBytes b l)) ≡ leaves (served (lentOf b) l)
 
-  spelled-accepted : ((served s l) .number) ≡ 0 → Spells c (leavesBytes (servedBytes b l)) (leaves (served s l))
-  spelled-accepted z =
-      let h = hub-hands-on (b .settings) (b .rows) (b .keys) (l .line) (l .answer) (same-number ∙ z) in
-      let o : outcome (settingsOf (b .settings)) (numbersFrom (length (b .rows) / 8) (b .rows)) (b .keys) (l .line) (l .answer) ≡ served s l = ap (λ (x : Lent). served x l) (w .is) in
-      let n = whole-after c s l (w .is-whole) in
+  spells-refused : ((served (lentOf b) l) .number ≡ 0 → ⊥) → Spells
+  spells-refused n =
+      let kept : leavesBytes (servedBytes b l) ≡ b = ap leavesBytes (hub-refused (b .settings) (b .rows) (b .keys) (l .line) (l .answer) (λ e. n (sym same-number ∙ e))) in
+      let same : leaves (served (lentOf b) l) ≡ lentOf b = ap leaves ((demand-1 (lentOf b) l) .writes-nothing n) in
+      record { sized = subst⁻¹ (λ (x : Bytes). Sized c x) kept z; is = ap lentOf kept ∙ sym same }
+
+  spells-accepted : (served (lentOf b) l) .number ≡ 0 → Spells
+  spells-accepted n =
+      let h = hub-hands-on (b .settings) (b .rows) (b .keys) (l .line) (l .answer) (same-number ∙ n) in
+      let k = z .keys-long in
+      let w : Whole c (lentOf b) = record { is-whole = accepted-of-whole (lentOf b .settings) (lentOf b .numbers) (b .keys) (l .line) (l .answer) n; size = omega arith } in
+      let a = whole-after c (lentOf b) l w in
+      let p = whole-parts (served (lentOf b) l .settings) (served (lentOf b) l .numbers) (served (lentOf b) l .keys) (a .is-whole) in
       record {
-        most = w .most;
-        is = spelled-as (leavesBytes (servedBytes b l)) _ (served s l) (h .settings-read) (h .numbers-read) (h .keys-are) o;
-        settings-long = h .settings-long;
-        rows-long = h .rows-long ∙ ap (λ (x : Outcome). 64 * capacity (x .keys)) o ∙ ap (λ (k : ℕ). 64 * k) (n .size);
-        is-whole = n;
+        sized = record {
+          some = z .some;
+          most = z .most;
+          settings-long = h .settings-long;
+          rows-long = h .rows-long ∙ ap (λ (m : ℕ). 64 * m) (a .size);
+          keys-long = ap length (h .keys-are) ∙ p .keys-long ∙ ap (λ (m : ℕ). 64 * m) (a .size);
+        };
+        is = rw (h .settings-read, h .numbers-read, h .keys-are);
       }
 
-  pub spelled-after : Spells c (leavesBytes (servedBytes b l)) (leaves (served s l))
-  spelled-after = elim (either (eqb ((served s l) .number) 0)) [
-    | inl t ↦ spelled-accepted (eqb-true ((served s l) .number) 0 t)
-    | inr t ↦ spelled-refused (eqb-false ((served s l) .number) 0 t)
+  pub spells-after : Spells
+  spells-after = elim (either (eqb ((served (lentOf b) l) .number) 0)) [
+    | inl t ↦ spells-accepted (eqb-true ((served (lentOf b) l) .number) 0 t)
+    | inr t ↦ spells-refused (eqb-false ((served (lentOf b) l) .number) 0 t)
   ]
 
-  same-event : eqb ((served s l) .number) 0 ≡ true → byteEvent b l ≡ callEvent s l
-  same-event t = go (readLine (l .line)) refl
-    where
-      go : (o : Option Said) → readLine (l .line) ≡ o → byteEvent b l ≡ callEvent s l
-      go none e = rw e
-      go (some q) e = rw (e, same-answer t) (ap (λ (x : Lent). record { before = held x; request = asked (length (l .answer)) q; answered = answersNumber (q .verb) ((served s l) .answer) } ∷ []) (w .is))
+  same-event : eqb ((served (lentOf b) l) .number) 0 ≡ true → byteEvent b l ≡ callEvent (lentOf b) l
+  same-event t = rw (same-answer t)
 
-  pub same-events : pick (eqb ((servedBytes b l) .number) 0) (byteEvent b l) [] ≡ pick (isAccepted s l) (callEvent s l) []
-  same-events = elim (either (eqb ((served s l) .number) 0)) [
+  pub same-events : pick (eqb ((servedBytes b l) .number) 0) (byteEvent b l) [] ≡ pick (isAccepted (lentOf b) l) (callEvent (lentOf b) l) []
+  same-events = elim (either (eqb ((served (lentOf b) l) .number) 0)) [
     | inl t ↦ rw (same-number, t) (same-event t)
     | inr t ↦ rw (same-number, t)
   ]
 
--- ## A list of calls
+  -- ## Demand 2 of the C entry
 
-pub spelled-left : (c : ℕ) (b : Bytes) (s : Lent) (ls : List Call) → Spells c b s → lentOf (leftBytes b ls) ≡ left s ls
-spelled-left c b s [] w = w .is
-spelled-left c b s (l ∷ ls) w = spelled-left c (leavesBytes (servedBytes b l)) (leaves (served s l)) ls (spelled-after c b s l w)
+  pub demand-2-bytes : Demand2Bytes c b l
+  demand-2-bytes =
+      record {
+        refused-first = λ n e k. (demand-2 (lentOf b) l) .refused-first n (sym same-number ∙ e) k;
+        first-refused = λ n h. same-number ∙ (demand-2 (lentOf b) l) .first-refused n h;
+        accepts = λ e.
+            let a = (demand-2 (lentOf b) l) .accepts e in
+            let n : (served (lentOf b) l) .number ≡ 0 = ap (λ (o : Outcome). o .number) (a .does) in
+            record {
+              said = a .said;
+              reads = a .reads;
+              outcome = served (lentOf b) l;
+              outcome-is = a .does;
+              does = is-served ∙ rw (eq-eqb ((served (lentOf b) l) .number) 0 n);
+              sized = spells-after .sized;
+              spells = spells-after .is;
+            };
+      }
 
-pub accepted-spelled : (c : ℕ) (b : Bytes) (s : Lent) (ls : List Call) → Spells c b s → byteEvents b ls ≡ callEvents s ls
-accepted-spelled c b s [] w = refl
-accepted-spelled c b s (l ∷ ls) w =
-    ap₂ (λ (x y : List Event). x ++ y) (same-events c b s l w) (accepted-spelled c (leavesBytes (servedBytes b l)) (leaves (served s l)) ls (spelled-after c b s l w))
+-- ## Demand 1, and wrong lengths
 
--- ## Demand 3 of the C entries
-
-fresh-spelled : (c : ℕ) → 1 ≤ c → c ≤ 1024 → (settings rows keys : List ℕ) → length settings ≡ 688 → length rows ≡ 64 * c → length keys ≡ 64 * c → Spells c (freshBytes settings rows keys) (freshLent c)
-fresh-spelled c least most settings rows keys ls lr lk =
-    let f = fresh-made settings rows keys c least most ls lr lk in
-    let r = reads-fresh settings rows keys c least most ls lr lk in
-    let n : length ((freshBytes settings rows keys) .rows) ≡ 64 * c = ap (λ (x : FreshOutcome). length (x .rows)) f ∙ length-replicate {A = ℕ} (64 * c) 0 in
-    let k : length ((freshBytes settings rows keys) .rows) / 8 ≡ 8 * c = omega arith in
+pub demand-1-bytes : (b : Bytes) (l : Call) → Demand1Bytes b l
+demand-1-bytes b l =
     record {
-      most = most;
-      is = spelled-fresh (freshBytes settings rows keys) (freshLent c) (8 * c) k (r .settings-read) (r .numbers-read) (r .keys-are);
-      settings-long = ap (λ (x : FreshOutcome). length (x .settings)) f ∙ settings-length freshSettings (whole-fits freshSettings _ _ (r .is-whole));
-      rows-long = n;
-      is-whole = fresh-is-whole c least most;
+      numbered = hub-range (b .settings) (b .rows) (b .keys) (l .line) (l .answer);
+      writes-nothing = hub-refused (b .settings) (b .rows) (b .keys) (l .line) (l .answer);
     }
+
+numbers-length : (k : ℕ) (b : List ℕ) → length (numbersFrom k b) ≡ k
+unfolding numbersFrom
+numbers-length zero b = refl
+numbers-length (suc k) b = ap suc (numbers-length k _)
+
+-- What is whole has the lengths of its capacity.
+whole-sized : (b : Bytes) → length (b .settings) ≡ 688 → length (b .rows) % 8 ≡ 0 → whole (lentOf b .settings) (lentOf b .numbers) (b .keys) ≡ true → Sized (capacity (b .keys)) b
+whole-sized b s r w =
+    let p = whole-parts (lentOf b .settings) (lentOf b .numbers) (b .keys) w in
+    record {
+      some = p .some;
+      most = p .most;
+      settings-long = s;
+      rows-long = let n = numbers-length (length (b .rows) / 8) (b .rows) in omega (arith, p .numbers-long);
+      keys-long = p .keys-long;
+    }
+
+unsound-number : (s : Lent) (l : Call) → whole (s .settings) (s .numbers) (s .keys) ≡ false → (served s l) .number ≡ 1
+unfolding refusalOf
+unsound-number s l e = number-is s l ∙ rw e
+
+unsound-1 : (s : Lent) (l : Call) → whole (s .settings) (s .numbers) (s .keys) ≡ false → served s l ≡ refused 1 (s .settings) (s .numbers) (s .keys) (l .answer)
+unsound-1 s l e =
+    let n = unsound-number s l e in
+    (demand-1 s l) .writes-nothing (λ z. omega arith) ∙ ap (λ (k : ℕ). refused k (s .settings) (s .numbers) (s .keys) (l .answer)) n
+
+pub wrong-lengths : (b : Bytes) (l : Call) → WrongLengths b l
+unfolding hubServed
+wrong-lengths b l wrong =
+    elim (either (eqb (length (b .settings)) 688)) [
+      | inl t ↦ elim (either (ltb 65536 (length (b .rows)))) [
+        | inl u ↦ simp (t, u)
+        | inr u ↦ elim (either (eqb (length (b .rows) % 8) 0)) [
+          | inl v ↦ elim (either (whole (lentOf b .settings) (lentOf b .numbers) (b .keys))) [
+            | inl w ↦ absurd (wrong (capacity (b .keys)) (whole-sized b (eqb-true _ 688 t) (eqb-true _ 0 v) w))
+            | inr w ↦
+                reads-as (b .settings) (b .rows) (b .keys) (l .line) (l .answer) (lentOf b .settings) (lentOf b .numbers) (b .keys) (eqb-true _ 688 t) (ltb-false 65536 _ u) (eqb-true _ 0 v) refl refl refl
+                ∙ ap (λ (o : Outcome). outcomeBytes o (b .settings) (b .rows) (b .keys) (l .answer)) (unsound-1 (lentOf b) l w)
+          ]
+          | inr v ↦ simp (t, u, v)
+        ]
+      ]
+      | inr t ↦ rw t
+    ]
+
+-- ## A fresh bucket
+
+fresh-sized : (c : ℕ) (b : Bytes) → Sized c b → Sized c (freshBytes b)
+fresh-sized c b z =
+    let f = fresh-made (b .settings) (b .rows) (b .keys) c (z .some) (z .most) (z .settings-long) (z .rows-long) (z .keys-long) in
+    let r = reads-fresh (b .settings) (b .rows) (b .keys) c (z .some) (z .most) (z .settings-long) (z .rows-long) (z .keys-long) in
+    record {
+      some = z .some;
+      most = z .most;
+      settings-long = ap (λ (x : FreshOutcome). length (x .settings)) f ∙ settings-length freshSettings (whole-fits freshSettings _ _ (r .is-whole));
+      rows-long = ap (λ (x : FreshOutcome). length (x .rows)) f ∙ length-replicate {A = ℕ} (64 * c) 0;
+      keys-long = ap (λ (x : FreshOutcome). length (x .keys)) f ∙ length-replicate {A = ℕ} (64 * c) 0;
+    }
+
+fresh-spells : (c : ℕ) (b : Bytes) → Sized c b → lentOf (freshBytes b) ≡ freshLent c
+fresh-spells c b z =
+    let r = reads-fresh (b .settings) (b .rows) (b .keys) c (z .some) (z .most) (z .settings-long) (z .rows-long) (z .keys-long) in
+    let n = (fresh-sized c b z) .rows-long in
+    let k : length ((freshBytes b) .rows) / 8 ≡ 8 * c = omega arith in
+    rw (k, r .settings-read, r .numbers-read, r .keys-are)
+
+fresh-refused : (b : Bytes) → ((c : ℕ) → Sized c b → ⊥) → madeFresh b ≡ freshOutcome 1 (b .settings) (b .rows) (b .keys)
+unfolding hubFresh
+fresh-refused b wrong =
+    elim (either (eqb (length (b .settings)) 688)) [
+      | inl t ↦ elim (either (ltb (length (b .rows)) 64)) [
+        | inl u ↦ simp (t, u)
+        | inr u ↦ elim (either (ltb 65536 (length (b .rows)))) [
+          | inl v ↦ simp (t, u, v)
+          | inr v ↦ elim (either (eqb (length (b .rows) % 64) 0)) [
+            | inl w ↦ elim (either (eqb (length (b .keys)) (length (b .rows)))) [
+              | inl x ↦
+                  let low = ltb-false (length (b .rows)) 64 u in
+                  let high = ltb-false 65536 (length (b .rows)) v in
+                  let part = eqb-true (length (b .rows) % 64) 0 w in
+                  let alike = eqb-true (length (b .keys)) (length (b .rows)) x in
+                  absurd (wrong (length (b .rows) / 64) (record { some = omega arith; most = omega arith; settings-long = eqb-true _ 688 t; rows-long = omega arith; keys-long = omega arith }))
+              | inr x ↦ simp (t, u, v, w, x)
+            ]
+            | inr w ↦ simp (t, u, v, w)
+          ]
+        ]
+      ]
+      | inr t ↦ rw t
+    ]
+
+pub fresh-is-made : (b : Bytes) → FreshMade b
+fresh-is-made b =
+    record {
+      returns-0 = λ c z. ap (λ (x : FreshOutcome). x .number) (fresh-made (b .settings) (b .rows) (b .keys) c (z .some) (z .most) (z .settings-long) (z .rows-long) (z .keys-long));
+      sized = λ c z. fresh-sized c b z;
+      spells = λ c z. fresh-spells c b z;
+      refuses = fresh-refused b;
+    }
+
+-- ## A list of calls: demand 3 of the C entries
+
+spelled-left : (c : ℕ) (b : Bytes) (s : Lent) (ls : List Call) → Sized c b → lentOf b ≡ s → lentOf (leftBytes b ls) ≡ left s ls
+spelled-left c b s [] z e = e
+spelled-left c b s (l ∷ ls) z e =
+    let a = spells-after c b l z in
+    spelled-left c (leavesBytes (servedBytes b l)) (leaves (served s l)) ls (a .sized) (a .is ∙ ap (λ (x : Lent). leaves (served x l)) e)
+
+spelled-events : (c : ℕ) (b : Bytes) (s : Lent) (ls : List Call) → Sized c b → lentOf b ≡ s → byteEvents b ls ≡ callEvents s ls
+spelled-events c b s [] z e = refl
+spelled-events c b s (l ∷ ls) z e =
+    let a = spells-after c b l z in
+    ap₂ (λ (x y : List Event). x ++ y)
+    (same-events c b l z ∙ ap (λ (x : Lent). pick (isAccepted x l) (callEvent x l) []) e)
+    (spelled-events c (leavesBytes (servedBytes b l)) (leaves (served s l)) ls (a .sized) (a .is ∙ ap (λ (x : Lent). leaves (served x l)) e))
 
 kept-as : {s t : Lent} {es fs : List Event} → t ≡ s → fs ≡ es → Kept (held s) es → Kept (held t) fs
 kept-as {s} {t} {es} {fs} p q k = subst⁻¹ (λ (x : Lent). Kept (held x) fs) p (subst⁻¹ (λ (x : List Event). Kept (held s) x) q k)
 
 pub demand-3-bytes : Demand3Bytes
-demand-3-bytes c least most settings rows keys ls lr lk cs =
-    let w = fresh-spelled c least most settings rows keys ls lr lk in
-    kept-as (spelled-left c (freshBytes settings rows keys) (freshLent c) cs w) (accepted-spelled c (freshBytes settings rows keys) (freshLent c) cs w) (demand-3 c least most cs)
+demand-3-bytes c b z ls =
+    let f = fresh-sized c b z in
+    let e = fresh-spells c b z in
+    kept-as (spelled-left c (freshBytes b) (freshLent c) ls f e) (spelled-events c (freshBytes b) (freshLent c) ls f e) (demand-3 c (z .some) (z .most) ls)

@@ -1,70 +1,35 @@
--- The date that an accepted GET prints reads back as the same instant.
+-- The date that stands in the answer buffer after an accepted GET reads back as the row's.
 use Prim.Native.Nat.{ℕ, _≤_}
-use mathlib.Core.Path.{_≡_, refl, sym, _∙_, ap}
+use mathlib.Core.Path.{_≡_, sym, _∙_}
 use mathlib.Core.Logic.{inl, inr}
-use mathlib.Core.Bool.{Bool, true, false, _&&_}
-use mathlib.Core.Option.{Option, some, none}
+use mathlib.Core.Bool.{true, _&&_}
+use mathlib.Core.Option.{some}
 use native.Mathlib.Omega.{arith}
 use lib.Dec.{eqb, leb, ltb}
-use lib.ListN.{length}
+use lib.ListN.{length, drop}
 use borrow.Author.Tests.{eqb-true}
-use Rattle.buffers.specs.Choices.{pick, thenSome}
-use Rattle.buffers.specs.Lists.{all, same}
+use Rattle.buffers.specs.Lists.{same}
 use Rattle.buffers.proofs.Tests.{either, and-l, and-r}
 use Rattle.buffers.proofs.Lists.{all-first}
 use Rattle.calendar.specs.Calendar.{latest}
 use Rattle.model.specs.Rows.{Row, isData, isMarker, bodies, largestSize, soundRow}
-use Rattle.model.specs.Settings.{Bucket}
-use Rattle.model.specs.Requests.{Version, name, Get, Verb, Put, Copy, Retain, Hold, AddMarker, DeleteVersion, Set, Sweep, Ask}
-use Rattle.model.specs.Time.{Now, nowOf}
+use Rattle.model.specs.Requests.{Name, Get, Ask}
 use Rattle.model.specs.Effects.{hasVersion, rowOf}
-use Rattle.model.specs.Answers.{Answer, done, made, marked, removed, removedMarker, sweptCounts, shown, reply}
+use Rattle.model.specs.Answers.{shown, reply}
 use Rattle.model.proofs.SoundRows.{row-parts}
 use Rattle.bucket.proofs.Whole.{whole-parts, sound-parts}
 use Rattle.table.specs.Layout.{capacity}
 use Rattle.judge.proofs.Naming.{date-most}
 use Rattle.answers.proofs.ReadBack.{until-back}
-use Rattle.request.specs.Grammar.{asked}
+use Rattle.answers.specs.Text.{answerText}
+use Rattle.request.specs.Grammar.{Said, readLine}
+use Rattle.outcome.specs.Outcome.{written}
 use Rattle.outcome.proofs.Demands.{accepted-of-whole}
-use Rattle.guarantee.specs.Calls.{Lent, Call, held}
+use Rattle.guarantee.specs.Calls.{Lent, Call, held, served}
 use Rattle.guarantee.specs.Promise.{DateReadsBack}
+use Rattle.guarantee.proofs.Demands.{accepts, number-is}
 
-none-some : {x : Row} → none ≡ some x → ⊥
-none-some e = let z : _≡_ {A = ℕ} 0 1 = ap (λ (o : Option Row). thenSome o 0 (λ y. 1)) e in omega arith
-
--- ## The row that is shown
-
-abbrev shownRow : Answer → Option Row
-shownRow done = none
-shownRow (made v) = none
-shownRow (marked v) = none
-shownRow (removed v) = none
-shownRow (removedMarker v) = none
-shownRow (sweptCounts gone new) = none
-shownRow (shown x) = some x
-
-removal-shows : (a : Bool) (v : Version) → shownRow (pick a (removedMarker v) (removed v)) ≡ none
-removal-shows true v = refl
-removal-shows false v = refl
-
-get-shows : (o : Option Row) → shownRow (thenSome o done (λ x. shown x)) ≡ o
-get-shows none = refl
-get-shows (some x) = refl
-
--- What is shown is a row of the table.
-is-row : (b : Bucket) (now : Now) (w : Verb) (p : Row → Bool) (x : Row) → all p (b .rows) ≡ true → shownRow (reply b now w) ≡ some x → p x ≡ true
-unfolding reply
-is-row b now (Put k body size t) p x h e = absurd (none-some e)
-is-row b now (Copy n k t) p x h e = absurd (none-some e)
-is-row b now (Retain n r y) p x h e = absurd (none-some e)
-is-row b now (Hold n on) p x h e = absurd (none-some e)
-is-row b now (AddMarker k y) p x h e = absurd (none-some e)
-is-row b now (DeleteVersion k v y) p x h e = absurd (none-some (sym (removal-shows (thenSome (rowOf (b .rows) (name k (some v))) false isMarker) v) ∙ e))
-is-row b now (Set s) p x h e = absurd (none-some e)
-is-row b now Sweep p x h e = absurd (none-some e)
-is-row b now (Ask (Get n)) p x h e = all-first p (λ y. same (n .key) (y .key) && hasVersion (n .version) y) (b .rows) x h (sym (get-shows (rowOf (b .rows) n)) ∙ e)
-
--- ## Its date
+-- ## The row's date
 
 -- A sound row's date is an instant.
 row-date : (n t : ℕ) (x : Row) → soundRow n t x ≡ true → x .until ≤ latest
@@ -80,10 +45,18 @@ row-date n t x e =
           omega (arith, eqb-true (x .until) 0 (and-l _ _ g))
     ]
 
+-- What an accepted GET writes is the text of the row that it names.
+shows : (s : Lent) (l : Call) (n : Name) (q : Said) (x : Row) → (served s l) .number ≡ 0 → readLine (l .line) ≡ some q → q .verb ≡ Ask (Get n) → rowOf (held s .rows) n ≡ some x
+    → (served s l) .answer ≡ written (answerText (shown x)) (l .answer)
+unfolding reply
+shows s l n q x z r v e =
+    let a = accepts s l (sym (number-is s l) ∙ z) in
+    let p : a .said ≡ q = cc in
+    rw (a .does) (rw (p, v, e))
+
 pub date-reads-back : (s : Lent) (l : Call) → DateReadsBack s l
-date-reads-back s l z a x e m =
+date-reads-back s l n q x z r v e m =
     let w = whole-parts (s .settings) (s .numbers) (s .keys) (accepted-of-whole (s .settings) (s .numbers) (s .keys) (l .line) (l .answer) z) in
     let rows = (sound-parts (capacity (s .keys)) (held s) (w .is-sound)) .rows-sound in
-    let q = asked (length (l .answer)) (a .said) in
-    until-back (x .mode) (x .until) m
-    (row-date _ _ x (is-row (held s) (nowOf (held s) (q .context)) (q .verb) (soundRow (held s .settings .next) (held s .settings .time)) x rows (ap shownRow e)))
+    let sound = all-first (soundRow (held s .settings .next) (held s .settings .time)) (λ y. same (n .key) (y .key) && hasVersion (n .version) y) (held s .rows) x rows e in
+    rw (shows s l n q x z r v e) (until-back x (drop (length (answerText (shown x))) (l .answer)) m (row-date _ _ x sound))

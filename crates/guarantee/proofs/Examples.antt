@@ -1,11 +1,15 @@
--- 01's starred examples as one table, and its printed run on buffers: request lines as bytes on a fresh bucket, and what is printed of each call.
+-- The statements at work, computed: 01's starred examples as one table, its printed run, and a use of each demand on bytes and buffers.
 use Prim.Native.Nat.{ℕ}
-use mathlib.Core.Path.{_≡_, refl}
+use mathlib.Core.Path.{_≡_, refl, ap}
 use mathlib.Core.List.{List, [], _∷_, _++_}
-use lib.ListN.{take, replicate}
+use mathlib.Core.Option.{some}
+use native.Mathlib.Omega.{arith}
+use lib.Dec.{lit<, lit≤}
+use lib.ListN.{getD, take, replicate}
 use Rattle.buffers.specs.Texts.{bytes}
+use Rattle.buffers.specs.Words.{number, spelled}
 use Rattle.text.specs.Fields.{fieldOf}
-use Rattle.text.specs.Lines.{linesOf}
+use Rattle.text.specs.Lines.{linesOf, firstLine}
 use Rattle.text.specs.Keys.{isKeyByte, isPrefix, isKey}
 use Rattle.text.specs.Numbers.{isDigit, digitMore, leadingZero, numberOf, positiveOf}
 use Rattle.text.specs.Printing.{digits}
@@ -14,8 +18,10 @@ use Rattle.calendar.specs.Periods.{periodEnd, expiresAt}
 use Rattle.dates.specs.Examples.{Starred as Dates, starred as dates}
 use Rattle.dates.specs.Printing.{dateText, printDate}
 use Rattle.dates.specs.Reading.{digitOf, twoDigits, fourDigits, dayNumber, dayAt, secondOfDay, secondAt, placeOf, milliseconds, fractionOf, readDate}
-use Rattle.model.proofs.Examples.{Starred as Locks, examples}
-use Rattle.model.specs.Answers.{reply}
+use Rattle.model.proofs.Examples as model
+use Rattle.model.proofs.Examples.{Starred as Locks}
+use Rattle.model.specs.Answers.{done, reply}
+use Rattle.model.specs.LockClause.{Held, InCompliance}
 use Rattle.model.specs.Effects.{added, removed, rowsAfter, setConfig, configAfter}
 use Rattle.model.specs.Locks.{locked, admits}
 use Rattle.model.specs.Refusals.{halfGiven, needs, granted, lacksRight, pastDate, missing, namesMarker, barred, tooLate, spends, full}
@@ -24,22 +30,45 @@ use Rattle.model.specs.Rows.{soundRow}
 use Rattle.model.specs.Settings.{soundRules, soundConfig, fits, sound}
 use Rattle.model.specs.Time.{defaultEnd}
 use Rattle.blocks.specs.Blocks.{blockOf, isBlock}
+use Rattle.settings.specs.Bytes.{settingsOf, settingsBytes}
+use Rattle.settings.specs.Meaning.{settingsSound}
 use Rattle.bucket.specs.Whole.{whole}
 use Rattle.fields.specs.Fields.{rightsIn, readRights, readKey, readPrefix, readVersion, readMode, readUntil, readSwitch, readHold, readBypass, readPeriod}
 use Rattle.request.specs.Grammar.{nameAt, retentionAt, termsAt, putOf, copyOf, retainOf, setHoldOf, deleteOf, defaultOf, ruleOf, sweepOf, getOf, otherByWord, verbByWord, readLine}
-use Rattle.answers.specs.Text.{fieldsText, okText, modeText, untilText, holdText}
-use Rattle.outcome.specs.Outcome.{refusalOf, outcome}
+use Rattle.answers.specs.Text.{fieldsText, okText, modeText, untilText, holdText, answerText}
+use Rattle.outcome.specs.Outcome.{Outcome, written, refusalOf, outcome}
 use Rattle.outcome.specs.Printed.{printed}
-use Rattle.guarantee.specs.Calls.{Lent, freshLent, served, leaves}
+use Rattle.knitpasture.specs.Bytes.{numbersFrom, numbersBytes, hubServed, hubFresh}
+use Rattle.guarantee.specs.Calls.{Lent, Call, held, freshLent, served, leaves, left}
 use Rattle.guarantee.specs.Lists.{call}
+use Rattle.guarantee.specs.Promise.{Hub, Demand1, Demand2}
+use Rattle.guarantee.specs.Bytes.{Bytes, lentOf, servedBytes, freshBytes, leftBytes, byteEvents}
+use Rattle.guarantee.proofs.Demands.{only-hub}
+use Rattle.guarantee.proofs.Bytes.{demand-3-bytes}
 
--- The starred examples of 01: the dates, and the locks.
+-- A call of a line with an answer buffer of zeros.
+abbrev asks : List ℕ → Call
+asks line = call line (replicate 256 0)
+
+-- ## 01's starred examples
+
+-- What a line on a fresh bucket returns.
+abbrev returned : List ℕ → ℕ
+returned line = (served (freshLent 1) (asks line)) .number
+
+-- A clock that can't be read meets 3; with the date beside it the line is read, and its key has no row.
+pub record Clocks : Type 0 where
+  pub no-29-february : returned (bytes "2100-02-29T00:00:00Z\tr\tGET\tq/7\t-") ≡ 3
+  pub its-28-february : returned (bytes "2100-02-28T00:00:00Z\tr\tGET\tq/7\t-") ≡ 7
+  pub no-second-60 : returned (bytes "2016-12-31T23:59:60Z\tr\tGET\tq/7\t-") ≡ 3
+  pub second-59 : returned (bytes "2016-12-31T23:59:59Z\tr\tGET\tq/7\t-") ≡ 7
+
 pub record Starred : Type 0 where
   pub dates : Dates
+  pub clocks : Clocks
   pub locks : Locks
 
-pub starred : Starred
-starred = record { dates = dates; locks = examples .starred }
+-- ## 01's printed run
 
 -- What is printed of each call, which is handed what the one before it left.
 abbrev printedRun : Lent → List ℕ → List (List ℕ) → List ℕ
@@ -58,7 +87,8 @@ text =
     ++ bytes "2024-03-02T00:00:00Z\td\tDELETE\tq/7\t1\tno\n"
     ++ bytes "2024-03-02T00:00:00Z\tr\tGET\tq/7\t-\n"
 
-pub printed-run : printedRun (freshLent 4) (replicate 256 0) (linesOf text) ≡
+abbrev output : List ℕ
+output =
     bytes "ok\n"
     ++ bytes "ok\t1\n"
     ++ bytes "no\t9\n"
@@ -66,5 +96,70 @@ pub printed-run : printedRun (freshLent 4) (replicate 256 0) (linesOf text) ≡
     ++ bytes "ok\t1\t41\t300\tCOMPLIANCE\t2024-03-02T00:00:00.000Z\tOFF\n"
     ++ bytes "ok\t1\tremoved\n"
     ++ bytes "no\t8\n"
-unfolding fieldOf isKeyByte isPrefix isKey isDigit digitMore leadingZero numberOf positiveOf digits leap yearsLength monthStart monthLength validDay daysOf guessOf yearOf monthOf dateIn civilOf periodEnd expiresAt dateText printDate digitOf twoDigits fourDigits dayNumber dayAt secondOfDay secondAt placeOf milliseconds fractionOf readDate reply added removed rowsAfter setConfig configAfter locked admits halfGiven needs granted lacksRight pastDate missing namesMarker barred tooLate spends full inRange soundRow soundRules soundConfig fits sound defaultEnd blockOf isBlock whole rightsIn readRights readKey readPrefix readVersion readMode readUntil readSwitch readHold readBypass readPeriod nameAt retentionAt termsAt putOf copyOf retainOf setHoldOf deleteOf defaultOf ruleOf sweepOf getOf otherByWord verbByWord readLine fieldsText okText modeText untilText holdText refusalOf outcome
-printed-run = refl
+
+-- ## A printed date
+
+-- A file under COMPLIANCE until an instant that is no whole second.
+abbrev lockedPut : Call
+lockedPut = asks (bytes "2026-01-05T08:00:00Z\twt\tPUT\tq/7\t41\t300\tCOMPLIANCE\t2033-01-05T00:00:00.007Z\t-")
+
+abbrev get : Call
+get = asks (bytes "2026-01-06T09:00:00Z\tr\tGET\tq/7\t-")
+
+abbrev withLocked : Lent
+withLocked = left (freshLent 1) (lockedPut ∷ [])
+
+-- ## 01, point c: a hub that serves the first line and merely acknowledges later ones
+
+-- It says `ok` and does nothing.
+abbrev acknowledged : Hub
+acknowledged s l =
+    record { number = 0; len = 3; settings = s .settings; numbers = s .numbers; keys = s .keys; answer = written (answerText done) (l .answer) }
+
+-- The hub, by the calls that it has served so far.
+abbrev firstLineOnly : List Call → Hub
+firstLineOnly [] = served
+firstLineOnly (k ∷ ks) = acknowledged
+
+-- A hold that it acknowledges is not there.
+abbrev hold : Call
+hold = asks (bytes "2026-01-06T09:00:00Z\th\tHOLD\tq/7\t1\tON")
+
+-- ## Demand 3 over bytes
+
+-- Bytes of one row, before they are made a fresh bucket.
+abbrev oneRow : Bytes
+oneRow = record { settings = replicate 688 90; rows = replicate 64 90; keys = replicate 64 90 }
+
+-- The second call meets 9.
+abbrev calls : List Call
+calls = lockedPut ∷ asks (bytes "2033-01-05T00:00:00.006Z\tdb\tDELETE\tq/7\t1\tyes") ∷ []
+
+-- ## The examples, computed
+
+pub record Examples : Type 0 where
+  pub starred : Starred
+  -- The run on the sizes of `bucketrun`.
+  pub printed-run : printedRun (freshLent 1024) (replicate 65536 0) (linesOf text) ≡ output
+  pub date-printed : fieldOf (firstLine ((served withLocked get) .answer)) 5 ≡ bytes "2033-01-05T00:00:00.007Z"
+  pub date-read : readDate (fieldOf (firstLine ((served withLocked get) .answer)) 5) ≡ some 1988496000007
+  pub refused-9 : (servedBytes (leftBytes (freshBytes oneRow) (take 1 calls)) (asks (bytes "2033-01-05T00:00:00.006Z\tdb\tDELETE\tq/7\t1\tyes"))) .number ≡ 9
+  pub held-in-bytes : Held (held (lentOf (leftBytes (freshBytes oneRow) calls))) (byteEvents (freshBytes oneRow) calls) 1 (InCompliance 1988496000007)
+  pub no-first-line-only : Demand1 (firstLineOnly (lockedPut ∷ [])) withLocked hold → Demand2 (firstLineOnly (lockedPut ∷ [])) withLocked hold → ⊥
+
+pub examples : Examples
+unfolding fieldOf isKeyByte isPrefix isKey isDigit digitMore leadingZero numberOf positiveOf digits leap yearsLength monthStart monthLength validDay daysOf guessOf yearOf monthOf dateIn civilOf periodEnd expiresAt dateText printDate digitOf twoDigits fourDigits dayNumber dayAt secondOfDay secondAt placeOf milliseconds fractionOf readDate reply added removed rowsAfter setConfig configAfter locked admits halfGiven needs granted lacksRight pastDate missing namesMarker barred tooLate spends full inRange soundRow soundRules soundConfig fits sound defaultEnd blockOf isBlock whole rightsIn readRights readKey readPrefix readVersion readMode readUntil readSwitch readHold readBypass readPeriod nameAt retentionAt termsAt putOf copyOf retainOf setHoldOf deleteOf defaultOf ruleOf sweepOf getOf otherByWord verbByWord readLine fieldsText okText modeText untilText holdText refusalOf outcome number numbersFrom numbersBytes spelled settingsOf settingsBytes hubServed hubFresh settingsSound
+examples =
+    record {
+      starred = record {
+        dates = dates;
+        clocks = record { no-29-february = refl; its-28-february = refl; no-second-60 = refl; second-59 = refl };
+        locks = model.examples .starred;
+      };
+      printed-run = refl;
+      date-printed = refl;
+      date-read = refl;
+      refused-9 = refl;
+      held-in-bytes = (demand-3-bytes 1 oneRow (record { some = lit≤ tt; most = lit≤ tt; settings-long = refl; rows-long = refl; keys-long = refl }) calls) .inCompliance [] [] _ 1 1988496000007 refl refl (lit< tt);
+      no-first-line-only = λ d e. let z : _≡_ {A = ℕ} 0 1 = ap (λ (o : Outcome). getD (o .numbers) 7 0) (only-hub (firstLineOnly (lockedPut ∷ [])) withLocked hold d e) in absurd (omega arith);
+    }

@@ -49,7 +49,7 @@ module _ (c : ℕ) (s : Lent) (l : Call) (w : Whole c s) where
   same-refusal = rw (← w .size) (model-refusal (s .settings) (s .numbers) (s .keys) (l .line) (l .answer) (w .is-whole))
 
   -- What an accepted call leaves, and what it says.
-  held-accepted : Accepted s l → number ≡ 0 → held (leaves (served s l)) ≡ model.serve c (held s) (lineIn l)
+  held-accepted : Accepted served s l → number ≡ 0 → held (leaves (served s l)) ≡ model.serve c (held s) (lineIn l)
   held-accepted a z =
       let r = sym same-refusal ∙ z in
       rw (a .does, a .reads) (accepted-bucket (s .settings) (s .numbers) (s .keys) (l .line) (l .answer) (a .said) (w .is-whole) (a .reads) z ∙ sym (rw (rw (a .reads) at r)))
@@ -73,7 +73,7 @@ module _ (c : ℕ) (s : Lent) (l : Call) (w : Whole c s) where
   whole-after = record { is-whole = outcome-whole (s .settings) (s .numbers) (s .keys) (l .line) (l .answer) (w .is-whole); size = size-after }
 
   -- An accepted call says what the model's accepted line says.
-  event-accepted : (a : Accepted s l) → callEvent s l ≡ model.lineEvent (held s) (lineIn l)
+  event-accepted : (a : Accepted served s l) → callEvent s l ≡ model.lineEvent (held s) (lineIn l)
   event-accepted a =
       let q = asked (length (l .answer)) (a .said) in
       let e : answersNumber (a .said .verb) ((served s l) .answer) ≡ (λ v. givesNumber v (answerTo (held s) q)) = rw (a .does) (fun-ext (λ v. answered-is (held s) (nowOf (held s) (q .context)) (q .verb) (l .answer) v)) in

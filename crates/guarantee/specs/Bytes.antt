@@ -1,16 +1,22 @@
--- Calls of the C entries: the bucket travels as bytes.
+-- The demands of the C entries, to which the bucket travels as bytes.
 use Prim.Native.Nat.{ℕ, _*_, _/_, _≤_}
 use mathlib.Core.Path.{_≡_}
+use mathlib.Core.Bool.{true, not}
 use mathlib.Core.List.{List, [], _∷_, _++_}
+use mathlib.Core.Option.{some}
 use lib.Dec.{eqb}
 use lib.ListN.{length}
 use Rattle.buffers.specs.Choices.{pick, thenSome}
+use Rattle.buffers.specs.Lists.{all}
+use Rattle.model.specs.Refusals.{FirstHolds}
 use Rattle.model.specs.Run.{Event}
 use Rattle.model.specs.LockClause.{Kept}
-use Rattle.settings.specs.Bytes.{settingsOf}
-use Rattle.request.specs.Grammar.{readLine, asked}
-use Rattle.knitpasture.specs.Bytes.{numbersFrom, ByteOutcome, hubServed, hubFresh}
-use Rattle.guarantee.specs.Calls.{Lent, Call, held, answersNumber}
+use Rattle.settings.specs.Bytes.{settingsOf, settingsBytes}
+use Rattle.request.specs.Grammar.{Said, readLine, asked}
+use Rattle.outcome.specs.Outcome.{Outcome, accepted}
+use Rattle.knitpasture.specs.Bytes.{numbersFrom, numbersBytes, ByteOutcome, byteOutcome, hubServed, FreshOutcome, freshOutcome, hubFresh}
+use Rattle.guarantee.specs.Calls.{Lent, Call, held, freshLent, leaves, answersNumber}
+use Rattle.guarantee.specs.Promise.{conditions}
 
 -- The bucket as bytes: settings, rows and keys.
 pub record Bytes : Type 0 where
@@ -20,38 +26,92 @@ pub record Bytes : Type 0 where
 
 -- What the bytes spell.
 abbrev pub lentOf : Bytes → Lent
-lentOf s = record { settings = settingsOf (s .settings); numbers = numbersFrom (length (s .rows) / 8) (s .rows); keys = s .keys }
+lentOf b = record { settings = settingsOf (b .settings); numbers = numbersFrom (length (b .rows) / 8) (b .rows); keys = b .keys }
+
+-- The bytes have the lengths of c rows.
+pub record Sized (c : ℕ) (b : Bytes) : Type 0 where
+  pub some : 1 ≤ c
+  pub most : c ≤ 1024
+  pub settings-long : length (b .settings) ≡ 688
+  pub rows-long : length (b .rows) ≡ 64 * c
+  pub keys-long : length (b .keys) ≡ 64 * c
+
+-- ## A call
 
 -- What `knitpasture_serve` returns and leaves.
 abbrev pub servedBytes : Bytes → Call → ByteOutcome
-servedBytes s l = hubServed (s .settings) (s .rows) (s .keys) (l .line) (l .answer)
+servedBytes b l = hubServed (b .settings) (b .rows) (b .keys) (l .line) (l .answer)
 
 abbrev pub leavesBytes : ByteOutcome → Bytes
 leavesBytes o = record { settings = o .settings; rows = o .rows; keys = o .keys }
 
+-- A refusal with this number leaves every byte as it was.
+abbrev pub UnchangedBytes : Bytes → Call → ℕ → Type 0
+UnchangedBytes b l n = servedBytes b l ≡ byteOutcome n (b .settings) (b .rows) (b .keys) (l .answer)
+
+-- The bytes of what an accepted line leaves.
+abbrev pub outcomeInBytes : Outcome → ByteOutcome
+outcomeInBytes o = byteOutcome 0 (settingsBytes (o .settings)) (numbersBytes (o .numbers)) (o .keys) (o .answer)
+
+-- An accepted line was read, and does what the definitions say of its request on what the bytes spell; the bytes that it leaves have the same lengths, and spell what it left.
+pub record AcceptedBytes (c : ℕ) (b : Bytes) (l : Call) : Type 0 where
+  pub said : Said
+  pub reads : readLine (l .line) ≡ some said
+  pub outcome : Outcome
+  pub outcome-is : outcome ≡ accepted (lentOf b .settings) (lentOf b .numbers) (lentOf b .keys) (asked (length (l .answer)) said) (l .answer)
+  pub does : servedBytes b l ≡ outcomeInBytes outcome
+  pub sized : Sized c (leavesBytes (servedBytes b l))
+  pub spells : lentOf (leavesBytes (servedBytes b l)) ≡ leaves outcome
+
+-- Demand 1, with bytes of any contents and lengths.
+pub record Demand1Bytes (b : Bytes) (l : Call) : Type 0 where
+  pub numbered : (servedBytes b l) .number ≤ 12
+  pub writes-nothing : ((servedBytes b l) .number ≡ 0 → ⊥) → UnchangedBytes b l ((servedBytes b l) .number)
+
+-- Demand 2, with bytes of the lengths of c rows: as on what they spell.
+pub record Demand2Bytes (c : ℕ) (b : Bytes) (l : Call) : Type 0 where
+  pub refused-first : (n : ℕ) → (servedBytes b l) .number ≡ n → (n ≡ 0 → ⊥) → FirstHolds (conditions (lentOf b) l) n
+  pub first-refused : (n : ℕ) → FirstHolds (conditions (lentOf b) l) n → (servedBytes b l) .number ≡ n
+  pub accepts : all (λ x. not (x .holds)) (conditions (lentOf b) l) ≡ true → AcceptedBytes c b l
+
+-- With any other lengths a call meets 1.
+abbrev pub WrongLengths : Bytes → Call → Type 0
+WrongLengths b l = ((c : ℕ) → Sized c b → ⊥) → UnchangedBytes b l 1
+
+-- ## A fresh bucket
+
+-- What `knitpasture_fresh` returns and leaves, of bytes of any contents.
+abbrev pub madeFresh : Bytes → FreshOutcome
+madeFresh b = hubFresh (b .settings) (b .rows) (b .keys)
+
+abbrev pub freshBytes : Bytes → Bytes
+freshBytes b = record { settings = (madeFresh b) .settings; rows = (madeFresh b) .rows; keys = (madeFresh b) .keys }
+
+-- With bytes of the lengths of c rows it leaves a fresh bucket of capacity c; with any other lengths it returns 1 and every byte stays.
+pub record FreshMade (b : Bytes) : Type 0 where
+  pub returns-0 : (c : ℕ) → Sized c b → (madeFresh b) .number ≡ 0
+  pub sized : (c : ℕ) → Sized c b → Sized c (freshBytes b)
+  pub spells : (c : ℕ) → Sized c b → lentOf (freshBytes b) ≡ freshLent c
+  pub refuses : ((c : ℕ) → Sized c b → ⊥) → madeFresh b ≡ freshOutcome 1 (b .settings) (b .rows) (b .keys)
+
+-- ## A list of calls
+
 -- What a list of calls leaves.
 abbrev pub leftBytes : Bytes → List Call → Bytes
-leftBytes s [] = s
-leftBytes s (l ∷ ls) = leftBytes (leavesBytes (servedBytes s l)) ls
+leftBytes b [] = b
+leftBytes b (l ∷ ls) = leftBytes (leavesBytes (servedBytes b l)) ls
 
 -- An accepted call: the bucket before it, what its line reads as, and the number in its answer buffer.
 abbrev pub byteEvent : Bytes → Call → List Event
-byteEvent s l =
+byteEvent b l =
     thenSome (readLine (l .line)) [] (λ q.
-    record { before = held (lentOf s); request = asked (length (l .answer)) q; answered = answersNumber (q .verb) ((servedBytes s l) .answer) } ∷ [])
+    record { before = held (lentOf b); request = asked (length (l .answer)) q; answered = answersNumber (q .verb) ((servedBytes b l) .answer) } ∷ [])
 
 -- The accepted lines of a list of calls, in order: those that return 0.
 abbrev pub byteEvents : Bytes → List Call → List Event
-byteEvents s [] = []
-byteEvents s (l ∷ ls) = pick (eqb ((servedBytes s l) .number) 0) (byteEvent s l) [] ++ byteEvents (leavesBytes (servedBytes s l)) ls
+byteEvents b [] = []
+byteEvents b (l ∷ ls) = pick (eqb ((servedBytes b l) .number) 0) (byteEvent b l) [] ++ byteEvents (leavesBytes (servedBytes b l)) ls
 
--- What `knitpasture_fresh` makes of bytes of any contents.
-abbrev pub freshBytes : List ℕ → List ℕ → List ℕ → Bytes
-freshBytes settings rows keys =
-    record { settings = (hubFresh settings rows keys) .settings; rows = (hubFresh settings rows keys) .rows; keys = (hubFresh settings rows keys) .keys }
-
--- Demand 3 of the C entries: any bytes of the lengths of some c, made fresh by `knitpasture_fresh`, and any list of calls of `knitpasture_serve`.
+-- Demand 3: any bytes of the lengths of some c, made fresh by `knitpasture_fresh`, and any list of calls of `knitpasture_serve`.
 abbrev pub Demand3Bytes : Type 0
-Demand3Bytes =
-    (c : ℕ) → 1 ≤ c → c ≤ 1024 → (settings rows keys : List ℕ) → length settings ≡ 688 → length rows ≡ 64 * c → length keys ≡ 64 * c → (ls : List Call)
-    → Kept (held (lentOf (leftBytes (freshBytes settings rows keys) ls))) (byteEvents (freshBytes settings rows keys) ls)
+Demand3Bytes = (c : ℕ) (b : Bytes) → Sized c b → (ls : List Call) → Kept (held (lentOf (leftBytes (freshBytes b) ls))) (byteEvents (freshBytes b) ls)

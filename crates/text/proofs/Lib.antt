@@ -7,3 +7,4 @@ pub mod Lines
 pub mod Reading
 pub mod Printing
 pub mod RoundTrip
+pub mod Joined

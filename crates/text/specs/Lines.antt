@@ -2,6 +2,7 @@
 use Prim.Native.Nat.{ℕ, suc}
 use mathlib.Core.List.{List, [], _∷_}
 use lib.Dec.{eqb}
+use lib.ListN.{take}
 use Rattle.buffers.specs.Choices.{pick}
 use Rattle.text.specs.Fields.{onFirst}
 
@@ -14,3 +15,7 @@ linesOf (b ∷ s) = pick (eqb b 10) ([] ∷ linesOf s) (onFirst b (linesOf s))
 abbrev pub feedAt : List ℕ → ℕ
 feedAt [] = 0
 feedAt (b ∷ s) = pick (eqb b 10) 0 (suc (feedAt s))
+
+-- the bytes before the first line feed
+abbrev pub firstLine : List ℕ → List ℕ
+firstLine s = take (feedAt s) s
