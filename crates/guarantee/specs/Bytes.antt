@@ -8,7 +8,7 @@ use lib.Dec.{eqb}
 use lib.ListN.{length}
 use Rattle.buffers.specs.Choices.{pick, thenSome}
 use Rattle.buffers.specs.Lists.{all}
-use Rattle.model.specs.Refusals.{FirstHolds}
+use Rattle.model.specs.Refusals.{FirstHolds, lastRefusal}
 use Rattle.model.specs.Run.{Event}
 use Rattle.model.specs.LockClause.{Kept}
 use Rattle.settings.specs.Bytes.{settingsOf, settingsBytes}
@@ -65,7 +65,7 @@ pub record AcceptedBytes (c : ℕ) (b : Bytes) (l : Call) : Type 0 where
 
 -- Demand 1, with bytes of any contents and lengths.
 pub record Demand1Bytes (b : Bytes) (l : Call) : Type 0 where
-  pub numbered : (servedBytes b l) .number ≤ 12
+  pub numbered : (servedBytes b l) .number ≤ lastRefusal
   pub writes-nothing : ((servedBytes b l) .number ≡ 0 → ⊥) → UnchangedBytes b l ((servedBytes b l) .number)
 
 -- Demand 2, with bytes of the lengths of c rows: as on what they spell.

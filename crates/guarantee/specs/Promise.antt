@@ -12,7 +12,7 @@ use Rattle.dates.specs.Reading.{readDate}
 use Rattle.model.specs.Rows.{Row}
 use Rattle.model.specs.Requests.{Name, Get, Ask}
 use Rattle.model.specs.Effects.{rowOf}
-use Rattle.model.specs.Refusals.{Check, FirstHolds, checks}
+use Rattle.model.specs.Refusals.{Check, FirstHolds, lastRefusal, checks}
 use Rattle.model.specs.LockClause.{Kept}
 use Rattle.table.specs.Layout.{capacity}
 use Rattle.bucket.specs.Whole.{whole}
@@ -40,7 +40,7 @@ pub record Accepted (hub : Hub) (s : Lent) (l : Call) : Type 0 where
 
 -- Demand 1: with table, settings and answer buffer of arbitrary contents and lengths, a line is accepted or refused with a number of 01; a refusal writes nothing.
 pub record Demand1 (hub : Hub) (s : Lent) (l : Call) : Type 0 where
-  pub numbered : (hub s l) .number ≤ 12
+  pub numbered : (hub s l) .number ≤ lastRefusal
   pub writes-nothing : ((hub s l) .number ≡ 0 → ⊥) → Unchanged hub s l ((hub s l) .number)
 
 -- Demand 2: a refusal comes where its condition is the first in order to hold, and nowhere else; where none holds, the line is accepted.

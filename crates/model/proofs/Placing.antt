@@ -19,7 +19,7 @@ use Rattle.model.specs.Effects.{rowOf, isNamed, setRetention, setHold, h
 use Rattle.model.specs.Refusals.{missing, namesMarker}
 use Rattle.model.specs.Answers.{reply}
 use Rattle.model.specs.Run.{Event}
-use Rattle.model.specs.LockClause.{answers, makes, gives, putsBy, isOn, holdsBy, makingOf, Held, OnHold}
+use Rattle.model.specs.LockClause.{answers, makes, gives, putsUnder, isOn, putsOnHold, makingOf, Held, OnHold}
 use Rattle.model.proofs.Versions.{change-version, found-named}
 use Rattle.model.proofs.Accepted.{Accepted}
 use Rattle.model.proofs.Invariant.{Invariant, asked, eventOf, with, Found, find, made-before, put-held, copy-held}
@@ -78,7 +78,7 @@ makes-and : (es : List Event) (v : ℕ) (e : Event) (t : Bool) → (makes es v e
 makes-and es v e t h = (and-l (answers v e) _ (and-l (makes es v e) _ h), and-r (makes es v e) _ h)
 
 -- The line that puts the version under a mode until d.
-pub puts-held : (c : ℕ) (b : Bucket) (es : List Event) (g : Context) (w : Verb) → Accepted c b g (nowOf b g) w → Invariant b es → (mode d v : ℕ) → 0 < mode → putsBy es mode d v (eventOf b g w) w ≡ true → Held (after b (asked g w)) (with es b g w) v (Under mode d)
+pub puts-held : (c : ℕ) (b : Bucket) (es : List Event) (g : Context) (w : Verb) → Accepted c b g (nowOf b g) w → Invariant b es → (mode d v : ℕ) → 0 < mode → putsUnder es mode d v (eventOf b g w) ≡ true → Held (after b (asked g w)) (with es b g w) v (Under mode d)
 unfolding reply
 puts-held c b es g (Put k body size t) p i mode d v l e =
     let m = makes-and es v (eventOf b g (Put k body size t)) (gives mode d (eventOf b g (Put k body size t)) (t .retention)) e in
@@ -104,7 +104,7 @@ on-is none e = absurd (false≢true e)
 on-is (some on) e = rw e
 
 -- The line that puts the version on hold.
-pub holds-held : (c : ℕ) (b : Bucket) (es : List Event) (g : Context) (w : Verb) → Accepted c b g (nowOf b g) w → Invariant b es → (v : ℕ) → holdsBy es v (eventOf b g w) w ≡ true → Held (after b (asked g w)) (with es b g w) v OnHold
+pub holds-held : (c : ℕ) (b : Bucket) (es : List Event) (g : Context) (w : Verb) → Accepted c b g (nowOf b g) w → Invariant b es → (v : ℕ) → putsOnHold es v (eventOf b g w) ≡ true → Held (after b (asked g w)) (with es b g w) v OnHold
 unfolding reply
 holds-held c b es g (Put k body size t) p i v e =
     let m = makes-and es v (eventOf b g (Put k body size t)) (isOn (t .hold)) e in

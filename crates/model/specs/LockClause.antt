@@ -10,7 +10,7 @@ use Rattle.buffers.specs.Choices.{pick, thenSome, isSome}
 use Rattle.buffers.specs.Lists.{keep, all}
 use Rattle.model.specs.Rows.{Row, governance, compliance}
 use Rattle.model.specs.Settings.{Bucket, fresh}
-use Rattle.model.specs.Requests.{Retention, Verb, Put, Copy, Retain, Hold, AddMarker, DeleteVersion, Set, Sweep, Ask, Line, isThe, bypassOf}
+use Rattle.model.specs.Requests.{Retention, Verb, Put, Copy, Retain, Hold, AddMarker, DeleteVersion, Set, Sweep, Ask, Line, isThe, termsOf, bypassOf}
 use Rattle.model.specs.Time.{nowOf, defaultEnd}
 use Rattle.model.specs.Effects.{rowOf}
 use Rattle.model.specs.Refusals.{namedRow}
@@ -86,51 +86,51 @@ gives mode d e r =
     (isThe mode (r .mode) && isThe d (r .date))
     || (not (isSome (r .mode)) && (eqb (e .before .settings .config .default .mode) mode && eqb (defaultEnd (e .before .settings .config) (nowAt e)) d))
 
--- *Puts under a mode until D* (01).
-abbrev pub putsBy : List Event → ℕ → ℕ → ℕ → Event → Verb → Bool
-putsBy early mode d v e (Put k body size t) = makes early v e && gives mode d e (t .retention)
-putsBy early mode d v e (Copy n k t) = makes early v e && gives mode d e (t .retention)
-putsBy early mode d v e (Retain n r y) = names v e && (isThe mode (r .mode) && isThe d (r .date))
-putsBy early mode d v e (Hold n on) = false
-putsBy early mode d v e (AddMarker k y) = false
-putsBy early mode d v e (DeleteVersion k u y) = false
-putsBy early mode d v e (Set s) = false
-putsBy early mode d v e Sweep = false
-putsBy early mode d v e (Ask q) = false
+-- RETAIN's mode and date.
+abbrev pub retainFields : Verb → Option Retention
+retainFields (Put k body size t) = none
+retainFields (Copy n k t) = none
+retainFields (Retain n r y) = some r
+retainFields (Hold n on) = none
+retainFields (AddMarker k y) = none
+retainFields (DeleteVersion k v y) = none
+retainFields (Set s) = none
+retainFields Sweep = none
+retainFields (Ask q) = none
 
+-- *Puts under a mode until D* (01): the line that makes it, or a RETAIN naming it with that mode and D.
 abbrev pub putsUnder : List Event → ℕ → ℕ → ℕ → Event → Bool
-putsUnder early mode d v e = putsBy early mode d v e (e .request .verb)
+putsUnder early mode d v e =
+    thenSome (termsOf (e .request .verb))
+    (thenSome (retainFields (e .request .verb)) false (λ r. names v e && (isThe mode (r .mode) && isThe d (r .date))))
+    (λ t. makes early v e && gives mode d e (t .retention))
 
 abbrev pub isOn : Option Bool → Bool
 isOn none = false
 isOn (some on) = on
 
--- *Puts on hold* (01): a HOLD ON naming it, or the line that makes it with hold ON.
-abbrev pub holdsBy : List Event → ℕ → Event → Verb → Bool
-holdsBy early v e (Put k body size t) = makes early v e && isOn (t .hold)
-holdsBy early v e (Copy n k t) = makes early v e && isOn (t .hold)
-holdsBy early v e (Retain n r y) = false
-holdsBy early v e (Hold n on) = names v e && on
-holdsBy early v e (AddMarker k y) = false
-holdsBy early v e (DeleteVersion k u y) = false
-holdsBy early v e (Set s) = false
-holdsBy early v e Sweep = false
-holdsBy early v e (Ask q) = false
+-- HOLD's ON (true) or OFF (false).
+abbrev pub holdField : Verb → Option Bool
+holdField (Put k body size t) = none
+holdField (Copy n k t) = none
+holdField (Retain n r y) = none
+holdField (Hold n on) = some on
+holdField (AddMarker k y) = none
+holdField (DeleteVersion k v y) = none
+holdField (Set s) = none
+holdField Sweep = none
+holdField (Ask q) = none
 
+-- *Puts on hold* (01): the line that makes it with hold ON, or a HOLD ON naming it.
 abbrev pub putsOnHold : List Event → ℕ → Event → Bool
-putsOnHold early v e = holdsBy early v e (e .request .verb)
+putsOnHold early v e =
+    thenSome (termsOf (e .request .verb))
+    (thenSome (holdField (e .request .verb)) false (λ on. names v e && on))
+    (λ t. makes early v e && isOn (t .hold))
 
 -- A HOLD OFF.
 abbrev pub holdOff : Verb → Bool
-holdOff (Put k body size t) = false
-holdOff (Copy n k t) = false
-holdOff (Retain n r y) = false
-holdOff (Hold n on) = not on
-holdOff (AddMarker k y) = false
-holdOff (DeleteVersion k v y) = false
-holdOff (Set s) = false
-holdOff Sweep = false
-holdOff (Ask q) = false
+holdOff w = thenSome (holdField w) false not
 
 -- A HOLD OFF naming the version.
 abbrev pub takesOffHold : ℕ → Event → Bool

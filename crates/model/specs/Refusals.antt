@@ -189,7 +189,11 @@ requestChecks c b (unreadable room) = check 3 true ∷ []
 requestChecks c b (reads q) =
     check 3 (outOfRange (q .context) (q .verb)) ∷ fieldChecks b q ++ tableChecks c b (nowOf b (q .context)) (q .verb)
 
--- The twelve conditions in 01's order; whether the whole is sound is told apart, since buffers hold more than the bucket.
+-- The last refusal's number.
+abbrev pub lastRefusal : ℕ
+lastRefusal = 12
+
+-- The conditions in 01's order; whether the whole is sound is told apart, since buffers hold more than the bucket.
 abbrev pub checks : Bool → ℕ → Bucket → Line → List Check
 checks whole c b l = check 1 (not whole) ∷ check 2 (ltb (roomOf l) 256) ∷ requestChecks c b l
 

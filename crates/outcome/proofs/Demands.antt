@@ -11,7 +11,7 @@ use lib.ListN.{length}
 use borrow.Author.Tests.{eqb-true, eqb-false, ne-eqb}
 use Rattle.buffers.proofs.Tests.{either}
 use Rattle.model.specs.Requests.{unreadable, reads}
-use Rattle.model.specs.Refusals.{Check, FirstHolds, checks}
+use Rattle.model.specs.Refusals.{Check, FirstHolds, lastRefusal, checks}
 use Rattle.model.proofs.Facts.{first-most, first-holds}
 use Rattle.settings.specs.declared.Settings.{Settings}
 use Rattle.table.specs.Layout.{capacity}
@@ -24,14 +24,14 @@ module _ (s : Settings) (numbers keys line answer : List ℕ) where
   abbrev pub conditions : List Check
   conditions = checks (whole s numbers keys) (capacity keys) (bucketOf s numbers keys) (lineOf (length answer) line)
 
-  -- Demand 1: the number is 0 to 12.
-  pub refusal-range : refusalOf s numbers keys line answer ≤ 12
+  -- Demand 1: the number is 0 or a refusal's.
+  pub refusal-range : refusalOf s numbers keys line answer ≤ lastRefusal
   unfolding refusalOf
   refusal-range = go (readLine line) refl
     where
-      go : (o : Option Said) → readLine line ≡ o → refusalOf s numbers keys line answer ≤ 12
-      go none e = rw e (first-most 12 (checks (whole s numbers keys) (capacity keys) (bucketOf s numbers keys) (unreadable (length answer))) refl)
-      go (some q) e = rw e (first-most 12 (checks (whole s numbers keys) (capacity keys) (bucketOf s numbers keys) (reads (asked (length answer) q))) refl)
+      go : (o : Option Said) → readLine line ≡ o → refusalOf s numbers keys line answer ≤ lastRefusal
+      go none e = rw e (first-most lastRefusal (checks (whole s numbers keys) (capacity keys) (bucketOf s numbers keys) (unreadable (length answer))) refl)
+      go (some q) e = rw e (first-most lastRefusal (checks (whole s numbers keys) (capacity keys) (bucketOf s numbers keys) (reads (asked (length answer) q))) refl)
 
   -- Demand 2: a refusal comes where its condition is the first in order to hold.
   pub refusal-first : (n : ℕ) → refusalOf s numbers keys line answer ≡ n → (n ≡ 0 → ⊥) → FirstHolds conditions n
