@@ -1,32 +1,30 @@
 -- Calls over bytes are calls on what the bytes spell: the demands of the C entries.
 use Prim.Native.Nat.{ℕ, zero, suc, _*_, _/_, _%_, _≤_}
-use mathlib.Core.Path.{_≡_, refl, sym, _∙_, ap, ap₂, subst⁻¹}
+use mathlib.Core.Path.{_≡_, refl, sym, _∙_, ap, subst⁻¹}
 use mathlib.Core.Logic.{inl, inr}
 use mathlib.Core.Bool.{true, false}
-use mathlib.Core.List.{List, [], _∷_, _++_}
-use mathlib.Core.Option.{Option, some, none}
+use mathlib.Core.List.{List, map-id}
 use native.Mathlib.Omega.{arith}
 use lib.Dec.{eqb, ltb}
 use lib.ListN.{length, length-replicate}
 use borrow.Author.Tests.{eqb-true, eqb-false, eq-eqb, ltb-false}
-use Rattle.buffers.specs.Choices.{pick}
 use Rattle.buffers.proofs.Tests.{either}
-use Rattle.model.specs.Run.{Event}
+use Rattle.model.specs.Run.{Event, left}
+use Rattle.model.proofs.Runs.{left-as, gathered-as}
 use Rattle.model.specs.LockClause.{Kept}
 use Rattle.settings.specs.Bytes.{settingsOf}
 use Rattle.settings.proofs.RoundTrip.{settings-length}
 use Rattle.table.specs.Layout.{capacity}
 use Rattle.bucket.specs.Whole.{whole}
 use Rattle.bucket.proofs.Whole.{whole-parts}
-use Rattle.request.specs.Grammar.{Said, readLine, asked}
 use Rattle.outcome.specs.Outcome.{Outcome, refused, refusalOf}
 use Rattle.outcome.proofs.Demands.{accepted-of-whole}
 use Rattle.knitpasture.specs.Bytes.{numbersFrom, ByteOutcome, byteOutcome, outcomeBytes, hubServed, FreshOutcome, freshOutcome, freshSettings, hubFresh}
 use Rattle.knitpasture.proofs.Hub.{reads-as, hub-hands-on, hub-range, hub-refused}
 use Rattle.knitpasture.proofs.Fits.{whole-fits}
 use Rattle.knitpasture.proofs.FreshBucket.{fresh-made, reads-fresh}
-use Rattle.guarantee.specs.Calls.{Lent, Call, held, freshLent, served, leaves, isAccepted, left, callEvent, callEvents, answersNumber}
-use Rattle.guarantee.specs.Bytes.{Bytes, lentOf, Sized, servedBytes, leavesBytes, UnchangedBytes, AcceptedBytes, Demand1Bytes, Demand2Bytes, WrongLengths, madeFresh, freshBytes, FreshMade, leftBytes, byteEvent, byteEvents, Demand3Bytes}
+use Rattle.guarantee.specs.Calls.{Lent, Call, held, freshLent, served, leaves, step, callEvent, callEvents}
+use Rattle.guarantee.specs.Bytes.{Bytes, lentOf, Sized, servedBytes, leavesBytes, UnchangedBytes, AcceptedBytes, Demand1Bytes, Demand2Bytes, WrongLengths, madeFresh, freshBytes, FreshMade, byteStep, byteEvent, byteEvents, Demand3Bytes}
 use Rattle.guarantee.proofs.Demands.{demand-1, demand-2, number-is}
 use Rattle.guarantee.proofs.Runs.{Whole, whole-after}
 use Rattle.guarantee.proofs.LockClause.{demand-3}
@@ -85,12 +83,9 @@ module _ (c : ℕ) (b : Bytes) (l : Call) (z : Sized c b) where
     | inr t ↦ spells-refused (eqb-false ((served (lentOf b) l) .number) 0 t)
   ]
 
-  same-event : eqb ((served (lentOf b) l) .number) 0 ≡ true → byteEvent b l ≡ callEvent (lentOf b) l
-  same-event t = rw (same-answer t)
-
-  pub same-events : pick (eqb ((servedBytes b l) .number) 0) (byteEvent b l) [] ≡ pick (isAccepted (lentOf b) l) (callEvent (lentOf b) l) []
-  same-events = elim (either (eqb ((served (lentOf b) l) .number) 0)) [
-    | inl t ↦ rw (same-number, t) (same-event t)
+  pub same-event : byteEvent b l ≡ callEvent (lentOf b) l
+  same-event = elim (either (eqb ((served (lentOf b) l) .number) 0)) [
+    | inl t ↦ rw (same-number, t) (rw (same-answer t))
     | inr t ↦ rw (same-number, t)
   ]
 
@@ -226,19 +221,18 @@ fresh-is-made b =
 
 -- ## A list of calls: demand 3 of the C entries
 
-spelled-left : (c : ℕ) (b : Bytes) (s : Lent) (ls : List Call) → Sized c b → lentOf b ≡ s → lentOf (leftBytes b ls) ≡ left s ls
-spelled-left c b s [] z e = e
-spelled-left c b s (l ∷ ls) z e =
-    let a = spells-after c b l z in
-    spelled-left c (leavesBytes (servedBytes b l)) (leaves (served s l)) ls (a .sized) (a .is ∙ ap (λ (x : Lent). leaves (served x l)) e)
+module _ (c : ℕ) (b : Bytes) (ls : List Call) (z : Sized c b) where
+  sized-after : (b : Bytes) (l : Call) → Sized c b → Sized c (byteStep b l)
+  sized-after b l z = (spells-after c b l z) .sized
 
-spelled-events : (c : ℕ) (b : Bytes) (s : Lent) (ls : List Call) → Sized c b → lentOf b ≡ s → byteEvents b ls ≡ callEvents s ls
-spelled-events c b s [] z e = refl
-spelled-events c b s (l ∷ ls) z e =
-    let a = spells-after c b l z in
-    ap₂ (λ (x y : List Event). x ++ y)
-    (same-events c b l z ∙ ap (λ (x : Lent). pick (isAccepted x l) (callEvent x l) []) e)
-    (spelled-events c (leavesBytes (servedBytes b l)) (leaves (served s l)) ls (a .sized) (a .is ∙ ap (λ (x : Lent). leaves (served x l)) e))
+  spelled-after : (b : Bytes) (l : Call) → Sized c b → lentOf (byteStep b l) ≡ step (lentOf b) l
+  spelled-after b l z = (spells-after c b l z) .is
+
+  spelled-left : lentOf (left byteStep b ls) ≡ left step (lentOf b) ls
+  spelled-left = left-as byteStep step lentOf (λ l. l) (Sized c) sized-after spelled-after b ls z ∙ ap (left step (lentOf b)) (map-id ls)
+
+  spelled-events : byteEvents b ls ≡ callEvents (lentOf b) ls
+  spelled-events = gathered-as byteStep step lentOf (λ l. l) (Sized c) sized-after spelled-after byteEvent callEvent (same-event c) b ls z ∙ ap (callEvents (lentOf b)) (map-id ls)
 
 kept-as : {s t : Lent} {es fs : List Event} → t ≡ s → fs ≡ es → Kept (held s) es → Kept (held t) fs
 kept-as {s} {t} {es} {fs} p q k = subst⁻¹ (λ (x : Lent). Kept (held x) fs) p (subst⁻¹ (λ (x : List Event). Kept (held s) x) q k)
@@ -247,4 +241,4 @@ pub demand-3-bytes : Demand3Bytes
 demand-3-bytes c b z ls =
     let f = fresh-sized c b z in
     let e = fresh-spells c b z in
-    kept-as (spelled-left c (freshBytes b) (freshLent c) ls f e) (spelled-events c (freshBytes b) (freshLent c) ls f e) (demand-3 c (z .some) (z .most) ls)
+    kept-as (spelled-left c (freshBytes b) ls f ∙ ap (λ (s : Lent). left step s ls) e) (spelled-events c (freshBytes b) ls f ∙ ap (λ (s : Lent). callEvents s ls) e) (demand-3 c (z .some) (z .most) ls)

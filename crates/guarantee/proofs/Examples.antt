@@ -21,6 +21,7 @@ use Rattle.dates.specs.Reading.{digitOf, twoDigits, fourDigits, dayNumber, dayA
 use Rattle.model.proofs.Examples as model
 use Rattle.model.proofs.Examples.{Starred as Locks}
 use Rattle.model.specs.Answers.{done, reply}
+use Rattle.model.specs.Run.{left, gathered}
 use Rattle.model.specs.LockClause.{Held, InCompliance}
 use Rattle.model.specs.Effects.{added, removed, rowsAfter, setConfig, configAfter}
 use Rattle.model.specs.Locks.{locked, admits}
@@ -39,10 +40,10 @@ use Rattle.answers.specs.Text.{fieldsText, okText, modeText, untilText, holdTex
 use Rattle.outcome.specs.Outcome.{Outcome, written, refusalOf, outcome}
 use Rattle.outcome.specs.Printed.{printed}
 use Rattle.knitpasture.specs.Bytes.{numbersFrom, numbersBytes, hubServed, hubFresh}
-use Rattle.guarantee.specs.Calls.{Lent, Call, held, freshLent, served, leaves, left}
-use Rattle.guarantee.specs.Lists.{call}
+use Rattle.guarantee.specs.Calls.{Lent, Call, held, freshLent, served, step}
+use Rattle.guarantee.specs.Lists.{ended, call, lineStep}
 use Rattle.guarantee.specs.Promise.{Hub, Demand1, Demand2}
-use Rattle.guarantee.specs.Bytes.{Bytes, lentOf, servedBytes, freshBytes, leftBytes, byteEvents}
+use Rattle.guarantee.specs.Bytes.{Bytes, lentOf, servedBytes, freshBytes, byteStep, byteEvents}
 use Rattle.guarantee.proofs.Demands.{only-hub}
 use Rattle.guarantee.proofs.Bytes.{demand-3-bytes}
 
@@ -70,12 +71,10 @@ pub record Starred : Type 0 where
 
 -- ## 01's printed run
 
--- What is printed of each call, which is handed what the one before it left.
-abbrev printedRun : Lent → List ℕ → List (List ℕ) → List ℕ
-printedRun s answer [] = []
-printedRun s answer (l ∷ ls) =
-    let o = served s (call l answer) in
-    printed (o .number) (take (o .len) (o .answer)) ++ printedRun (leaves o) (o .answer) ls
+-- What is printed of a text's lines on a fresh bucket of this capacity, with an answer buffer of this length.
+abbrev printedRun : ℕ → ℕ → List ℕ → List ℕ
+printedRun c room text =
+    gathered lineStep (λ e l. let o = served (e .bucket) (call l (e .answer)) in printed (o .number) (take (o .len) (o .answer))) (ended (freshLent c) (replicate room 0)) (linesOf text)
 
 abbrev text : List ℕ
 text =
@@ -107,7 +106,7 @@ abbrev get : Call
 get = asks (bytes "2026-01-06T09:00:00Z\tr\tGET\tq/7\t-")
 
 abbrev withLocked : Lent
-withLocked = left (freshLent 1) (lockedPut ∷ [])
+withLocked = step (freshLent 1) lockedPut
 
 -- ## 01, point c: a hub that serves the first line and merely acknowledges later ones
 
@@ -140,11 +139,11 @@ calls = lockedPut ∷ asks (bytes "2033-01-05T00:00:00.006Z\tdb\tDELETE\tq/7\t1\
 pub record Examples : Type 0 where
   pub starred : Starred
   -- The run on the sizes of `bucketrun`.
-  pub printed-run : printedRun (freshLent 1024) (replicate 65536 0) (linesOf text) ≡ output
+  pub printed-run : printedRun 1024 65536 text ≡ output
   pub date-printed : fieldOf (firstLine ((served withLocked get) .answer)) 5 ≡ bytes "2033-01-05T00:00:00.007Z"
   pub date-read : readDate (fieldOf (firstLine ((served withLocked get) .answer)) 5) ≡ some 1988496000007
-  pub refused-9 : (servedBytes (leftBytes (freshBytes oneRow) (take 1 calls)) (asks (bytes "2033-01-05T00:00:00.006Z\tdb\tDELETE\tq/7\t1\tyes"))) .number ≡ 9
-  pub held-in-bytes : Held (held (lentOf (leftBytes (freshBytes oneRow) calls))) (byteEvents (freshBytes oneRow) calls) 1 (InCompliance 1988496000007)
+  pub refused-9 : (servedBytes (byteStep (freshBytes oneRow) lockedPut) (asks (bytes "2033-01-05T00:00:00.006Z\tdb\tDELETE\tq/7\t1\tyes"))) .number ≡ 9
+  pub held-in-bytes : Held (held (lentOf (left byteStep (freshBytes oneRow) calls))) (byteEvents (freshBytes oneRow) calls) 1 (InCompliance 1988496000007)
   pub no-first-line-only : Demand1 (firstLineOnly (lockedPut ∷ [])) withLocked hold → Demand2 (firstLineOnly (lockedPut ∷ [])) withLocked hold → ⊥
 
 pub examples : Examples

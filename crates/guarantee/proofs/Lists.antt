@@ -3,13 +3,14 @@ use Prim.Native.Nat.{ℕ, _≤_}
 use mathlib.Core.Path.{_≡_, refl}
 use mathlib.Core.List.{List, [], _∷_}
 use Rattle.text.specs.Lines.{linesOf}
+use Rattle.model.specs.Run.{left}
 use Rattle.model.specs.LockClause.{Kept}
-use Rattle.guarantee.specs.Calls.{Lent, held, freshLent, served, leaves, left, callEvents}
+use Rattle.guarantee.specs.Calls.{Lent, held, freshLent, served, leaves, step, callEvents}
 use Rattle.guarantee.specs.Lists.{call, servedLines, callsOf}
 use Rattle.guarantee.proofs.LockClause.{demand-3}
 
 -- A list of lines leaves what their calls leave.
-pub lines-left : (s : Lent) (answer : List ℕ) (ls : List (List ℕ)) → (servedLines s answer ls) .bucket ≡ left s (callsOf s answer ls)
+pub lines-left : (s : Lent) (answer : List ℕ) (ls : List (List ℕ)) → (servedLines s answer ls) .bucket ≡ left step s (callsOf s answer ls)
 lines-left s answer [] = refl
 lines-left s answer (l ∷ ls) = lines-left (leaves (served s (call l answer))) ((served s (call l answer)) .answer) ls
 

@@ -10,13 +10,14 @@ use Rattle.buffers.proofs.Tests.{either}
 use Rattle.text.specs.Keys.{isPrefix}
 use Rattle.blocks.specs.Blocks.{blockOf, isBlock}
 use Rattle.model.specs.Settings.{soundConfig, soundRules}
+use Rattle.model.specs.Run.{left}
 use Rattle.model.proofs.LockClause.{lock-clause}
 use Rattle.settings.specs.Meaning.{settingsSound}
 use Rattle.bucket.proofs.Whole.{fresh-whole}
-use Rattle.guarantee.specs.Calls.{Lent, Call, freshLent, served, leaves, isAccepted, left, acceptedCalls}
+use Rattle.guarantee.specs.Calls.{Lent, Call, freshLent, served, leaves, step, isAccepted, acceptedCalls}
 use Rattle.guarantee.specs.Promise.{Demand3}
 use Rattle.guarantee.proofs.Demands.{unchanged, number-is}
-use Rattle.guarantee.proofs.Runs.{Whole, linesIn, held-left, accepted-left}
+use Rattle.guarantee.proofs.Runs.{Whole, linesIn, held-left, events-left}
 
 -- ## Demand 3
 
@@ -32,12 +33,12 @@ pub demand-3 : Demand3
 unfolding blockOf
 demand-3 c some most ls =
     let w = fresh-is-whole c some most in
-    rw (held-left c (freshLent c) ls w, accepted-left c (freshLent c) ls w) (lock-clause c (linesIn ls))
+    rw (held-left c (freshLent c) ls w, events-left c (freshLent c) ls w) (lock-clause c (linesIn ls))
 
 -- ## The journal
 
 -- Running only the accepted calls of a list leaves what the whole list leaves.
-pub replay : (s : Lent) (ls : List Call) → left s (acceptedCalls s ls) ≡ left s ls
+pub replay : (s : Lent) (ls : List Call) → left step s (acceptedCalls s ls) ≡ left step s ls
 replay s [] = refl
 replay s (l ∷ ls) =
     elim (either (isAccepted s l)) [

@@ -1,27 +1,26 @@
 -- A list of calls on whole buffers is the model's run of their lines.
 use Prim.Native.Nat.{ℕ}
-use mathlib.Core.Path.{_≡_, refl, sym, _∙_, ap, ap₂, fun-ext}
+use mathlib.Core.Path.{_≡_, sym, _∙_, ap, fun-ext}
 use mathlib.Core.Logic.{inl, inr}
 use mathlib.Core.Bool.{Bool, true}
-use mathlib.Core.List.{List, [], _∷_, _++_}
+use mathlib.Core.List.{List, [], _∷_, map}
 use lib.Dec.{eqb}
 use lib.ListN.{length}
 use borrow.Author.Tests.{eqb-true, eqb-false, ne-eqb}
-use Rattle.buffers.specs.Choices.{pick}
 use Rattle.buffers.proofs.Tests.{either}
-use Rattle.model.specs.Settings.{Bucket}
 use Rattle.model.specs.Requests.{Line, reads}
 use Rattle.model.specs.Time.{nowOf}
 use Rattle.model.specs.Refusals.{refusal}
 use Rattle.model.specs.Answers.{answerTo, givesNumber}
 use Rattle.model.specs.Run as model
-use Rattle.model.specs.Run.{Event}
+use Rattle.model.specs.Run.{left}
+use Rattle.model.proofs.Runs.{left-as, gathered-as}
 use Rattle.table.specs.Layout.{capacity}
 use Rattle.bucket.specs.Whole.{whole}
 use Rattle.request.specs.Grammar.{lineOf, asked}
 use Rattle.outcome.specs.Outcome.{refusalOf}
 use Rattle.outcome.proofs.Kept.{model-refusal, accepted-bucket, accepted-capacity, outcome-whole}
-use Rattle.guarantee.specs.Calls.{Lent, Call, held, served, leaves, isAccepted, left, callEvent, callEvents, answersNumber}
+use Rattle.guarantee.specs.Calls.{Lent, Call, held, served, leaves, step, callEvent, callEvents, answersNumber}
 use Rattle.guarantee.specs.Promise.{Accepted}
 use Rattle.guarantee.proofs.Demands.{accepts, unchanged, number-is}
 use Rattle.guarantee.proofs.Answering.{answered-is}
@@ -36,8 +35,7 @@ abbrev pub lineIn : Call → Line
 lineIn l = lineOf (length (l .answer)) (l .line)
 
 abbrev pub linesIn : List Call → List Line
-linesIn [] = []
-linesIn (l ∷ ls) = lineIn l ∷ linesIn ls
+linesIn ls = map lineIn ls
 
 -- ## One call
 
@@ -73,26 +71,22 @@ module _ (c : ℕ) (s : Lent) (l : Call) (w : Whole c s) where
   whole-after = record { is-whole = outcome-whole (s .settings) (s .numbers) (s .keys) (l .line) (l .answer) (w .is-whole); size = size-after }
 
   -- An accepted call says what the model's accepted line says.
-  event-accepted : (a : Accepted served s l) → callEvent s l ≡ model.lineEvent (held s) (lineIn l)
-  event-accepted a =
+  event-accepted : (a : Accepted served s l) → number ≡ 0 → callEvent s l ≡ model.event (held s) (lineIn l)
+  event-accepted a z =
       let q = asked (length (l .answer)) (a .said) in
       let e : answersNumber (a .said .verb) ((served s l) .answer) ≡ (λ v. givesNumber v (answerTo (held s) q)) = rw (a .does) (fun-ext (λ v. answered-is (held s) (nowOf (held s) (q .context)) (q .verb) (l .answer) v)) in
-      rw (a .reads) (ap (λ (f : ℕ → Bool). record { before = held s; request = q; answered = f } ∷ []) e)
+      rw (number-is s l, z, a .reads) (ap (λ (f : ℕ → Bool). record { before = held s; request = q; answered = f } ∷ []) e)
 
-  pub events-after : pick (isAccepted s l) (callEvent s l) [] ≡ pick (eqb (refusal c (held s) (lineIn l)) 0) (model.lineEvent (held s) (lineIn l)) []
-  events-after = elim (either (eqb number 0)) [
-    | inl t ↦ rw (number-is s l, ← same-refusal, t) (event-accepted (accepts s l (eqb-true number 0 t)))
+  pub same-event : callEvent s l ≡ model.lineEvent c (held s) (lineIn l)
+  same-event = elim (either (eqb number 0)) [
+    | inl t ↦ event-accepted (accepts s l (eqb-true number 0 t)) (eqb-true number 0 t) ∙ sym (rw (← same-refusal, t))
     | inr t ↦ rw (number-is s l, ← same-refusal, t)
   ]
 
 -- ## A list of calls
 
-pub held-left : (c : ℕ) (s : Lent) (ls : List Call) → Whole c s → held (left s ls) ≡ model.run c (held s) (linesIn ls)
-held-left c s [] w = refl
-held-left c s (l ∷ ls) w = held-left c (leaves (served s l)) ls (whole-after c s l w) ∙ ap (λ (b : Bucket). model.run c b (linesIn ls)) (held-after c s l w)
+pub held-left : (c : ℕ) (s : Lent) (ls : List Call) → Whole c s → held (left step s ls) ≡ model.run c (held s) (linesIn ls)
+held-left c s ls w = left-as step (model.serve c) held lineIn (Whole c) (whole-after c) (held-after c) s ls w
 
-pub accepted-left : (c : ℕ) (s : Lent) (ls : List Call) → Whole c s → callEvents s ls ≡ model.lineEvents c (held s) (linesIn ls)
-accepted-left c s [] w = refl
-accepted-left c s (l ∷ ls) w =
-    ap₂ (λ (x y : List Event). x ++ y) (events-after c s l w)
-    (accepted-left c (leaves (served s l)) ls (whole-after c s l w) ∙ ap (λ (b : Bucket). model.lineEvents c b (linesIn ls)) (held-after c s l w))
+pub events-left : (c : ℕ) (s : Lent) (ls : List Call) → Whole c s → callEvents s ls ≡ model.lineEvents c (held s) (linesIn ls)
+events-left c s ls w = gathered-as step (model.serve c) held lineIn (Whole c) (whole-after c) (held-after c) callEvent (model.lineEvent c) (same-event c) s ls w

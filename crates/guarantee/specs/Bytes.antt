@@ -2,14 +2,14 @@
 use Prim.Native.Nat.{ℕ, _*_, _/_, _≤_}
 use mathlib.Core.Path.{_≡_}
 use mathlib.Core.Bool.{true, not}
-use mathlib.Core.List.{List, [], _∷_, _++_}
+use mathlib.Core.List.{List, [], _∷_}
 use mathlib.Core.Option.{some}
 use lib.Dec.{eqb}
 use lib.ListN.{length}
 use Rattle.buffers.specs.Choices.{pick, thenSome}
 use Rattle.buffers.specs.Lists.{all}
 use Rattle.model.specs.Refusals.{FirstHolds, lastRefusal}
-use Rattle.model.specs.Run.{Event}
+use Rattle.model.specs.Run.{Event, left, gathered}
 use Rattle.model.specs.LockClause.{Kept}
 use Rattle.settings.specs.Bytes.{settingsOf, settingsBytes}
 use Rattle.request.specs.Grammar.{Said, readLine, asked}
@@ -96,22 +96,22 @@ pub record FreshMade (b : Bytes) : Type 0 where
 
 -- ## A list of calls
 
--- What a list of calls leaves.
-abbrev pub leftBytes : Bytes → List Call → Bytes
-leftBytes b [] = b
-leftBytes b (l ∷ ls) = leftBytes (leavesBytes (servedBytes b l)) ls
+-- The bytes after a call.
+abbrev pub byteStep : Bytes → Call → Bytes
+byteStep b l = leavesBytes (servedBytes b l)
 
--- An accepted call: the bucket before it, what its line reads as, and the number in its answer buffer.
+-- What an accepted call says, one that returns 0: the bucket before it, what its line reads as, and the number in its answer buffer.
 abbrev pub byteEvent : Bytes → Call → List Event
 byteEvent b l =
-    thenSome (readLine (l .line)) [] (λ q.
-    record { before = held (lentOf b); request = asked (length (l .answer)) q; answered = answersNumber (q .verb) ((servedBytes b l) .answer) } ∷ [])
+    pick (eqb ((servedBytes b l) .number) 0)
+    (thenSome (readLine (l .line)) [] (λ q.
+    record { before = held (lentOf b); request = asked (length (l .answer)) q; answered = answersNumber (q .verb) ((servedBytes b l) .answer) } ∷ []))
+    []
 
--- The accepted lines of a list of calls, in order: those that return 0.
+-- The accepted lines of a list of calls, in order.
 abbrev pub byteEvents : Bytes → List Call → List Event
-byteEvents b [] = []
-byteEvents b (l ∷ ls) = pick (eqb ((servedBytes b l) .number) 0) (byteEvent b l) [] ++ byteEvents (leavesBytes (servedBytes b l)) ls
+byteEvents b ls = gathered byteStep byteEvent b ls
 
 -- Demand 3: any bytes of the lengths of some c, made fresh by `knitpasture_fresh`, and any list of calls of `knitpasture_serve`.
 abbrev pub Demand3Bytes : Type 0
-Demand3Bytes = (c : ℕ) (b : Bytes) → Sized c b → (ls : List Call) → Kept (held (lentOf (leftBytes (freshBytes b) ls))) (byteEvents (freshBytes b) ls)
+Demand3Bytes = (c : ℕ) (b : Bytes) → Sized c b → (ls : List Call) → Kept (held (lentOf (left byteStep (freshBytes b) ls))) (byteEvents (freshBytes b) ls)

@@ -1,7 +1,7 @@
 -- Calls of the engine on lent buffers: each is handed what the one before it left.
 use Prim.Native.Nat.{ℕ, _*_}
 use mathlib.Core.Bool.{Bool, _&&_}
-use mathlib.Core.List.{List, [], _∷_, _++_}
+use mathlib.Core.List.{List, [], _∷_}
 use lib.Dec.{eqb}
 use lib.ListN.{length, replicate}
 use Rattle.buffers.specs.Choices.{pick, thenSome, isSome}
@@ -9,7 +9,7 @@ use Rattle.buffers.specs.Lists.{begins}
 use Rattle.model.specs.Settings.{Bucket}
 use Rattle.model.specs.Requests.{numbered, Verb, termsOf}
 use Rattle.model.specs.Answers.{made}
-use Rattle.model.specs.Run.{Event}
+use Rattle.model.specs.Run.{Event, gathered}
 use Rattle.settings.specs.declared.Settings.{Settings}
 use Rattle.bucket.specs.Whole.{bucketOf}
 use Rattle.request.specs.Grammar.{readLine, asked}
@@ -46,21 +46,13 @@ served s l = outcome (s .settings) (s .numbers) (s .keys) (l .line) (l .answer)
 abbrev pub leaves : Outcome → Lent
 leaves o = record { settings = o .settings; numbers = o .numbers; keys = o .keys }
 
+-- The bucket after a call.
+abbrev pub step : Lent → Call → Lent
+step s l = leaves (served s l)
+
 -- Accepted: the call returned 0.
 abbrev pub isAccepted : Lent → Call → Bool
 isAccepted s l = eqb ((served s l) .number) 0
-
--- ## A list of calls
-
--- What a list of calls leaves.
-abbrev pub left : Lent → List Call → Lent
-left s [] = s
-left s (l ∷ ls) = left (leaves (served s l)) ls
-
--- The accepted calls of a list.
-abbrev pub acceptedCalls : Lent → List Call → List Call
-acceptedCalls s [] = []
-acceptedCalls s (l ∷ ls) = pick (isAccepted s l) (l ∷ acceptedCalls (leaves (served s l)) ls) (acceptedCalls (leaves (served s l)) ls)
 
 -- ## What accepted calls say
 
@@ -72,13 +64,20 @@ makesVersion w = isSome (termsOf w)
 abbrev pub answersNumber : Verb → List ℕ → ℕ → Bool
 answersNumber w answer v = makesVersion w && begins (answerText (made (numbered v))) answer
 
--- An accepted call: the bucket before it, what its line reads as, and the number in its answer buffer.
+-- What an accepted call says: the bucket before it, what its line reads as, and the number in its answer buffer.
 abbrev pub callEvent : Lent → Call → List Event
 callEvent s l =
-    thenSome (readLine (l .line)) [] (λ q.
-    record { before = held s; request = asked (length (l .answer)) q; answered = answersNumber (q .verb) ((served s l) .answer) } ∷ [])
+    pick (isAccepted s l)
+    (thenSome (readLine (l .line)) [] (λ q.
+    record { before = held s; request = asked (length (l .answer)) q; answered = answersNumber (q .verb) ((served s l) .answer) } ∷ []))
+    []
+
+-- ## A list of calls, each handed what the one before it left
 
 -- The accepted lines of a list of calls, in order.
 abbrev pub callEvents : Lent → List Call → List Event
-callEvents s [] = []
-callEvents s (l ∷ ls) = pick (isAccepted s l) (callEvent s l) [] ++ callEvents (leaves (served s l)) ls
+callEvents s ls = gathered step callEvent s ls
+
+-- The accepted calls of a list.
+abbrev pub acceptedCalls : Lent → List Call → List Call
+acceptedCalls s ls = gathered step (λ s l. pick (isAccepted s l) (l ∷ []) []) s ls

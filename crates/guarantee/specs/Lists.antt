@@ -5,6 +5,7 @@ use mathlib.Core.Path.{_≡_}
 use mathlib.Core.Bool.{true}
 use lib.ListN.{length, drop}
 use Rattle.text.specs.Lines.{linesOf}
+use Rattle.model.specs.Run.{left, gathered}
 use Rattle.settings.specs.declared.Settings.{Settings}
 use Rattle.bucket.specs.Whole.{whole}
 use Rattle.guarantee.specs.Calls.{Lent, Call, served, leaves}
@@ -23,15 +24,16 @@ ended s answer = record { bucket = s; answer = answer }
 abbrev pub call : List ℕ → List ℕ → Call
 call line answer = record { line = line; answer = answer }
 
--- Each line is handed the bucket and the answer buffer that the one before it left.
+-- A line is handed the bucket and the answer buffer that the one before it left.
+abbrev pub lineStep : Ended → List ℕ → Ended
+lineStep e l = let o = served (e .bucket) (call l (e .answer)) in ended (leaves o) (o .answer)
+
 abbrev pub servedLines : Lent → List ℕ → List (List ℕ) → Ended
-servedLines s answer [] = ended s answer
-servedLines s answer (l ∷ ls) = servedLines (leaves (served s (call l answer))) ((served s (call l answer)) .answer) ls
+servedLines s answer ls = left lineStep (ended s answer) ls
 
 -- The same lines as calls.
 abbrev pub callsOf : Lent → List ℕ → List (List ℕ) → List Call
-callsOf s answer [] = []
-callsOf s answer (l ∷ ls) = call l answer ∷ callsOf (leaves (served s (call l answer))) ((served s (call l answer)) .answer) ls
+callsOf s answer ls = gathered lineStep (λ e l. call l (e .answer) ∷ []) (ended s answer) ls
 
 -- What holds between two lines: the bucket is whole, the lines from i on lead to the end, and the buffers have their lengths.
 pub record Serving (text : List ℕ) (end : Ended) (numbers₀ keys₀ answer₀ : List ℕ) (i : ℕ) (s : Settings) (numbers keys answer : List ℕ) : Type 0 where

@@ -13,12 +13,13 @@ use Rattle.model.specs.Rows.{Row}
 use Rattle.model.specs.Requests.{Name, Get, Ask}
 use Rattle.model.specs.Effects.{rowOf}
 use Rattle.model.specs.Refusals.{Check, FirstHolds, lastRefusal, checks}
+use Rattle.model.specs.Run.{left}
 use Rattle.model.specs.LockClause.{Kept}
 use Rattle.table.specs.Layout.{capacity}
 use Rattle.bucket.specs.Whole.{whole}
 use Rattle.request.specs.Grammar.{Said, readLine, lineOf, asked}
 use Rattle.outcome.specs.Outcome.{Outcome, refused, accepted}
-use Rattle.guarantee.specs.Calls.{Lent, Call, held, freshLent, served, left, callEvents}
+use Rattle.guarantee.specs.Calls.{Lent, Call, held, freshLent, served, step, callEvents}
 
 -- What a hub returns and leaves, on any bucket as it is lent and for any call. The engine is `served`.
 abbrev pub Hub : Type 0
@@ -57,4 +58,4 @@ DateReadsBack s l =
 
 -- Demand 3: on a fresh bucket of any capacity, over any list of calls, the lock clause.
 abbrev pub Demand3 : Type 0
-Demand3 = (c : ℕ) → 1 ≤ c → c ≤ 1024 → (ls : List Call) → Kept (held (left (freshLent c) ls)) (callEvents (freshLent c) ls)
+Demand3 = (c : ℕ) → 1 ≤ c → c ≤ 1024 → (ls : List Call) → Kept (held (left step (freshLent c) ls)) (callEvents (freshLent c) ls)

@@ -13,3 +13,4 @@ pub mod Sound
 pub mod Room
 pub mod Facts
 pub mod Examples
+pub mod Runs

@@ -75,7 +75,7 @@ pub record Good (b : Bucket) (es : List Event) : Type 0 where
   pub invariant : Invariant b es
   pub kept : Kept b es
 
-good-line : (c : ℕ) (b : Bucket) (es : List Event) (l : Line) → Good b es → Good (serve c b l) (es ++ pick (eqb (refusal c b l) 0) (lineEvent b l) [])
+good-line : (c : ℕ) (b : Bucket) (es : List Event) (l : Line) → Good b es → Good (serve c b l) (es ++ lineEvent c b l)
 good-line c b es (unreadable room) k =
     elim (either (eqb (refusal c b (unreadable room)) 0)) [
       | inl e ↦ rw (e, append-nil) k
@@ -99,8 +99,8 @@ joined b es xs ys k = rw append-assoc at k
 pub good-run : (c : ℕ) (b : Bucket) (es : List Event) (ls : List Line) → Good b es → Good (run c b ls) (es ++ lineEvents c b ls)
 good-run c b es [] k = rw append-nil k
 good-run c b es (l ∷ ls) k =
-    joined _ es (pick (eqb (refusal c b l) 0) (lineEvent b l) []) (lineEvents c (serve c b l) ls)
-    (good-run c (serve c b l) (es ++ pick (eqb (refusal c b l) 0) (lineEvent b l) []) ls (good-line c b es l k))
+    joined _ es (lineEvent c b l) (lineEvents c (serve c b l) ls)
+    (good-run c (serve c b l) (es ++ lineEvent c b l) ls (good-line c b es l k))
 
 no-line : (early : List Event) (e : Event) (late : List Event) → [] ≡ early ++ (e ∷ late) → ⊥
 no-line [] e late h = nil≢cons h

@@ -10,6 +10,21 @@ use Rattle.model.specs.Effects.{after}
 use Rattle.model.specs.Refusals.{refusal}
 use Rattle.model.specs.Answers.{Answer, answerTo, givesNumber}
 
+-- ## Lists of calls
+
+module _ {S C : Type 0} (step : S → C → S) where
+  -- What a list of calls leaves, each handed what the one before it left.
+  abbrev pub left : S → List C → S
+  left s [] = s
+  left s (c ∷ cs) = left (step s c) cs
+
+  -- What is told of each call and of what it was handed, in order.
+  abbrev pub gathered : {A : Type 0} → (S → C → List A) → S → List C → List A
+  gathered tell s [] = []
+  gathered tell s (c ∷ cs) = tell s c ++ gathered tell (step s c) cs
+
+-- ## Lines on a bucket
+
 -- The bucket after an accepted line.
 abbrev pub accept : Bucket → Line → Bucket
 accept b (unreadable room) = b
@@ -21,8 +36,7 @@ serve c b l = pick (eqb (refusal c b l) 0) (accept b l) b
 
 -- The bucket after a list of lines.
 abbrev pub run : ℕ → Bucket → List Line → Bucket
-run c b [] = b
-run c b (l ∷ ls) = run c (serve c b l) ls
+run c b ls = left (serve c) b ls
 
 -- An accepted line: the bucket that the lines before it left, what it says, and whether its answer is that of a PUT or COPY with this number.
 pub record Event : Type 0 where
@@ -30,14 +44,18 @@ pub record Event : Type 0 where
   pub request : Request
   pub answered : ℕ → Bool
 
-abbrev pub lineEvent : Bucket → Line → List Event
-lineEvent b (unreadable room) = []
-lineEvent b (reads q) = record { before = b; request = q; answered = λ v. givesNumber v (answerTo b q) } ∷ []
+-- What a line says, if it can be read.
+abbrev pub event : Bucket → Line → List Event
+event b (unreadable room) = []
+event b (reads q) = record { before = b; request = q; answered = λ v. givesNumber v (answerTo b q) } ∷ []
+
+-- The same, if the line is accepted.
+abbrev pub lineEvent : ℕ → Bucket → Line → List Event
+lineEvent c b l = pick (eqb (refusal c b l) 0) (event b l) []
 
 -- The accepted lines of a list, in order.
 abbrev pub lineEvents : ℕ → Bucket → List Line → List Event
-lineEvents c b [] = []
-lineEvents c b (l ∷ ls) = pick (eqb (refusal c b l) 0) (lineEvent b l) [] ++ lineEvents c (serve c b l) ls
+lineEvents c b ls = gathered (serve c) (lineEvent c) b ls
 
 -- What a line gets back: a refusal's number, or an answer.
 pub data Reply : Type 0 where
@@ -49,5 +67,4 @@ replyTo c b (unreadable room) = no (refusal c b (unreadable room))
 replyTo c b (reads q) = pick (eqb (refusal c b (reads q)) 0) (ok (answerTo b q)) (no (refusal c b (reads q)))
 
 abbrev pub replies : ℕ → Bucket → List Line → List Reply
-replies c b [] = []
-replies c b (l ∷ ls) = replyTo c b l ∷ replies c (serve c b l) ls
+replies c b ls = gathered (serve c) (λ b l. replyTo c b l ∷ []) b ls

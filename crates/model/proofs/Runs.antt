@@ -1,0 +1,17 @@
+-- Two lists of calls of which one imitates the other.
+use mathlib.Core.Path.{_≡_, refl, _∙_, ap, ap₂}
+use mathlib.Core.List.{List, [], _∷_, _++_, map}
+use Rattle.model.specs.Run.{left, gathered}
+
+-- What stands for a state in the other run, and for a call; what is known of a state stays, and each call is imitated.
+module _ {S T C D : Type 0} (step : S → C → S) (step′ : T → D → T) (f : S → T) (g : C → D) (Known : S → Type 0) (stays : (s : S) (c : C) → Known s → Known (step s c)) (follows : (s : S) (c : C) → Known s → f (step s c) ≡ step′ (f s) (g c)) where
+  pub left-as : (s : S) (cs : List C) → Known s → f (left step s cs) ≡ left step′ (f s) (map g cs)
+  left-as s [] k = refl
+  left-as s (c ∷ cs) k = left-as (step s c) cs (stays s c k) ∙ ap (λ (t : T). left step′ t (map g cs)) (follows s c k)
+
+  pub gathered-as : {A : Type 0} (tell : S → C → List A) (tell′ : T → D → List A) → ((s : S) (c : C) → Known s → tell s c ≡ tell′ (f s) (g c))
+      → (s : S) (cs : List C) → Known s → gathered step tell s cs ≡ gathered step′ tell′ (f s) (map g cs)
+  gathered-as tell tell′ same s [] k = refl
+  gathered-as {A} tell tell′ same s (c ∷ cs) k =
+      ap₂ (λ (x y : List A). x ++ y) (same s c k)
+      (gathered-as tell tell′ same (step s c) cs (stays s c k) ∙ ap (λ (t : T). gathered step′ tell′ t (map g cs)) (follows s c k))
