@@ -1,22 +1,59 @@
--- Fates as numbers, and how many they count.
-use Prim.Native.Nat.{ℕ, _+_, _-_, _≤_, _<_}
+-- Fates as bytes, and how many they count.
+use Prim.Native.Nat.{ℕ, suc, _+_, _-_, _≤_, _<_}
 use mathlib.Core.Path.{_≡_, refl, sym, ap, _∙_}
 use mathlib.Core.Logic.{inl, inr}
 use mathlib.Core.List.{List, [], _∷_, _++_}
+use mathlib.Core.Option.{Option, some, none}
 use native.Mathlib.Omega.{arith}
 use lib.Dec.{eqb}
 use borrow.Author.Tests.{ne-eqb}
 use Rattle.buffers.proofs.Tests.{either}
-use Rattle.model.specs.Sweep.{Fate, stays, marks, removes, total}
-use Rattle.lifecycle.specs.Fates.{fateOf, fatesIn}
+use Rattle.model.specs.Rows.{Row}
+use Rattle.model.specs.Settings.{Rule}
+use Rattle.model.specs.Sweep.{Fate, stays, goes, gains, marks, removes, fates, total}
+use Rattle.lifecycle.specs.Fates.{fateByte, fateBytes, fatesAfter, fateOf, fatesIn}
 use native.Mathlib.Numerals.{add-one}
 use lib.ListN.{length, getD, take, drop}
-use lib.Seq.{take-suc, take-add}
+use lib.Seq.{take-suc, take-add, take-at}
 use Rattle.buffers.specs.Ranges.{Within}
 use Rattle.buffers.specs.Words.{number}
 use Rattle.lifecycle.specs.Judging.{Counted, Passed}
 
--- ## The number of a fate
+-- ## The byte of a fate
+
+pub byte-stays : (f : Fate) → stays ≡ f → 0 ≡ fateByte f
+byte-stays f e = ap fateByte e
+
+pub byte-goes : (f : Fate) → goes ≡ f → 1 ≡ fateByte f
+byte-goes f e = ap fateByte e
+
+pub byte-gains : (f : Fate) → gains ≡ f → 2 ≡ fateByte f
+byte-gains f e = ap fateByte e
+
+pub ruleset bytes-of = (byte-stays, byte-goes, byte-gains)
+
+fates-back : (fs : List Fate) → fatesIn (fateBytes fs) ≡ fs
+fates-back [] = refl
+fates-back (stays ∷ fs) = ap (λ (l : List Fate). stays ∷ l) (fates-back fs)
+fates-back (goes ∷ fs) = ap (λ (l : List Fate). goes ∷ l) (fates-back fs)
+fates-back (gains ∷ fs) = ap (λ (l : List Fate). gains ∷ l) (fates-back fs)
+
+bytes-length : (fs : List Fate) → length (fateBytes fs) ≡ length fs
+bytes-length [] = refl
+bytes-length (f ∷ fs) = ap suc (bytes-length fs)
+
+module _ (us : List Rule) (t : ℕ) where
+  each-fate : (y : Option Row) (xs : List Row) → length (fates us t y xs) ≡ length xs
+  each-fate y [] = refl
+  each-fate y (x ∷ xs) = ap suc (each-fate (some x) xs)
+
+  module _ (xs : List Row) (entry : List ℕ) where
+    all-bytes : length (fateBytes (fates us t none xs)) ≡ length xs
+    all-bytes = bytes-length (fates us t none xs) ∙ each-fate none xs
+
+    -- The bytes after a judgement stand for the rows' fates.
+    pub fates-after : fatesIn (take (length xs) (fatesAfter us t xs entry)) ≡ fates us t none xs
+    fates-after = ap fatesIn (take-at (fateBytes (fates us t none xs)) (drop (length xs) entry) (length xs) all-bytes) ∙ fates-back (fates us t none xs)
 
 pub one-removed : (f : ℕ) → f ≡ 1 → 1 ≡ removes (fateOf f)
 one-removed f h = rw h

@@ -11,7 +11,7 @@ ghost use Rattle.buffers.specs.Lists.{begins, keep};
 ghost use Rattle.settings.specs.Meaning.{rulesMean, prefixesAre};
 ghost use Rattle.table.specs.Places.{keyAt};
 ghost use Rattle.lifecycle.specs.Least.{lesser, limitsOf, tightened};
-ghost use Rattle.lifecycle.specs.Flat.{ruleIn, rulesIn, mayBegin, Rules, Laid, RulePut, ChosenBy, Applied};
+ghost use Rattle.lifecycle.specs.Flat.{ruleIn, rulesIn, mayBegin, Rules, Laid, RulePut, ChosenBy, RulesFor};
 
 // Room for the prefixes of eight rules.
 pub fn no_prefixes() -> [u8; 512]
@@ -205,7 +205,7 @@ pub fn rules_for(
 ) -> KeyRules
     requires { ⌜ Rules (now prefixes) (now days) 8 × (64 * at + 64 ≤ length (now keys)) × (getD (now keys) (64 * at) 0 ≤ 63) ⌝ }
     requires { ⌜ ChosenBy (rulesIn (now prefixes) (now days) 8) (now near) (now periods) (chosen .first) chosen ⌝ }
-    ensures { λ r. ⌜ Applied (rulesIn (now (prefixes .entry)) (now (days .entry)) 8) (keyAt (now (keys .entry)) at) (now (near .exit)) (now (periods .exit)) r ⌝ }
+    ensures { λ r. ⌜ RulesFor (rulesIn (now (prefixes .entry)) (now (days .entry)) 8) (keyAt (now (keys .entry)) at) (now (near .exit)) (now (periods .exit)) r ⌝ }
 {
     let first = buffers::wide(keys[64 * at + 1]);
     let own = choose_for(prefixes, days, first, near, periods, chosen);
