@@ -71,6 +71,10 @@ pub ruleset counts = (one-removed, none-removed, one-marked, none-marked)
 
 -- ## One fate more
 
+pub fates-length : (fs : List ℕ) → length (fatesIn fs) ≡ length fs
+fates-length [] = refl
+fates-length (f ∷ fs) = ap suc (fates-length fs)
+
 pub fates-append : (fs gs : List ℕ) → fatesIn (fs ++ gs) ≡ fatesIn fs ++ fatesIn gs
 fates-append [] gs = refl
 fates-append (f ∷ fs) gs = ap (λ (l : List Fate). fateOf f ∷ l) (fates-append fs gs)

@@ -12,9 +12,10 @@ use Rattle.model.specs.Sweep.{Fate, stays, goes, gains, inPlace, marker, marks,
 use Rattle.table.specs.Layout.{Holds, numbersOfRow, rowsOf, keysFit, capacity}
 use Rattle.table.proofs.Held.{rows-length}
 use Rattle.lifecycle.specs.Fates.{fateOf, fatesIn}
+use Rattle.lifecycle.proofs.Fates.{fates-append, fates-length, total-append}
 use Rattle.sweep.specs.Passes.{kept, unlessGone, Place, Put, Thinned}
 use Rattle.sweep.proofs.Flat.{free, padded, padded-length, Lay, lay-numbers, lay-keys, lay-put, lay-set, lay-row, lay-block, holds-lay, lay-holds}
-use Rattle.sweep.proofs.Passes.{fates-append, fates-length, total-append, marks-few, kept-append, kept-marks, carried-append, carried-length, carried-fit}
+use Rattle.sweep.proofs.Passes.{marks-few, kept-append, kept-marks, carried-append, carried-length, carried-fit}
 use Rattle.sweep.proofs.Removing.{fate-goes, fate-gains, fate-stays, still-there}
 
 -- the fates of the first so many rows, and those of them that are left

@@ -5,7 +5,7 @@ ghost use Prim.Native.Nat.{_+_, _-_, _*_, _≤_};
 ghost use lib.ListN.{length, take, drop, replicate};
 ghost use Rattle.model.specs.Sweep.{marker, removes, total, carriedOut};
 ghost use Rattle.table.specs.Layout.{Holds, numbersOfRow, rowsOf, capacity};
-ghost use Rattle.sweep.specs.Passes.{kept, fatesOf, Judged, Thinned, Left, Place, Put};
+ghost use Rattle.sweep.specs.Passes.{kept, fatesOf, Carriable, Thinned, Remaining, Place, Put};
 
 // The numbers of the row at a place.
 fn numbers_in(rows: &[u64], at: usize) -> [u64; 8]
@@ -97,7 +97,7 @@ fn free_rows(rows: &mut [u64], keys: &mut [u8], at: usize, count: usize)
 // Leaves out the rows that go, and returns how many are left. Each row is copied at most once.
 fn remove_rows(rows: &mut [u64], keys: &mut [u8], used: usize, fates: &[u8]) -> usize
     requires { ⌜ Holds (capacity (now keys)) (rowsOf (now rows) (now keys) used) (now rows) (now keys) × (used ≤ length (now fates)) ⌝ }
-    ensures { λ r. ⌜ Left (capacity (now (keys .entry))) (kept (fatesOf used (now (fates .entry))) (rowsOf (now (rows .entry)) (now (keys .entry)) used)) (now (rows .exit)) (now (keys .exit)) r ⌝ }
+    ensures { λ r. ⌜ Remaining (capacity (now (keys .entry))) (kept (fatesOf used (now (fates .entry))) (rowsOf (now (rows .entry)) (now (keys .entry)) used)) (now (rows .exit)) (now (keys .exit)) r ⌝ }
 {
     let mut left = 0;
     let mut i = 0;
@@ -117,7 +117,7 @@ fn remove_rows(rows: &mut [u64], keys: &mut [u8], used: usize, fates: &[u8]) -> 
 fn thin(rows: &mut [u64], keys: &mut [u8], used: usize, fates: &[u8], gone: usize) -> usize
     requires { ⌜ Holds (capacity (now keys)) (rowsOf (now rows) (now keys) used) (now rows) (now keys) × (used ≤ length (now fates)) ⌝ }
     requires { ⌜ gone ≡ total removes (fatesOf used (now fates)) ⌝ }
-    ensures { λ r. ⌜ Left (capacity (now (keys .entry))) (kept (fatesOf used (now (fates .entry))) (rowsOf (now (rows .entry)) (now (keys .entry)) used)) (now (rows .exit)) (now (keys .exit)) r ⌝ }
+    ensures { λ r. ⌜ Remaining (capacity (now (keys .entry))) (kept (fatesOf used (now (fates .entry))) (rowsOf (now (rows .entry)) (now (keys .entry)) used)) (now (rows .exit)) (now (keys .exit)) r ⌝ }
 {
     if gone == 0 {
         return used;
@@ -168,7 +168,7 @@ pub fn carry_out(
     next: u64,
     stamp: u64,
 )
-    requires { ⌜ Judged (now rows) (now keys) used (now fates) gone added next ⌝ }
+    requires { ⌜ Carriable (now rows) (now keys) used (now fates) gone added next ⌝ }
     ensures { λ _. ⌜ Holds (capacity (now (keys .entry))) (carriedOut stamp next (fatesOf used (now (fates .entry))) (rowsOf (now (rows .entry)) (now (keys .entry)) used)) (now (rows .exit)) (now (keys .exit)) ⌝ }
 {
     let left = thin(rows, keys, used, fates, gone);
