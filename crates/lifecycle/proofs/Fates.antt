@@ -13,7 +13,7 @@ use Rattle.model.specs.Settings.{Rule}
 use Rattle.model.specs.Sweep.{Fate, stays, goes, gains, marks, removes, fates, total}
 use Rattle.lifecycle.specs.Fates.{fateByte, fateBytes, fatesAfter, fateOf, fatesIn}
 use native.Mathlib.Numerals.{add-one}
-use lib.ListN.{length, getD, take, drop}
+use lib.ListN.{length, getD, take, drop, length-append}
 use lib.Seq.{take-suc, take-add, take-at}
 use Rattle.buffers.specs.Ranges.{Within}
 use Rattle.buffers.specs.Words.{number}
@@ -54,6 +54,9 @@ module _ (us : List Rule) (t : ℕ) where
     -- The bytes after a judgement stand for the rows' fates.
     pub fates-after : fatesIn (take (length xs) (fatesAfter us t xs entry)) ≡ fates us t none xs
     fates-after = ap fatesIn (take-at (fateBytes (fates us t none xs)) (drop (length xs) entry) (length xs) all-bytes) ∙ fates-back (fates us t none xs)
+
+    pub after-long : length xs ≤ length (fatesAfter us t xs entry)
+    after-long = let a = length-append (fateBytes (fates us t none xs)) (drop (length xs) entry) in let b = all-bytes in omega arith
 
 pub one-removed : (f : ℕ) → f ≡ 1 → 1 ≡ removes (fateOf f)
 one-removed f h = rw h
