@@ -38,7 +38,7 @@ use Rattle.verdict.specs.declared.State.{State}
 use Rattle.verdict.specs.declared.Verdict.the-variants.{Refused, Accepted}
 use Rattle.verdict.specs.declared.Change.the-variants as change
 use Rattle.verdict.specs.State.{bucketBy, rowsIn}
-use Rattle.judge.specs.Premises.{both, Asked, Sweepable, JudgesBy, JudgesSweep}
+use Rattle.judge.specs.Premises.{both, Asked, Sweepable, JudgesBy}
 use Rattle.judge.proofs.Deciding.{Open, refuse-11, refuse-12, accept, stay-done}
 
 -- ## DEFAULT and RULE
@@ -95,37 +95,28 @@ sweep-open : (s : State) (us : List model.Rule) (xs : List Row) (now : ℕ) → 
 unfolding missing namesMarker barred tooLate
 sweep-open s us xs now = record { there = refl; no-marker = refl; unbarred = refl; in-time = refl }
 
--- The fates are left as they were judged, whether the sweep is accepted or refused.
-module _ (s : State) (numbers keys : List ℕ) (now : ℕ) (us : List model.Rule) (entry fs : List ℕ) (n : Counts)
+module _ (s : State) (numbers keys line : List ℕ) (now : ℕ) (us : List model.Rule) (entry fs : List ℕ) (n : Counts)
     (asked : Asked s numbers keys now Sweep) (judged : JudgedRows us now (rowsIn s numbers keys) (s .used) entry fs n) where
-  pub sweep-spent : 4294967296 < s .next + n .added → JudgesSweep s numbers keys now us entry fs (Refused 11)
+  pub sweep-spent : 4294967296 < s .next + n .added → JudgesBy s numbers keys line now us fs Sweep (Refused 11)
   unfolding added
   sweep-spent l =
-      record {
-        fates-are = judged .fates-are;
-        judges =
-            λ line. refuse-11 _ (capacity keys) (bucketBy s us (rowsIn s numbers keys)) (both now) Sweep (sweep-open s us (rowsIn s numbers keys) now)
-            (rw (judged .added .is) at l);
-      }
+      refuse-11 _ (capacity keys) (bucketBy s us (rowsIn s numbers keys)) (both now) Sweep (sweep-open s us (rowsIn s numbers keys) now)
+      (rw (judged .added .is) at l)
 
   module _ (left : s .next + n .added ≤ 4294967296) where
-    pub sweep-full : capacity keys < s .used - n .removed + n .added → JudgesSweep s numbers keys now us entry fs (Refused 12)
+    pub sweep-full : capacity keys < s .used - n .removed + n .added → JudgesBy s numbers keys line now us fs Sweep (Refused 12)
     unfolding added rowsAfter
     sweep-full l =
-        let z = rows-length numbers keys (s .used) in
+        refuse-12 _ (capacity keys) (bucketBy s us (rowsIn s numbers keys)) (both now) Sweep (sweep-open s us (rowsIn s numbers keys) now)
+        (rw (judged .added .is) at left)
+        (let z = rows-length numbers keys (s .used) in
         let e = swept-length us now (s .next) (rowsIn s numbers keys) in
         let a = judged .added .is in
         let r = judged .removed .is in
-        record {
-          fates-are = judged .fates-are;
-          judges =
-              λ line. refuse-12 _ (capacity keys) (bucketBy s us (rowsIn s numbers keys)) (both now) Sweep (sweep-open s us (rowsIn s numbers keys) now)
-              (rw a at left)
-              (omega arith);
-        }
+        omega arith)
 
     pub sweep-done : s .used - n .removed + n .added ≤ capacity keys
-        → JudgesSweep s numbers keys now us entry fs (Accepted (record { change = change.Sweep (n .removed) (n .added); answer = Swept (n .removed) (n .added) }))
+        → JudgesBy s numbers keys line now us fs Sweep (Accepted (record { change = change.Sweep (n .removed) (n .added); answer = Swept (n .removed) (n .added) }))
     unfolding added rowsAfter removed reply
     sweep-done l =
         let z = rows-length numbers keys (s .used) in
@@ -135,17 +126,13 @@ module _ (s : State) (numbers keys : List ℕ) (now : ℕ) (us : List model.Rule
         let q = judged .removed .most in
         let f : fatesIn (take (length (rowsIn s numbers keys)) fs) ≡ fates us now none (rowsIn s numbers keys) = rw (judged .fates-are) (fates-after us now (rowsIn s numbers keys) entry) in
         let o : length (rowsIn s numbers keys) ≤ length fs = rw (judged .fates-are) (after-long us now (rowsIn s numbers keys) entry) in
-        record {
-          fates-are = judged .fates-are;
-          judges =
-              λ line. accept _ (capacity keys) (bucketBy s us (rowsIn s numbers keys)) (both now) Sweep (sweep-open s us (rowsIn s numbers keys) now)
-              (rw a at left)
-              (record { change = change.Sweep (n .removed) (n .added); answer = Swept (n .removed) (n .added) })
-              (omega arith)
-              (rw f)
-              a
-              (rw (a, r))
-              ((rw f r, rw f a, omega arith, omega arith, left, o), tt);
-        }
+        accept _ (capacity keys) (bucketBy s us (rowsIn s numbers keys)) (both now) Sweep (sweep-open s us (rowsIn s numbers keys) now)
+        (rw (judged .added .is) at left)
+        (record { change = change.Sweep (n .removed) (n .added); answer = Swept (n .removed) (n .added) })
+        (omega arith)
+        (rw f)
+        a
+        (rw (a, r))
+        ((rw f r, rw f a, omega arith, omega arith, left, o), tt)
 
 pub ruleset sweep-ways = (sweep-asks, sweep-spent, sweep-full, sweep-done)

@@ -8,7 +8,7 @@ use lib.ListN.{length}
 use Rattle.calendar.specs.Calendar.{latest}
 use Rattle.model.specs.Rows.{Row}
 use Rattle.model.specs.Settings.{Rule, soundRules}
-use Rattle.model.specs.Requests.{Name, Verb, Sweep, inRange}
+use Rattle.model.specs.Requests.{Name, Verb, inRange}
 use Rattle.model.specs.Effects.{rowOf}
 use Rattle.model.specs.Time.{Now}
 use Rattle.settings.specs.declared.Rule as settings
@@ -16,7 +16,6 @@ use Rattle.settings.specs.Meaning.{rulesMean, prefixesAre}
 use Rattle.table.specs.Layout.{capacity}
 use Rattle.table.specs.Places.{rowFrom}
 use Rattle.search.specs.Places.{nthRow}
-use Rattle.lifecycle.specs.Fates.{fatesAfter}
 use Rattle.verdict.specs.declared.State.{State}
 use Rattle.verdict.specs.declared.Looked.{Looked}
 use Rattle.verdict.specs.declared.Looked.the-variants.{Absent, Present}
@@ -56,8 +55,3 @@ JudgesBy s numbers keys line now rules fates v r =
 -- The same, whatever the rules and the fates.
 abbrev pub JudgesOn : State → List ℕ → List ℕ → List ℕ → ℕ → Verb → Verdict → Type 0
 JudgesOn s numbers keys line now v r = (rules : List Rule) (fates : List ℕ) → JudgesBy s numbers keys line now rules fates v r
-
--- The verdict on a sweep, and the fates that it leaves, whatever the line.
-pub record JudgesSweep (s : State) (numbers keys : List ℕ) (now : ℕ) (rules : List Rule) (before after : List ℕ) (r : Verdict) : Type 0 where
-  pub fates-are : after ≡ fatesAfter rules now (rowsIn s numbers keys) before
-  pub judges : (line : List ℕ) → JudgesBy s numbers keys line now rules after Sweep r

@@ -31,8 +31,9 @@ ghost use Rattle.table.specs.Places.{rowFrom};
 ghost use Rattle.search.specs.Places.{keyPlace};
 ghost use Rattle.fields.specs.Meaning.{modeMeans, untilMeans, holdMeans, Inside};
 ghost use Rattle.request.specs.Meaning.{nameMeans, retentionMeans, termsMeans, actionMeans, ActionInside};
+ghost use Rattle.lifecycle.specs.Fates.{fatesAfter};
 ghost use Rattle.verdict.specs.State.{rowsIn, Ready};
-ghost use Rattle.judge.specs.Premises.{Asked, Looks, Sweepable, JudgesSweep, JudgesOn};
+ghost use Rattle.judge.specs.Premises.{Asked, Looks, Sweepable, JudgesBy, JudgesOn};
 
 // The row that a name in the line names.
 fn look_up(rows: &[u64], keys: &[u8], line: &[u8], s: State, name: Name) -> Looked
@@ -341,7 +342,8 @@ pub fn judge_sweep(
 ) -> Verdict
     requires { ⌜ Asked s (now rows) (now keys) instant model.Sweep ⌝ }
     requires { ⌜ Sweepable s rules (now fates) ⌝ }
-    ensures { λ r. ⌜ JudgesSweep s (now (rows .entry)) (now (keys .entry)) instant (rulesMean rules) (now (fates .entry)) (now (fates .exit)) r ⌝ }
+    ensures { λ r. ⌜ ((line : List ℕ) → JudgesBy s (now (rows .entry)) (now (keys .entry)) line instant (rulesMean rules) (now (fates .exit)) model.Sweep r) ⌝ }
+    ensures { λ _. ⌜ now (fates .exit) ≡ fatesAfter (rulesMean rules) instant (rowsIn s (now (rows .entry)) (now (keys .entry))) (now (fates .entry)) ⌝ }
 {
     let used = s.used;
     let n = lifecycle::judge(rows, keys, used, rules, instant, fates);

@@ -53,9 +53,11 @@ module _ (us : List Rule) (t : ℕ) where
 
     -- The bytes after a judgement stand for the rows' fates.
     pub fates-after : fatesIn (take (length xs) (fatesAfter us t xs entry)) ≡ fates us t none xs
+    unfolding fatesAfter
     fates-after = ap fatesIn (take-at (fateBytes (fates us t none xs)) (drop (length xs) entry) (length xs) all-bytes) ∙ fates-back (fates us t none xs)
 
     pub after-long : length xs ≤ length (fatesAfter us t xs entry)
+    unfolding fatesAfter
     after-long = let a = length-append (fateBytes (fates us t none xs)) (drop (length xs) entry) in let b = all-bytes in omega arith
 
 pub one-removed : (f : ℕ) → f ≡ 1 → 1 ≡ removes (fateOf f)

@@ -174,6 +174,7 @@ module _ (us : List model.Rule) (t : ℕ) (n b : List ℕ) (u : ℕ) (near perio
       })
 
   pub judging-end : Judging us t n b u near periods entry m l i → u ≤ i → u ≤ length entry → JudgedAll us t (rowsOf n b u) u entry m
+  unfolding fatesAfter
   judging-end h g k =
       let e : i ≡ u = omega (arith, h .low) in
       let d : take u m ≡ fateBytes (fates us t none (rowsOf n b u)) = rw (e, rows-end n b u, append-nil) at (h .done) in

@@ -22,7 +22,7 @@ fateBytes [] = []
 fateBytes (f ∷ fs) = fateByte f ∷ fateBytes fs
 
 -- the bytes of the rows' fates, and behind them what stood there before
-abbrev pub fatesAfter : List Rule → ℕ → List Row → List ℕ → List ℕ
+unfoldable pub fatesAfter : List Rule → ℕ → List Row → List ℕ → List ℕ
 fatesAfter rules now rows before = fateBytes (fates rules now none rows) ++ drop (length rows) before
 
 -- ## From bytes to fates

@@ -15,7 +15,7 @@ use Rattle.verdict.specs.declared.Verdict.{Verdict}
 use Rattle.verdict.specs.Decision.{Decision, tableDecision}
 use Rattle.verdict.specs.State.{bucketBy, rowsIn}
 use Rattle.verdict.specs.Meaning.{verdictMeans}
-use Rattle.judge.specs.Premises.{both, Asked, Sweepable, JudgesSweep, JudgesOn}
+use Rattle.judge.specs.Premises.{both, Asked, Sweepable, JudgesBy, JudgesOn}
 use Rattle.apply.specs.Applied.{judged}
 use Rattle.perform.specs.Steps.{TableOutcome, stepOf, Performable, Actable, Acted, SoundRules}
 
@@ -37,12 +37,12 @@ pub sweep-judgeable : (s : State) (n b : List ℕ) (now : ℕ) (v : line-verb.Ve
 sweep-judgeable s n b now v rules fates h r l =
     record { prefixes = r .prefixes; rules-sound = r .sound; long = omega (arith, h .ready .used-fits, h .ready .capacity-fits) }
 
-module _ (line : List ℕ) (s : State) (n b a : List ℕ) (now : ℕ) (rules : List Rule) (before fates : List ℕ) (o : Verdict) where
-  pub sweep-performable : SoundRules rules → Asked s n b now line-verb.Sweep → JudgesSweep s n b now (rulesMean rules) before fates o → 256 ≤ length a → Performable line s n b o now fates a
-  sweep-performable r h j l = record { ready = h .ready; feasible = (j .judges line) .feasible; room = l }
+module _ (line : List ℕ) (s : State) (n b a : List ℕ) (now : ℕ) (rules : List Rule) (fates : List ℕ) (o : Verdict) where
+  pub sweep-performable : SoundRules rules → Asked s n b now line-verb.Sweep → ((l : List ℕ) → JudgesBy s n b l now (rulesMean rules) fates line-verb.Sweep o) → 256 ≤ length a → Performable line s n b o now fates a
+  sweep-performable r h j l = record { ready = h .ready; feasible = (j line) .feasible; room = l }
 
-  pub sweep-done : (x : TableOutcome) → JudgesSweep s n b now (rulesMean rules) before fates o → x ≡ stepOf s n b a (verdictMeans (judged line (s .next) now fates) (rowsIn s n b) o)
+  pub sweep-done : (x : TableOutcome) → ((l : List ℕ) → JudgesBy s n b l now (rulesMean rules) fates line-verb.Sweep o) → x ≡ stepOf s n b a (verdictMeans (judged line (s .next) now fates) (rowsIn s n b) o)
       → x ≡ stepOf s n b a (tableDecision (capacity b) (bucketBy s (rulesMean rules) (rowsIn s n b)) (both now) line-verb.Sweep)
-  sweep-done x j e = e ∙ ap (λ (d : Decision). stepOf s n b a d) ((j .judges line) .is)
+  sweep-done x j e = e ∙ ap (λ (d : Decision). stepOf s n b a d) ((j line) .is)
 
 pub ruleset sweeping = (sweep-judgeable, sweep-performable, sweep-done)
