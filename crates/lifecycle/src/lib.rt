@@ -243,7 +243,7 @@ fn count(fates: &[u8], used: usize) -> Counts
 }
 
 // Judges every row, each key's rules once, and counts. A fate is 0 for a row that stays, 1 for one that goes, 2 for one that gains a marker.
-pub fn judge(
+pub fn judge_table(
     rows: &[u64],
     keys: &[u8],
     used: usize,

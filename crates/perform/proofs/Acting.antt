@@ -3,7 +3,7 @@ use Prim.Native.Nat.{ℕ, _≤_}
 use mathlib.Core.Path.{_≡_, _∙_, ap}
 use mathlib.Core.List.{List, []}
 use native.Mathlib.Omega.{arith}
-use lib.ListN.{length}
+use lib.ListN.{length, replicate, length-replicate}
 use Rattle.model.specs.Requests as line-verb
 use Rattle.settings.specs.declared.Rule.{Rule}
 use Rattle.settings.specs.Meaning.{rulesMean}
@@ -33,8 +33,9 @@ pub ruleset acting = (act-performable, act-done)
 
 -- ## SWEEP
 
-pub sweep-judgeable : (s : State) (n b : List ℕ) (now : ℕ) (v : line-verb.Verb) (rules : List Rule) (fates : List ℕ) → Asked s n b now v → SoundRules rules → length fates ≡ 1024 → Sweepable s rules fates
-sweep-judgeable s n b now v rules fates h r l =
+pub sweep-judgeable : (s : State) (n b : List ℕ) (now : ℕ) (v : line-verb.Verb) (rules : List Rule) (fates : List ℕ) → Asked s n b now v → SoundRules rules → fates ≡ replicate 1024 0 → Sweepable s rules fates
+sweep-judgeable s n b now v rules fates h r e =
+    let l : length fates ≡ 1024 = ap length e ∙ length-replicate {A = ℕ} 1024 0 in
     record { prefixes = r .prefixes; rules-sound = r .sound; long = omega (arith, h .ready .used-fits, h .ready .capacity-fits) }
 
 module _ (line : List ℕ) (s : State) (n b a : List ℕ) (now : ℕ) (rules : List Rule) (fates : List ℕ) (o : Verdict) where

@@ -5,7 +5,7 @@ use verdict::State;
 use verdict::Verdict;
 ghost use mathlib.Core.Path.{_≡_};
 ghost use Prim.Native.Nat.{_≤_};
-ghost use lib.ListN.{length};
+ghost use lib.ListN.{length, replicate};
 ghost use Rattle.model.specs.Requests.{Sweep};
 ghost use Rattle.request.specs.Meaning.{actionMeans};
 ghost use Rattle.settings.specs.Meaning.{rulesMean};
@@ -31,7 +31,7 @@ pub enum Step {
 }
 
 // Does what a verdict says: its plan is carried out and answered.
-fn carry_out(
+fn carry_out_verdict(
     s: State,
     rows: &mut [u64],
     keys: &mut [u8],
@@ -74,12 +74,12 @@ pub fn act(
     ensures { λ r. ⌜ Acted s (now (rows .entry)) (now (keys .entry)) (now (answer .entry)) (actionMeans (now (line .entry)) action) instant (tableOutcome r (now (rows .exit)) (now (keys .exit)) (now (answer .exit))) ⌝ }
 {
     let v = judge::judge(rows, keys, line, s, action, instant);
-    carry_out(s, rows, keys, line, answer, v, instant, b"")
+    carry_out_verdict(s, rows, keys, line, answer, v, instant, b"")
 }
 
 // Room for a fate of each row.
 fn no_fates() -> [u8; 1024]
-    ensures { λ r. ⌜ length r ≡ 1024 ⌝ }
+    ensures { λ r. ⌜ r ≡ replicate 1024 0 ⌝ }
 {
     [0u8; 1024]
 }
@@ -101,5 +101,5 @@ pub fn act_sweep(
 {
     let mut fates = no_fates();
     let v = judge::judge_sweep(rows, keys, s, rules, instant, &mut fates);
-    carry_out(s, rows, keys, line, answer, v, instant, &fates)
+    carry_out_verdict(s, rows, keys, line, answer, v, instant, &fates)
 }

@@ -49,7 +49,7 @@ pub record Remaining (c : ℕ) (xs : List Row) (rows keys : List ℕ) (count : �
   pub many : count ≡ length xs
 
 -- The place lies within the buffers.
-pub record Place (at : ℕ) (rows keys : List ℕ) : Type 0 where
+pub record InBuffers (at : ℕ) (rows keys : List ℕ) : Type 0 where
   pub numbers : 8 * at + 8 ≤ length rows
   pub block : 64 * at + 64 ≤ length keys
 

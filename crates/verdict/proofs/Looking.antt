@@ -47,19 +47,19 @@ module _ (s : State) (n b : List ℕ) (w : Ready s n b) where
   ready-searchable = holds-searchable (w .holds) (w .in-order) (s .used) (sym (rows-length n b (s .used)))
 
   module _ (k : List ℕ) (v : Option Version) (r : Found) (i : ℕ) (e : r ≡ foundBy (rowsIn s n b) k v) where
-    pub absent : r ≡ Place i → Absent ≡ lookedBy (rowsIn s n b) (name k v)
+    pub look-absent : r ≡ Place i → Absent ≡ lookedBy (rowsIn s n b) (name k v)
     unfolding lookedBy
-    absent t = ap (lookedAt (rowsIn s n b)) (sym t ∙ e)
+    look-absent t = ap (lookedAt (rowsIn s n b)) (sym t ∙ e)
 
     module _ (t : r ≡ At i) where
       used : i < s .used
       used = found-used n b (s .used) k v i (sym e ∙ t)
 
-      pub present-fits : 8 * i + 8 ≤ length n
-      present-fits = let h = used in let f = w .used-fits in let l = held-numbers (w .holds) in omega arith
+      pub look-fits : 8 * i + 8 ≤ length n
+      look-fits = let h = used in let f = w .used-fits in let l = held-numbers (w .holds) in omega arith
 
-      pub present : (m : Numbers) → m ≡ numbersIn (take 8 (drop (8 * i) n)) → Present i m ≡ lookedBy (rowsIn s n b) (name k v)
+      pub look-present : (m : Numbers) → m ≡ numbersIn (take 8 (drop (8 * i) n)) → Present i m ≡ lookedBy (rowsIn s n b) (name k v)
       unfolding lookedBy
-      present m q = rw (q, sym e ∙ t, rows-row n b (s .used) i used)
+      look-present m q = rw (q, sym e ∙ t, rows-row n b (s .used) i used)
 
-pub ruleset looking = (ready-searchable, absent, present-fits, present)
+pub ruleset looking = (ready-searchable, look-absent, look-fits, look-present)

@@ -40,7 +40,7 @@ pub enum Change {
     Keep,
     // position, numbers, the key's place in the line
     Insert(usize, Numbers, Place),
-    // position and numbers; the key is that of the row there
+    // position and numbers; the key is that of the row there, whose bytes are in place once the rows have moved
     InsertSame(usize, Numbers),
     Rewrite(usize, Numbers),
     Remove(usize),
