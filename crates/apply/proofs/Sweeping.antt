@@ -1,5 +1,5 @@
 -- The change of a sweep.
-use Prim.Native.Nat.{ℕ, suc, _+_, _-_, _≤_}
+use Prim.Native.Nat.{ℕ, _+_, _-_, _≤_}
 use mathlib.Core.Path.{_≡_, refl, _∙_, ap}
 use mathlib.Core.List.{List, [], _∷_}
 use native.Mathlib.Omega.{arith}
@@ -10,6 +10,7 @@ use Rattle.model.proofs.Room.{length-in-place}
 use Rattle.table.specs.Layout.{rowsOf, capacity, Holds}
 use Rattle.table.proofs.Held.{rows-length}
 use Rattle.lifecycle.specs.Fates.{fatesIn}
+use Rattle.lifecycle.proofs.Fates.{fates-length}
 use Rattle.sweep.specs.Passes as passes
 use Rattle.verdict.specs.declared.Change.{Change}
 use Rattle.verdict.specs.declared.Change.the-variants.{Sweep}
@@ -29,10 +30,6 @@ length-carried made n (f ∷ fs) (x ∷ xs) e =
     let joined = length-append (inPlace f made n x) (carriedOut made (n + marks f) fs xs) in
     omega arith
 
-fates-length : (fs : List ℕ) → length (fatesIn fs) ≡ length fs
-fates-length [] = refl
-fates-length (f ∷ fs) = ap suc (fates-length fs)
-
 module _ (line : List ℕ) (next instant : ℕ) (fates n b : List ℕ) (u : ℕ) (v : Change) (h : Applicable (judged line next instant fates) n b u v) (gone new : ℕ) (q : v ≡ Sweep gone new) where
   abbrev j : Judged
   j = judged line next instant fates
@@ -50,7 +47,7 @@ module _ (line : List ℕ) (next instant : ℕ) (fates n b : List ℕ) (u : ℕ)
   fates-are : fatesIn (take (length (rowsOf n b u)) (j .fates)) ≡ fatesIn (take u (j .fates))
   fates-are = ap (λ (k : ℕ). fatesIn (take k (j .fates))) long
 
-  pub sweep-ready : passes.Judged n b u fates gone new next
+  pub sweep-ready : passes.Carriable n b u fates gone new next
   sweep-ready =
       let g : gone ≡ total removes (fatesIn (take u fates)) = can .0 ∙ ap (total removes) fates-are in
       record {

@@ -175,9 +175,9 @@ fn follows(a: &[u8], x: u64, b: &[u8], y: u64) -> bool
 }
 
 // Whether the row behind the one at `at` has a key, and stands behind it.
-fn next_follows(rows: &[u64], keys: &[u8], used: usize, at: usize) -> bool
-    requires { ⌜ (8 * used ≤ length (now rows)) × (64 * used ≤ length (now keys)) ⌝ }
-    requires { ⌜ (at + 1 < used) × (keyedAt (now keys) at ≡ true) ⌝ }
+fn next_follows(rows: &[u64], keys: &[u8], at: usize) -> bool
+    requires { ⌜ (8 * at + 16 ≤ length (now rows)) × (64 * at + 128 ≤ length (now keys)) ⌝ }
+    requires { ⌜ keyedAt (now keys) at ≡ true ⌝ }
     ensures { λ r. ⌜ r ≡ keyedAt (now (keys .entry)) (at + 1) && aheadAt (now (rows .entry)) (now (keys .entry)) at ⌝ }
 {
     let first = 8 * at;
@@ -206,7 +206,7 @@ fn keys_are_sound(rows: &[u64], keys: &[u8], used: usize) -> bool
     }
     let mut i = 0;
     while i + 1 < used {
-        if !next_follows(rows, keys, used, i) {
+        if !next_follows(rows, keys, i) {
             return false;
         }
         i += 1;

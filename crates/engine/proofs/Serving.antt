@@ -40,7 +40,7 @@ use Rattle.outcome.proofs.Deciding.{decide-stop, decide-go, outcome-1, outcome-
 use Rattle.configure.specs.Configured.{Settable}
 use Rattle.perform.specs.declared.Step.{Step}
 use Rattle.perform.specs.declared.Step.the-variants.{Refused, Accepted}
-use Rattle.perform.specs.Steps.{Left, left, stepOf, Actable, Acted, SoundRules}
+use Rattle.perform.specs.Steps.{TableOutcome, tableOutcome, stepOf, Actable, Acted, SoundRules}
 use Rattle.engine.specs.declared.Served.{Served}
 use Rattle.engine.specs.Served.{outcomeFrom, stateOf, Passing, settled, Settles, Sets}
 use Rattle.engine.proofs.Ready.{whole-rules, line-ranges, line-asked}
@@ -103,11 +103,11 @@ module _ (s : Settings) (n b line a : List ℕ) (v : Verb) (now : ℕ) (p : Pass
   asks = line-asked s n b line a v now p
 
   -- What it comes to is what the table decides.
-  decided : (x : Outcome) (y : Left) → x ≡ settled s now (verbMeans line v) y
+  decided : (x : Outcome) (y : TableOutcome) → x ≡ settled s now (verbMeans line v) y
       → y ≡ stepOf (stateOf s) n b a (tableDecision (capacity b) (bucketOf s n b) (both now) (verbMeans line v)) → x ≡ outcome s n b line a
   decided x y g i =
       let q = p .passes in
-      g ∙ ap (λ (z : Left). settled s now (verbMeans line v) z) i
+      g ∙ ap (λ (z : TableOutcome). settled s now (verbMeans line v) z) i
       ∙ settled-done s n b a now (verbMeans line v) (tableDecision (capacity b) (bucketOf s n b) (both now) (verbMeans line v))
       ∙ said-passes s n b line a (p .is-whole) _ now (q .room-fits) (q .says) (q .now-is) (q .passes (bucketOf s n b .settings .config))
 
@@ -116,9 +116,9 @@ module _ (s : Settings) (n b line a : List ℕ) (x : Action) (now : ℕ) (p : Pa
   pub line-actable : Actable line st n b a x now
   line-actable = rw e (record { judgeable = asks s n b line a (verb.Act x) now p; inside = p .passes .inside; room = p .passes .room-fits })
 
-  pub line-acted : (step : Step) (n′ b′ a′ : List ℕ) (r : Served) → Acted st n b a (actionMeans line x) now (left step n′ b′ a′) → Settles s now step r → outcomeFrom r n′ b′ a′ ≡ outcome s n b line a
+  pub line-acted : (step : Step) (n′ b′ a′ : List ℕ) (r : Served) → Acted st n b a (actionMeans line x) now (tableOutcome step n′ b′ a′) → Settles s now step r → outcomeFrom r n′ b′ a′ ≡ outcome s n b line a
   line-acted step n′ b′ a′ r i g =
-      decided s n b line a (verb.Act x) now p (outcomeFrom r n′ b′ a′) (left step n′ b′ a′)
+      decided s n b line a (verb.Act x) now p (outcomeFrom r n′ b′ a′) (tableOutcome step n′ b′ a′)
       (g .is (actionMeans line x) n′ b′ a′ (unset s (actionMeans line x) (action-unset line x) (prefixes s n b line a (verb.Act x) now p)))
       ((rw e at i) .is (rulesMean (s .rules)))
 
@@ -134,10 +134,10 @@ module _ (s : Settings) (n b line a : List ℕ) (now : ℕ) (p : Passing s n b l
     pub line-sweeps : Asked st n b now Sweep
     line-sweeps = rw e (asks s n b line a verb.Sweep now p)
 
-    pub line-swept : (step : Step) (n′ b′ a′ : List ℕ) (r : Served) → left step n′ b′ a′ ≡ stepOf st n b a (tableDecision (capacity b) (bucketBy st (rulesMean (s .rules)) (rowsIn st n b)) (both now) Sweep)
+    pub line-swept : (step : Step) (n′ b′ a′ : List ℕ) (r : Served) → tableOutcome step n′ b′ a′ ≡ stepOf st n b a (tableDecision (capacity b) (bucketBy st (rulesMean (s .rules)) (rowsIn st n b)) (both now) Sweep)
         → Settles s now step r → outcomeFrom r n′ b′ a′ ≡ outcome s n b line a
     line-swept step n′ b′ a′ r i g =
-        decided s n b line a verb.Sweep now p (outcomeFrom r n′ b′ a′) (left step n′ b′ a′) (g .is Sweep n′ b′ a′ (unset s Sweep refl (prefixes s n b line a verb.Sweep now p))) (rw e at i)
+        decided s n b line a verb.Sweep now p (outcomeFrom r n′ b′ a′) (tableOutcome step n′ b′ a′) (g .is Sweep n′ b′ a′ (unset s Sweep refl (prefixes s n b line a verb.Sweep now p))) (rw e at i)
 
 pub ruleset actions = (line-actable, line-acted)
 
@@ -167,7 +167,7 @@ module _ (s : Settings) (n b line a : List ℕ) (w : whole s n b ≡ true) (o : 
 
     pub line-set : (r : Served) (a′ : List ℕ) → Sets s now (Set (settingMeans line x)) a r a′ → outcomeFrom r n b a′ ≡ outcome s n b line a
     line-set r a′ g =
-        decided s n b line a (verb.Set x) now p (outcomeFrom r n b a′) (left (Accepted (record { len = r .len; used = s .used; next = s .next })) n b a′)
+        decided s n b line a (verb.Set x) now p (outcomeFrom r n b a′) (tableOutcome (Accepted (record { len = r .len; used = s .used; next = s .next })) n b a′)
         (rw (g .number-is, g .settings-are))
         ((setting-acted (stateOf s) n b now a a′ (r .len) (settingMeans line x) (asks s n b line a (verb.Set x) now p) (g .wrote)) .is (rulesMean (s .rules)))
 

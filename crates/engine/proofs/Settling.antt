@@ -28,7 +28,7 @@ use Rattle.configure.specs.Configured.{Configured}
 use Rattle.perform.specs.declared.Done.{Done}
 use Rattle.perform.specs.declared.Step.{Step}
 use Rattle.perform.specs.declared.Step.the-variants.{Refused, Accepted}
-use Rattle.perform.specs.Steps.{left, Acted}
+use Rattle.perform.specs.Steps.{tableOutcome, Acted}
 use Rattle.perform.proofs.Carrying.{step-done}
 use Rattle.perform.proofs.Acting.{act-done}
 use Rattle.engine.specs.declared.Served.{Served}
@@ -68,11 +68,11 @@ sets-done s now v a a′ len u after w g e = record { number-is = refl; wrote = 
 
 -- They come to a step that keeps the table.
 pub setting-acted : (s : State) (n b : List ℕ) (now : ℕ) (a a′ : List ℕ) (len : ℕ) (x : Setting) → Asked s n b now (Set x) → Wrote a 0 (textOf answer.Done) 256 a′ len
-    → Acted s n b a (Set x) now (left (Accepted (record { len = len; used = s .used; next = s .next })) n b a′)
+    → Acted s n b a (Set x) now (tableOutcome (Accepted (record { len = len; used = s .used; next = s .next })) n b a′)
 setting-acted s n b now a a′ len x h w =
     let plan = verdict.Accepted (record { change = change.Keep; answer = answer.Done }) in
     let l = rows-length n b (s .used) in
     let kept : Applied (judged a (s .next) now a) (capacity b) (rowsOf n b (s .used)) change.Keep n b (record { used = s .used; next = s .next })
     = record { held = h .ready .holds; used-is = sym l; next-is = omega arith } in
-    act-done a s n b a (Set x) now plan a (left (Accepted (record { len = len; used = s .used; next = s .next })) n b a′) (λ us fates. set-done s n b a now us fates x h)
+    act-done a s n b a (Set x) now plan a (tableOutcome (Accepted (record { len = len; used = s .used; next = s .next })) n b a′) (λ us fates. set-done s n b a now us fates x h)
     (step-done a s n b plan now a a (record { change = change.Keep; answer = answer.Done }) change.Keep answer.Done n b (record { used = s .used; next = s .next }) a′ len refl refl refl kept w)

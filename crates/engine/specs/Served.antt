@@ -19,7 +19,7 @@ use Rattle.outcome.specs.Outcome.{settingsFrom, Outcome, refused}
 use Rattle.configure.specs.Configured.{Configured}
 use Rattle.perform.specs.declared.Step.{Step}
 use Rattle.perform.specs.declared.Step.the-variants.{Refused, Accepted}
-use Rattle.perform.specs.Steps.{Left}
+use Rattle.perform.specs.Steps.{TableOutcome}
 use Rattle.engine.specs.declared.Served.{Served}
 
 abbrev pub outcomeFrom : Served → List ℕ → List ℕ → List ℕ → Outcome
@@ -48,7 +48,7 @@ settle s now v (Accepted d) numbers keys answer =
       answer = answer;
     }
 
-abbrev pub settled : Settings → ℕ → Verb → Left → Outcome
+abbrev pub settled : Settings → ℕ → Verb → TableOutcome → Outcome
 settled s now v l = settle s now v (l .step) (l .numbers) (l .keys) (l .answer)
 
 -- A step is settled, where the verb sets nothing.

@@ -53,9 +53,9 @@ use Rattle.verdict.specs.declared.Looked.the-variants.{Present}
 use Rattle.verdict.specs.Decision.{tableDecision}
 use Rattle.verdict.specs.State.{configBy, bucketBy, rowsIn}
 use Rattle.verdict.specs.Locks.{Pair, newLock, lockMeans}
-use Rattle.verdict.specs.Meaning.{Judged, keyHere, changeMeans, changeTakes, Feasible, Judges, Looks}
+use Rattle.verdict.specs.Meaning.{Judged, keyHere, changeMeans, changeTakes, Feasible, Judges}
 use Rattle.verdict.proofs.Looking.{ready-searchable}
-use Rattle.judge.specs.Premises.{both, Asked, JudgesBy, JudgesOn}
+use Rattle.judge.specs.Premises.{both, Asked, Looks, JudgesBy, JudgesOn}
 use Rattle.judge.proofs.Deciding.{Open, refuse-10, refuse-11, refuse-12, accept, looked, data-sound}
 use Rattle.judge.proofs.Leaves.{count-most}
 use Rattle.judge.proofs.Naming.{not-there, is-marker}

@@ -30,8 +30,8 @@ use Rattle.verdict.specs.declared.Looked.the-variants.{Present}
 use Rattle.verdict.specs.Decision.{tableDecision}
 use Rattle.verdict.specs.declared.State.{State}
 use Rattle.verdict.specs.State.{bucketBy, rowsIn, Ready}
-use Rattle.verdict.specs.Meaning.{Judged, keyHere, changeMeans, changeTakes, Feasible, Judges, Looks}
-use Rattle.judge.specs.Premises.{both}
+use Rattle.verdict.specs.Meaning.{Judged, keyHere, changeMeans, changeTakes, Feasible, Judges}
+use Rattle.judge.specs.Premises.{both, Looks}
 
 -- ## The decision
 

@@ -30,8 +30,8 @@ use Rattle.verdict.specs.declared.Change.the-variants.{Keep, Rewrite, Remove}
 use Rattle.verdict.specs.declared.Looked.{Looked}
 use Rattle.verdict.specs.declared.Looked.the-variants.{Absent, Present}
 use Rattle.verdict.specs.State.{bucketBy, rowsIn, Ready}
-use Rattle.verdict.specs.Meaning.{keyHere, Looks}
-use Rattle.judge.specs.Premises.{both, Asked, JudgesBy}
+use Rattle.verdict.specs.Meaning.{keyHere}
+use Rattle.judge.specs.Premises.{both, Asked, Looks, JudgesBy}
 use Rattle.judge.proofs.Deciding.{Open, refuse-7, refuse-8, refuse-9, stay-done, absent, present, marker-named, no-marker-named, named-bars, looked, data-sound}
 
 -- ## The row is not there, or it is a marker

@@ -32,6 +32,7 @@ use Rattle.lifecycle.specs.declared.Counts.{Counts}
 use Rattle.lifecycle.specs.Days.{fewDays}
 use Rattle.lifecycle.specs.Fates.{fatesIn}
 use Rattle.lifecycle.specs.Judging.{Judgeable, JudgedRows}
+use Rattle.lifecycle.proofs.Fates.{fates-after, after-long}
 use Rattle.answers.specs.declared.Answer.the-variants.{Done, Swept}
 use Rattle.verdict.specs.declared.State.{State}
 use Rattle.verdict.specs.declared.Verdict.the-variants.{Refused, Accepted}
@@ -114,16 +115,17 @@ module _ (s : State) (numbers keys line : List ℕ) (now : ℕ) (us : List model
         let r = judged .removed .is in
         omega arith)
 
-    pub sweep-done : (rules : List Rule) → Sweepable s rules entry → s .used - n .removed + n .added ≤ capacity keys
+    pub sweep-done : s .used - n .removed + n .added ≤ capacity keys
         → JudgesBy s numbers keys line now us fs Sweep (Accepted (record { change = change.Sweep (n .removed) (n .added); answer = Swept (n .removed) (n .added) }))
     unfolding added rowsAfter removed reply
-    sweep-done rules fit l =
+    sweep-done l =
         let z = rows-length numbers keys (s .used) in
         let e = swept-length us now (s .next) (rowsIn s numbers keys) in
         let a = judged .added .is in
         let r = judged .removed .is in
         let q = judged .removed .most in
-        let f : fatesIn (take (length (rowsIn s numbers keys)) fs) ≡ fates us now none (rowsIn s numbers keys) = rw z (judged .fates-are) in
+        let f : fatesIn (take (length (rowsIn s numbers keys)) fs) ≡ fates us now none (rowsIn s numbers keys) = rw (judged .fates-are) (fates-after us now (rowsIn s numbers keys) entry) in
+        let o : length (rowsIn s numbers keys) ≤ length fs = rw (judged .fates-are) (after-long us now (rowsIn s numbers keys) entry) in
         accept _ (capacity keys) (bucketBy s us (rowsIn s numbers keys)) (both now) Sweep (sweep-open s us (rowsIn s numbers keys) now)
         (rw (judged .added .is) at left)
         (record { change = change.Sweep (n .removed) (n .added); answer = Swept (n .removed) (n .added) })
@@ -131,6 +133,6 @@ module _ (s : State) (numbers keys line : List ℕ) (now : ℕ) (us : List model
         (rw f)
         a
         (rw (a, r))
-        ((rw f r, rw f a, omega arith, omega arith, left, omega (arith, judged .long, fit .long)), tt)
+        ((rw f r, rw f a, omega arith, omega arith, left, o), tt)
 
 pub ruleset sweep-ways = (sweep-asks, sweep-spent, sweep-full, sweep-done)

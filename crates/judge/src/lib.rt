@@ -31,9 +31,9 @@ ghost use Rattle.table.specs.Places.{rowFrom};
 ghost use Rattle.search.specs.Places.{keyPlace};
 ghost use Rattle.fields.specs.Meaning.{modeMeans, untilMeans, holdMeans, Inside};
 ghost use Rattle.request.specs.Meaning.{nameMeans, retentionMeans, termsMeans, actionMeans, ActionInside};
+ghost use Rattle.lifecycle.specs.Fates.{fatesAfter};
 ghost use Rattle.verdict.specs.State.{rowsIn, Ready};
-ghost use Rattle.verdict.specs.Meaning.{Looks};
-ghost use Rattle.judge.specs.Premises.{Asked, Sweepable, JudgesBy, JudgesOn};
+ghost use Rattle.judge.specs.Premises.{Asked, Looks, Sweepable, JudgesBy, JudgesOn};
 
 // The row that a name in the line names.
 fn look_up(rows: &[u64], keys: &[u8], line: &[u8], s: State, name: Name) -> Looked
@@ -155,6 +155,7 @@ fn judge_new(
     })
 }
 
+// COPY: its source is found, then it is a PUT.
 fn judge_copy(
     rows: &[u64],
     keys: &[u8],
@@ -179,6 +180,7 @@ fn judge_copy(
     judge_new(rows, keys, line, s, key, n.body, n.size, terms, instant)
 }
 
+// RETAIN, by its rule.
 fn judge_retain(
     rows: &[u64],
     keys: &[u8],
@@ -208,6 +210,7 @@ fn judge_retain(
     Verdict::Refused(9)
 }
 
+// HOLD, at every instant alike: `instant` stands for the contract, which is of the line's now.
 fn judge_hold(
     rows: &[u64],
     keys: &[u8],
@@ -233,6 +236,7 @@ fn judge_hold(
     })
 }
 
+// GET, at every instant alike.
 fn judge_get(rows: &[u64], keys: &[u8], line: &[u8], s: State, name: Name, instant: u64) -> Verdict
     requires { ⌜ Asked s (now rows) (now keys) instant (model.Ask (model.Get (nameMeans (now line) name))) ⌝ }
     requires { ⌜ Inside (now line) (name .key) ⌝ }
@@ -258,7 +262,7 @@ fn judge_get(rows: &[u64], keys: &[u8], line: &[u8], s: State, name: Name, insta
     })
 }
 
-// DELETE with `-`.
+// DELETE with `-`, which no lock bars: `bypass` stands for the contract, which is of the line's verb.
 fn judge_marker(
     rows: &[u64],
     keys: &[u8],
@@ -331,7 +335,7 @@ fn judge_delete(
     })
 }
 
-// SWEEP, whose judgement of each row is left in the fates.
+// SWEEP, whose judgement of each row is left in the fates, accepted or refused.
 pub fn judge_sweep(
     rows: &[u64],
     keys: &[u8],
@@ -343,9 +347,10 @@ pub fn judge_sweep(
     requires { ⌜ Asked s (now rows) (now keys) instant model.Sweep ⌝ }
     requires { ⌜ Sweepable s rules (now fates) ⌝ }
     ensures { λ r. ⌜ ((line : List ℕ) → JudgesBy s (now (rows .entry)) (now (keys .entry)) line instant (rulesMean rules) (now (fates .exit)) model.Sweep r) ⌝ }
+    ensures { λ _. ⌜ now (fates .exit) ≡ fatesAfter (rulesMean rules) instant (rowsIn s (now (rows .entry)) (now (keys .entry))) (now (fates .entry)) ⌝ }
 {
     let used = s.used;
-    let n = lifecycle::judge(rows, keys, used, rules, instant, fates);
+    let n = lifecycle::judge_table(rows, keys, used, rules, instant, fates);
     let gone = n.removed;
     let new = n.added;
     if settings::SPENT < s.next + new as u64 {

@@ -22,7 +22,7 @@ use Rattle.table.specs.Places.{keyAt}
 use Rattle.lifecycle.specs.declared.Limits.{Limits}
 use Rattle.lifecycle.specs.declared.Chosen.{Chosen}
 use Rattle.lifecycle.specs.Least.{limitsOf}
-use Rattle.lifecycle.specs.Flat.{ruleIn, rulesIn, mayBegin, Rules, Laid, RulePut, ChosenBy, Applied}
+use Rattle.lifecycle.specs.Flat.{ruleIn, rulesIn, mayBegin, Rules, Laid, RulePut, ChosenBy, RulesFor}
 use Rattle.lifecycle.proofs.Laying.{laid-more}
 
 -- ## The rules that may begin a key
@@ -173,7 +173,7 @@ unfolding limitsOf
 limits-by vs us k e = rw e
 
 pub applied : (us : List model.Rule) (b : List ℕ) (i : ℕ) (near periods : List ℕ) (w : ℕ) (o : Chosen) (key : List ℕ) (l : Limits) → Within w (getD b (64 * i + 1) 0) 255
-    → ChosenBy us near periods w o → key ≡ keyAt b i → l ≡ limitsOf (rulesIn near periods (o .count)) key → Applied us (keyAt b i) near periods (record { limits = l; chosen = o })
+    → ChosenBy us near periods w o → key ≡ keyAt b i → l ≡ limitsOf (rulesIn near periods (o .count)) key → RulesFor us (keyAt b i) near periods (record { limits = l; chosen = o })
 applied us b i near periods w o key l h c ek el =
     let d : ChosenBy us near periods (getD b (64 * i + 1) 0) o = rw (h .is) at c in
     let q = ap (λ (vs : List model.Rule). applying vs (keyAt b i)) (d .laid .are) ∙ applying-near us b i in

@@ -1,22 +1,64 @@
--- Fates as numbers, and how many they count.
-use Prim.Native.Nat.{ℕ, _+_, _-_, _≤_, _<_}
+-- Fates as bytes, and how many they count.
+use Prim.Native.Nat.{ℕ, suc, _+_, _-_, _≤_, _<_}
 use mathlib.Core.Path.{_≡_, refl, sym, ap, _∙_}
 use mathlib.Core.Logic.{inl, inr}
 use mathlib.Core.List.{List, [], _∷_, _++_}
+use mathlib.Core.Option.{Option, some, none}
 use native.Mathlib.Omega.{arith}
 use lib.Dec.{eqb}
 use borrow.Author.Tests.{ne-eqb}
 use Rattle.buffers.proofs.Tests.{either}
-use Rattle.model.specs.Sweep.{Fate, stays, marks, removes, total}
-use Rattle.lifecycle.specs.Fates.{fateOf, fatesIn}
+use Rattle.model.specs.Rows.{Row}
+use Rattle.model.specs.Settings.{Rule}
+use Rattle.model.specs.Sweep.{Fate, stays, goes, gains, marks, removes, fates, total}
+use Rattle.lifecycle.specs.Fates.{fateByte, fateBytes, fatesAfter, fateOf, fatesIn}
 use native.Mathlib.Numerals.{add-one}
-use lib.ListN.{length, getD, take, drop}
-use lib.Seq.{take-suc, take-add}
+use lib.ListN.{length, getD, take, drop, length-append}
+use lib.Seq.{take-suc, take-add, take-at}
 use Rattle.buffers.specs.Ranges.{Within}
 use Rattle.buffers.specs.Words.{number}
 use Rattle.lifecycle.specs.Judging.{Counted, Passed}
 
--- ## The number of a fate
+-- ## The byte of a fate
+
+pub byte-stays : (f : Fate) → stays ≡ f → 0 ≡ fateByte f
+byte-stays f e = ap fateByte e
+
+pub byte-goes : (f : Fate) → goes ≡ f → 1 ≡ fateByte f
+byte-goes f e = ap fateByte e
+
+pub byte-gains : (f : Fate) → gains ≡ f → 2 ≡ fateByte f
+byte-gains f e = ap fateByte e
+
+pub ruleset bytes-of = (byte-stays, byte-goes, byte-gains)
+
+fates-back : (fs : List Fate) → fatesIn (fateBytes fs) ≡ fs
+fates-back [] = refl
+fates-back (stays ∷ fs) = ap (λ (l : List Fate). stays ∷ l) (fates-back fs)
+fates-back (goes ∷ fs) = ap (λ (l : List Fate). goes ∷ l) (fates-back fs)
+fates-back (gains ∷ fs) = ap (λ (l : List Fate). gains ∷ l) (fates-back fs)
+
+bytes-length : (fs : List Fate) → length (fateBytes fs) ≡ length fs
+bytes-length [] = refl
+bytes-length (f ∷ fs) = ap suc (bytes-length fs)
+
+module _ (us : List Rule) (t : ℕ) where
+  each-fate : (y : Option Row) (xs : List Row) → length (fates us t y xs) ≡ length xs
+  each-fate y [] = refl
+  each-fate y (x ∷ xs) = ap suc (each-fate (some x) xs)
+
+  module _ (xs : List Row) (entry : List ℕ) where
+    all-bytes : length (fateBytes (fates us t none xs)) ≡ length xs
+    all-bytes = bytes-length (fates us t none xs) ∙ each-fate none xs
+
+    -- The bytes after a judgement stand for the rows' fates.
+    pub fates-after : fatesIn (take (length xs) (fatesAfter us t xs entry)) ≡ fates us t none xs
+    unfolding fatesAfter
+    fates-after = ap fatesIn (take-at (fateBytes (fates us t none xs)) (drop (length xs) entry) (length xs) all-bytes) ∙ fates-back (fates us t none xs)
+
+    pub after-long : length xs ≤ length (fatesAfter us t xs entry)
+    unfolding fatesAfter
+    after-long = let a = length-append (fateBytes (fates us t none xs)) (drop (length xs) entry) in let b = all-bytes in omega arith
 
 pub one-removed : (f : ℕ) → f ≡ 1 → 1 ≡ removes (fateOf f)
 one-removed f h = rw h
@@ -33,6 +75,10 @@ none-marked f h = elim (either (eqb f 1)) [ inl e ↦ simp e | inr e ↦ simp (e
 pub ruleset counts = (one-removed, none-removed, one-marked, none-marked)
 
 -- ## One fate more
+
+pub fates-length : (fs : List ℕ) → length (fatesIn fs) ≡ length fs
+fates-length [] = refl
+fates-length (f ∷ fs) = ap suc (fates-length fs)
 
 pub fates-append : (fs gs : List ℕ) → fatesIn (fs ++ gs) ≡ fatesIn fs ++ fatesIn gs
 fates-append [] gs = refl

@@ -6,8 +6,8 @@ use mathlib.Core.List.{List, [], _∷_, _++_, append-assoc, append-nil}
 use mathlib.Core.Option.{none}
 use native.Mathlib.Omega.{arith}
 use native.Mathlib.Numerals.{add-one}
-use lib.ListN.{length, getD, take, drop, set, length-set, drop-of-length-le}
-use lib.Seq.{drop-cons, take-suc-set}
+use lib.ListN.{length, getD, take, drop, set, length-set, take-append-drop, drop-of-length-le}
+use lib.Seq.{drop-cons, drop-drop, drop-set-lt, take-suc-set}
 use borrow.Author.Tests.{ne-eqb}
 use Rattle.buffers.specs.Lists.{all, keep, same}
 use Rattle.buffers.proofs.Lists.{same-path}
@@ -23,14 +23,14 @@ use Rattle.table.proofs.Held.{rows-length, row-at}
 use Rattle.lifecycle.specs.declared.Limits.{Limits}
 use Rattle.lifecycle.specs.declared.KeyRules.{KeyRules}
 use Rattle.lifecycle.specs.Least.{limitsOf}
-use Rattle.lifecycle.specs.Flat.{rulesIn, mayBegin, Laid, Applied}
+use Rattle.lifecycle.specs.Flat.{rulesIn, mayBegin, Laid, RulesFor}
 use Rattle.lifecycle.proofs.Choosing.{chosen-now}
 use Rattle.lifecycle.specs.declared.Counts.{Counts}
 use Rattle.lifecycle.specs.Days.{fewDays}
-use Rattle.lifecycle.specs.Fates.{fateOf, fatesIn}
-use Rattle.lifecycle.specs.Judging.{currentBy, noncurrentBy, rowBefore, sameKey, Known, Keys, Readable, Dated, Left, JudgedRow, JudgedAll, Counted, JudgedRows}
+use Rattle.lifecycle.specs.Fates.{fateByte, fateBytes, fatesAfter, fatesIn}
+use Rattle.lifecycle.specs.Judging.{currentBy, noncurrentBy, rowBefore, sameKey, Known, Keys, Readable, Dated, LastRules, JudgedRow, JudgedAll, Counted, JudgedRows}
 use Rattle.lifecycle.proofs.Days.{current-most, noncurrent-most}
-use Rattle.lifecycle.proofs.Fates.{fates-append}
+use Rattle.lifecycle.proofs.Fates.{fates-after}
 use Rattle.lifecycle.proofs.RowFates.{current-is, noncurrent-is}
 
 -- ## The key of the row before
@@ -92,19 +92,17 @@ known-here us n b zero l k e = absurd (false≢true (sym (same-none b) ∙ e))
 known-here us n b (suc i) l k e = k ∙ ap (limitsOf us) (same-path (keyAt b i) (keyAt b (suc i)) (sym (same-some b i) ∙ e))
 
 module _ (us : List model.Rule) (n b : List ℕ) (i : ℕ) (near periods : List ℕ) (r : Bool) (e : r ≡ sameKey b i) where
-  module _ (l : KeyRules) (k : Left us (rowBefore n b i) near periods l) where
+  module _ (l : KeyRules) (k : LastRules us (rowBefore n b i) near periods l) where
     pub known-most : all fewDays us ≡ true → r ≡ true → l .limits .noncurrent ≤ 36500
     known-most h t = noncurrent-most us (keyAt b i) (l .limits) h (known-here us n b i (l .limits) (k .known) (sym e ∙ t))
 
-    pub judged-later : (t : ℕ) (m : List ℕ) (f : ℕ) → r ≡ true → ((z : List ℕ) → fateOf f ≡ noncurrentBy (l .limits .noncurrent) (rowAt n z (i - 1) .created) t (rowAt n z i))
+    pub judged-later : (t : ℕ) (m : List ℕ) (f : ℕ) → r ≡ true → ((z : List ℕ) → f ≡ fateByte (noncurrentBy (l .limits .noncurrent) (rowAt n z (i - 1) .created) t (rowAt n z i)))
         → JudgedRow us t n b i near periods m (set m i f) l
     judged-later t m f q g =
         let o = known-here us n b i (l .limits) (k .known) (sym e ∙ q) in
         record {
-          number = f;
-          stored = refl;
-          fate-is = g b ∙ later-fate i (sym e ∙ q) o;
-          left = record { known = o; chosen-by = k .chosen-by };
+          stored = ap (set m i) (g b ∙ ap fateByte (later-fate i (sym e ∙ q) o));
+          last = record { known = o; chosen-by = k .chosen-by };
           long = k .chosen-by .laid .long;
           periods-long = k .chosen-by .laid .days-long;
         }
@@ -117,18 +115,16 @@ module _ (us : List model.Rule) (n b : List ℕ) (i : ℕ) (near periods : List 
             let p : suc j - 1 ≡ j = omega arith in
             rw (p, o, s) (noncurrent-is us t (rowAt n b j) (rowAt n b (suc j)))
 
-module _ (us : List model.Rule) (n b : List ℕ) (i : ℕ) (near periods : List ℕ) (l : KeyRules) (k : Applied us (keyAt b i) near periods l) where
+module _ (us : List model.Rule) (n b : List ℕ) (i : ℕ) (near periods : List ℕ) (l : KeyRules) (k : RulesFor us (keyAt b i) near periods l) where
   pub first-most : all fewDays us ≡ true → l .limits .current ≤ 36500
   first-most h = current-most us (keyAt b i) (l .limits) h (k .limits-are)
 
-  pub judged-first : (r : Bool) (t : ℕ) (m : List ℕ) (f : ℕ) → r ≡ sameKey b i → r ≡ false → ((z : List ℕ) → fateOf f ≡ currentBy (l .limits .current) t (rowAt n z i))
+  pub judged-first : (r : Bool) (t : ℕ) (m : List ℕ) (f : ℕ) → r ≡ sameKey b i → r ≡ false → ((z : List ℕ) → f ≡ fateByte (currentBy (l .limits .current) t (rowAt n z i)))
       → JudgedRow us t n b i near periods m (set m i f) l
   judged-first r t m f e q g =
       record {
-        number = f;
-        stored = refl;
-        fate-is = g b ∙ first-fate i (sym e ∙ q) (k .limits-are);
-        left = record { known = k .limits-are; chosen-by = k .chosen-by };
+        stored = ap (set m i) (g b ∙ ap fateByte (first-fate i (sym e ∙ q) (k .limits-are)));
+        last = record { known = k .limits-are; chosen-by = k .chosen-by };
         long = k .long;
         periods-long = k .periods-long;
       }
@@ -153,35 +149,40 @@ rows-end n b u = let e = rows-length n b u in drop-of-length-le (rowsOf n b u) {
 
 -- ## The loop over the rows
 
--- what holds at each turn: the fates so far and those of the rest are all
+-- what holds at each turn: the fates so far and those of the rest are all, and the bytes behind them are as they were
 pub record Judging (us : List model.Rule) (t : ℕ) (n b : List ℕ) (u : ℕ) (near periods entry m : List ℕ) (l : KeyRules) (i : ℕ) : Type 0 where
   pub low : i ≤ u
   pub long : length m ≡ length entry
-  pub done : fatesIn (take i m) ++ fates us t (rowBefore n b i) (drop i (rowsOf n b u)) ≡ fates us t none (rowsOf n b u)
-  pub left : Left us (rowBefore n b i) near periods l
+  pub done : take i m ++ fateBytes (fates us t (rowBefore n b i) (drop i (rowsOf n b u))) ≡ fateBytes (fates us t none (rowsOf n b u))
+  pub rest : drop i m ≡ drop i entry
+  pub last : LastRules us (rowBefore n b i) near periods l
 
 module _ (us : List model.Rule) (t : ℕ) (n b : List ℕ) (u : ℕ) (near periods entry m : List ℕ) (l : KeyRules) (i : ℕ) where
   pub judging-step : (near′ periods′ m′ : List ℕ) (r : KeyRules) → Judging us t n b u near periods entry m l i → i < u → u ≤ length entry
       → JudgedRow us t n b i near′ periods′ m m′ r → Judging us t n b u near′ periods′ entry m′ r (i + 1)
   judging-step near′ periods′ m′ r h g k d =
       let q : i < length m = omega (arith, h .long) in
+      let v : ℕ = fateByte (fate us t (rowBefore n b i) (rowAt n b i)) in
+      let z : drop (i + 1) m ≡ drop (i + 1) entry = sym (drop-drop 1 i m) ∙ ap (drop 1) (h .rest) ∙ drop-drop 1 i entry in
       rw (add-one i, d .stored)
       (record {
         low = omega arith;
-        long = length-set m i (d .number) ∙ h .long;
-        done =
-            rw (take-suc-set m i (d .number) q, fates-append, append-assoc, d .fate-is)
-            (sym (rw (rows-next n b u i g)) ∙ h .done);
-        left = d .left;
+        long = length-set m i v ∙ h .long;
+        done = rw (take-suc-set m i v q, append-assoc) (sym (rw (rows-next n b u i g)) ∙ h .done);
+        rest = drop-set-lt (suc i) m i v (omega arith) ∙ rw add-one at z;
+        last = d .last;
       })
 
   pub judging-end : Judging us t n b u near periods entry m l i → u ≤ i → u ≤ length entry → JudgedAll us t (rowsOf n b u) u entry m
+  unfolding fatesAfter
   judging-end h g k =
       let e : i ≡ u = omega (arith, h .low) in
-      record { fates-are = rw (e, rows-end n b u, append-nil) at (h .done); long = h .long; enough = omega (arith, h .long) }
+      let d : take u m ≡ fateBytes (fates us t none (rowsOf n b u)) = rw (e, rows-end n b u, append-nil) at (h .done) in
+      let r : drop u m ≡ drop u entry = rw e at (h .rest) in
+      record { fates-are = sym (take-append-drop u m) ∙ rw (d, r, rows-length n b u); enough = omega (arith, h .long) }
 
-pub judging-start : (us : List model.Rule) (t : ℕ) (n b : List ℕ) (u : ℕ) (near periods entry : List ℕ) (l : KeyRules) → Left us none near periods l → Judging us t n b u near periods entry entry l 0
-judging-start us t n b u near periods entry l h = record { low = omega arith; long = refl; done = refl; left = h }
+pub judging-start : (us : List model.Rule) (t : ℕ) (n b : List ℕ) (u : ℕ) (near periods entry : List ℕ) (l : KeyRules) → LastRules us none near periods l → Judging us t n b u near periods entry entry l 0
+judging-start us t n b u near periods entry l h = record { low = omega arith; long = refl; done = refl; rest = refl; last = h }
 
 pub fates-long : (us : List model.Rule) (t : ℕ) (n b : List ℕ) (u : ℕ) (near periods entry m : List ℕ) (l : KeyRules) (i : ℕ) → Judging us t n b u near periods entry m l i
     → i < u → u ≤ length entry → i < length m
@@ -203,16 +204,17 @@ pub ruleset judge-cases = (readable-fewer, judging-start, judging-step, judging-
 pub laid-few : (p d : List ℕ) (us : List model.Rule) → Laid p d 8 us → all fewDays us ≡ true → all fewDays (rulesIn p d 8) ≡ true
 laid-few p d us l e = ap (all fewDays) (l .are) ∙ e
 
-pub left-first : (us : List model.Rule) (near periods : List ℕ) (n : ℕ) (l : Limits) → Laid near periods n (keep (mayBegin 0) us) → Left us none near periods (record { limits = l; chosen = record { first = 0; count = n } })
+pub left-first : (us : List model.Rule) (near periods : List ℕ) (n : ℕ) (l : Limits) → Laid near periods n (keep (mayBegin 0) us) → LastRules us none near periods (record { limits = l; chosen = record { first = 0; count = n } })
 left-first us near periods n l h = record { known = tt; chosen-by = chosen-now us near periods 0 n h }
 
-pub judged-laid : (p d : List ℕ) (us : List model.Rule) (t : ℕ) (xs : List Row) (u : ℕ) (entry exit : List ℕ) (r : Counts) → Laid p d 8 us
-    → JudgedAll (rulesIn p d 8) t xs u entry exit → Counted exit u (r .removed) (r .added) → JudgedRows us t xs u entry exit r
-judged-laid p d us t xs u entry exit r l h c =
-    let e : fatesIn (take u exit) ≡ fates us t none xs = h .fates-are ∙ rw (l .are) in
+pub judged-laid : (p d : List ℕ) (us : List model.Rule) (t : ℕ) (n b : List ℕ) (u : ℕ) (entry exit : List ℕ) (r : Counts) → Laid p d 8 us
+    → JudgedAll (rulesIn p d 8) t (rowsOf n b u) u entry exit → Counted exit u (r .removed) (r .added) → JudgedRows us t (rowsOf n b u) u entry exit r
+judged-laid p d us t n b u entry exit r l h c =
+    let f : exit ≡ fatesAfter us t (rowsOf n b u) entry = h .fates-are ∙ rw (l .are) in
+    let e : fatesIn (take u exit) ≡ fates us t none (rowsOf n b u) =
+    ap (λ (k : ℕ). fatesIn (take k exit)) (sym (rows-length n b u)) ∙ rw f (fates-after us t (rowsOf n b u) entry) in
     record {
-      fates-are = e;
-      long = h .long;
+      fates-are = f;
       removed = record { is = rw e at (c .gone .is); most = c .gone .most };
       added = record { is = rw e at (c .come .is); most = c .come .most };
     }

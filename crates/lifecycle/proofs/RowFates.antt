@@ -18,6 +18,7 @@ use Rattle.lifecycle.specs.Least.{limitsOf}
 use Rattle.lifecycle.specs.Days.{over}
 use Rattle.lifecycle.specs.Judging.{currentBy, noncurrentBy, Dated}
 use Rattle.lifecycle.proofs.Days.{due-least}
+use Rattle.lifecycle.proofs.Fates.{bytes-of}
 
 -- ## A row's fate by the least days
 
@@ -62,7 +63,7 @@ module _ (n : List ℕ) (i : ℕ) (m : Numbers) (e : m ≡ numbersIn (take 8 (dr
       unfolding currentBy
       current-early q = sym (simp (eq-eqb _ _ h, sym o ∙ q)) ∙ current-at
 
-pub ruleset current-cases = (dated, current-marker, current-over, current-early)
+pub ruleset current-cases = (bytes-of, dated, current-marker, current-over, current-early)
 
 module _ (n : List ℕ) (i : ℕ) (p : Numbers) (f : p ≡ numbersIn (take 8 (drop (8 * (i - 1)) n))) (d t : ℕ) (b : List ℕ) (r : Bool) (o : r ≡ over d (p .created) t) where
   over-at : over d (rowAt n b (i - 1) .created) t ≡ r
@@ -84,4 +85,4 @@ module _ (n : List ℕ) (i : ℕ) (p : Numbers) (f : p ≡ numbersIn (take 8 (dr
     unfolding noncurrentBy
     noncurrent-gone z = sym (simp (over-at ∙ q, locked-at ∙ z))
 
-pub ruleset noncurrent-cases = (dated, noncurrent-early, noncurrent-locked, noncurrent-gone)
+pub ruleset noncurrent-cases = (bytes-of, dated, noncurrent-early, noncurrent-locked, noncurrent-gone)

@@ -52,7 +52,7 @@ pub record ChosenBy (us : List model.Rule) (near periods : List ℕ) (b : ℕ) (
   pub laid : Laid near periods (r .count) (keep (mayBegin b) us)
 
 -- What the rules set for a key, and those of them that may begin it.
-pub record Applied (us : List model.Rule) (key near periods : List ℕ) (r : KeyRules) : Type 0 where
+pub record RulesFor (us : List model.Rule) (key near periods : List ℕ) (r : KeyRules) : Type 0 where
   pub limits-are : r .limits ≡ limitsOf us key
   pub chosen-by : ChosenBy us near periods (r .chosen .first) (r .chosen)
   pub long : length near ≡ 512

@@ -14,7 +14,7 @@ use Rattle.blocks.specs.Blocks.{isBlock}
 use Rattle.model.specs.Rows.{Row, isData}
 use Rattle.model.specs.Settings as model
 use Rattle.model.specs.Locks.{locked}
-use Rattle.model.specs.Sweep.{Fate, stays, goes, gains, fate, marks, removes, counted, fates, total}
+use Rattle.model.specs.Sweep.{Fate, stays, goes, gains, fate, marks, removes, counted, total}
 use Rattle.settings.specs.declared.Rule.{Rule}
 use Rattle.settings.specs.Meaning.{rulesMean, prefixesAre}
 use Rattle.table.specs.Layout.{rowAt}
@@ -25,7 +25,7 @@ use Rattle.lifecycle.specs.Least.{limitsOf}
 use Rattle.lifecycle.specs.Flat.{ChosenBy}
 use Rattle.lifecycle.specs.declared.Counts.{Counts}
 use Rattle.lifecycle.specs.Days.{over, fewDays}
-use Rattle.lifecycle.specs.Fates.{fateOf, fatesIn}
+use Rattle.lifecycle.specs.Fates.{fateByte, fatesAfter, fatesIn}
 
 -- ## A row's fate by its key's days
 
@@ -79,24 +79,21 @@ pub record Dated (rows : List ℕ) (at : ℕ) : Type 0 where
   pub within : 8 * at + 8 ≤ length rows
   pub instant : numbersIn (take 8 (drop (8 * at) rows)) .created ≤ latest
 
--- What the rules set for a row's key, and those of them that may begin it, if there is a row.
-pub record Left (us : List model.Rule) (y : Option Row) (near periods : List ℕ) (r : KeyRules) : Type 0 where
+-- What the rules set for the key of the last row judged, and those of them that may begin it, if there is a row.
+pub record LastRules (us : List model.Rule) (y : Option Row) (near periods : List ℕ) (r : KeyRules) : Type 0 where
   pub known : Known us y (r .limits)
   pub chosen-by : ChosenBy us near periods (r .chosen .first) (r .chosen)
 
--- A row's fate was stored as a number.
+-- A row's fate was stored.
 pub record JudgedRow (us : List model.Rule) (now : ℕ) (rows keys : List ℕ) (at : ℕ) (near periods entry exit : List ℕ) (r : KeyRules) : Type 0 where
-  pub number : ℕ
-  pub stored : exit ≡ set entry at number
-  pub fate-is : fateOf number ≡ fate us now (rowBefore rows keys at) (rowAt rows keys at)
-  pub left : Left us (some (rowAt rows keys at)) near periods r
+  pub stored : exit ≡ set entry at (fateByte (fate us now (rowBefore rows keys at) (rowAt rows keys at)))
+  pub last : LastRules us (some (rowAt rows keys at)) near periods r
   pub long : length near ≡ 512
   pub periods-long : length periods ≡ 16
 
 -- The fates of all rows were stored.
 pub record JudgedAll (us : List model.Rule) (now : ℕ) (xs : List Row) (used : ℕ) (entry exit : List ℕ) : Type 0 where
-  pub fates-are : fatesIn (take used exit) ≡ fates us now none xs
-  pub long : length exit ≡ length entry
+  pub fates-are : exit ≡ fatesAfter us now xs entry
   pub enough : used ≤ length exit
 
 -- How many rows the first n fates remove, and how many markers they add.
@@ -112,7 +109,6 @@ pub record Passed (fs : List ℕ) (from to used : ℕ) : Type 0 where
 
 -- The fates of all rows, and how many rows go and how many markers come.
 pub record JudgedRows (us : List model.Rule) (now : ℕ) (xs : List Row) (used : ℕ) (entry exit : List ℕ) (r : Counts) : Type 0 where
-  pub fates-are : fatesIn (take used exit) ≡ fates us now none xs
-  pub long : length exit ≡ length entry
+  pub fates-are : exit ≡ fatesAfter us now xs entry
   pub removed : Within (r .removed) (counted removes us now none xs) used
   pub added : Within (r .added) (counted marks us now none xs) used

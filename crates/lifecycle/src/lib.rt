@@ -20,8 +20,8 @@ ghost use Rattle.table.specs.Layout.{rowAt, rowsOf};
 ghost use Rattle.table.specs.Places.{rowFrom};
 ghost use Rattle.lifecycle.specs.Flat.{rulesIn, Rules};
 ghost use Rattle.lifecycle.specs.Days.{over, fewDays};
-ghost use Rattle.lifecycle.specs.Fates.{fateOf};
-ghost use Rattle.lifecycle.specs.Judging.{Keys, currentBy, noncurrentBy, rowBefore, sameKey, Readable, Judgeable, Dated, Left, JudgedRow, JudgedAll, Counted, Passed, JudgedRows};
+ghost use Rattle.lifecycle.specs.Fates.{fateByte, fateOf};
+ghost use Rattle.lifecycle.specs.Judging.{Keys, currentBy, noncurrentBy, rowBefore, sameKey, Readable, Judgeable, Dated, LastRules, JudgedRow, JudgedAll, Counted, Passed, JudgedRows};
 
 // The least days that the rules set for a key's rows, 0 for none.
 struct Limits {
@@ -68,7 +68,7 @@ pub fn is_locked(n: Numbers, instant: u64, bypass: bool) -> bool
 // The fate of the current row at a position, by its key's days.
 fn current_fate(rows: &[u64], at: usize, days: u64, instant: u64) -> u8
     requires { ⌜ Dated (now rows) at × (days ≤ 36500) ⌝ }
-    ensures { λ r. ⌜ ((keys : List ℕ) → fateOf r ≡ currentBy days instant (rowAt (now (rows .entry)) keys at)) ⌝ }
+    ensures { λ r. ⌜ ((keys : List ℕ) → r ≡ fateByte (currentBy days instant (rowAt (now (rows .entry)) keys at))) ⌝ }
 {
     let n = table::numbers_at(rows, at);
     if n.kind != 1 {
@@ -83,7 +83,7 @@ fn current_fate(rows: &[u64], at: usize, days: u64, instant: u64) -> u8
 // The fate of a row that isn't current, by its key's days since the creation of the next newer row, the one before it.
 fn noncurrent_fate(rows: &[u64], at: usize, days: u64, instant: u64) -> u8
     requires { ⌜ (1 ≤ at) × Dated (now rows) (at - 1) × Dated (now rows) at × (days ≤ 36500) ⌝ }
-    ensures { λ r. ⌜ ((keys : List ℕ) → fateOf r ≡ noncurrentBy days (rowAt (now (rows .entry)) keys (at - 1) .created) instant (rowAt (now (rows .entry)) keys at)) ⌝ }
+    ensures { λ r. ⌜ ((keys : List ℕ) → r ≡ fateByte (noncurrentBy days (rowAt (now (rows .entry)) keys (at - 1) .created) instant (rowAt (now (rows .entry)) keys at))) ⌝ }
 {
     let n = table::numbers_at(rows, at);
     let newer = table::numbers_at(rows, at - 1);
@@ -141,7 +141,7 @@ fn judge_row(
 ) -> KeyRules
     requires { ⌜ Readable (now rows) (now keys) (at + 1) × Rules (now prefixes) (now days) 8 × (at < length (now fates)) ⌝ }
     requires { ⌜ all fewDays (rulesIn (now prefixes) (now days) 8) ≡ true ⌝ }
-    requires { ⌜ Left (rulesIn (now prefixes) (now days) 8) (rowBefore (now rows) (now keys) at) (now near) (now periods) last ⌝ }
+    requires { ⌜ LastRules (rulesIn (now prefixes) (now days) 8) (rowBefore (now rows) (now keys) at) (now near) (now periods) last ⌝ }
     ensures { λ r. ⌜ JudgedRow (rulesIn (now (prefixes .entry)) (now (days .entry)) 8) instant (now (rows .entry)) (now (keys .entry)) at (now (near .exit)) (now (periods .exit)) (now (fates .entry)) (now (fates .exit)) r ⌝ }
 {
     if same_key(keys, at) {
@@ -169,7 +169,7 @@ fn judge_rows(
 )
     requires { ⌜ Readable (now rows) (now keys) used × Rules (now prefixes) (now days) 8 × (used ≤ length (now fates)) ⌝ }
     requires { ⌜ all fewDays (rulesIn (now prefixes) (now days) 8) ≡ true ⌝ }
-    requires { ⌜ Left (rulesIn (now prefixes) (now days) 8) none (now near) (now periods) start ⌝ }
+    requires { ⌜ LastRules (rulesIn (now prefixes) (now days) 8) none (now near) (now periods) start ⌝ }
     ensures { λ _. ⌜ JudgedAll (rulesIn (now (prefixes .entry)) (now (days .entry)) 8) instant (rowsOf (now (rows .entry)) (now (keys .entry)) used) used (now (fates .entry)) (now (fates .exit)) ⌝ }
 {
     let mut last = start;
@@ -243,7 +243,7 @@ fn count(fates: &[u8], used: usize) -> Counts
 }
 
 // Judges every row, each key's rules once, and counts. A fate is 0 for a row that stays, 1 for one that goes, 2 for one that gains a marker.
-pub fn judge(
+pub fn judge_table(
     rows: &[u64],
     keys: &[u8],
     used: usize,

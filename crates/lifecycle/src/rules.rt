@@ -6,23 +6,23 @@ use settings::Rule;
 ghost use mathlib.Core.Path.{_≡_};
 ghost use mathlib.Core.Bool.{true};
 ghost use Prim.Native.Nat.{_+_, _*_, _≤_};
-ghost use lib.ListN.{length, getD, take, drop};
+ghost use lib.ListN.{length, getD, take, drop, replicate};
 ghost use Rattle.buffers.specs.Lists.{begins, keep};
 ghost use Rattle.settings.specs.Meaning.{rulesMean, prefixesAre};
 ghost use Rattle.table.specs.Places.{keyAt};
 ghost use Rattle.lifecycle.specs.Least.{lesser, limitsOf, tightened};
-ghost use Rattle.lifecycle.specs.Flat.{ruleIn, rulesIn, mayBegin, Rules, Laid, RulePut, ChosenBy, Applied};
+ghost use Rattle.lifecycle.specs.Flat.{ruleIn, rulesIn, mayBegin, Rules, Laid, RulePut, ChosenBy, RulesFor};
 
 // Room for the prefixes of eight rules.
 pub fn no_prefixes() -> [u8; 512]
-    ensures { λ r. ⌜ length r ≡ 512 ⌝ }
+    ensures { λ r. ⌜ r ≡ replicate 512 0 ⌝ }
 {
     [0u8; 512]
 }
 
 // Room for the days of eight rules.
 pub fn no_days() -> [u64; 16]
-    ensures { λ r. ⌜ length r ≡ 16 ⌝ }
+    ensures { λ r. ⌜ r ≡ replicate 16 0 ⌝ }
 {
     [0u64; 16]
 }
@@ -44,7 +44,7 @@ fn lesser(a: u64, b: u64) -> u64
 }
 
 // Writes a rule at a place of the flat rules.
-fn put_rule(
+fn write_rule(
     prefixes: &mut [u8],
     days: &mut [u64],
     at: usize,
@@ -69,7 +69,7 @@ pub fn lay_rules(rules: [Rule; 8], prefixes: &mut [u8], days: &mut [u64])
     while n < 8 {
         let rule = rules[7 - n];
         let prefix = rule.prefix;
-        put_rule(prefixes, days, n, &prefix, rule.current, rule.noncurrent);
+        write_rule(prefixes, days, n, &prefix, rule.current, rule.noncurrent);
         n += 1;
     }
 }
@@ -100,7 +100,7 @@ fn copy_rule(
     let end = start + 64;
     let current = days[2 * at];
     let noncurrent = days[2 * at + 1];
-    put_rule(
+    write_rule(
         near,
         periods,
         to,
@@ -205,7 +205,7 @@ pub fn rules_for(
 ) -> KeyRules
     requires { ⌜ Rules (now prefixes) (now days) 8 × (64 * at + 64 ≤ length (now keys)) × (getD (now keys) (64 * at) 0 ≤ 63) ⌝ }
     requires { ⌜ ChosenBy (rulesIn (now prefixes) (now days) 8) (now near) (now periods) (chosen .first) chosen ⌝ }
-    ensures { λ r. ⌜ Applied (rulesIn (now (prefixes .entry)) (now (days .entry)) 8) (keyAt (now (keys .entry)) at) (now (near .exit)) (now (periods .exit)) r ⌝ }
+    ensures { λ r. ⌜ RulesFor (rulesIn (now (prefixes .entry)) (now (days .entry)) 8) (keyAt (now (keys .entry)) at) (now (near .exit)) (now (periods .exit)) r ⌝ }
 {
     let first = buffers::wide(keys[64 * at + 1]);
     let own = choose_for(prefixes, days, first, near, periods, chosen);

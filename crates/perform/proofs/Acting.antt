@@ -3,7 +3,7 @@ use Prim.Native.Nat.{ℕ, _≤_}
 use mathlib.Core.Path.{_≡_, _∙_, ap}
 use mathlib.Core.List.{List, []}
 use native.Mathlib.Omega.{arith}
-use lib.ListN.{length}
+use lib.ListN.{length, replicate, length-replicate}
 use Rattle.model.specs.Requests as line-verb
 use Rattle.settings.specs.declared.Rule.{Rule}
 use Rattle.settings.specs.Meaning.{rulesMean}
@@ -17,7 +17,7 @@ use Rattle.verdict.specs.State.{bucketBy, rowsIn}
 use Rattle.verdict.specs.Meaning.{verdictMeans}
 use Rattle.judge.specs.Premises.{both, Asked, Sweepable, JudgesBy, JudgesOn}
 use Rattle.apply.specs.Applied.{judged}
-use Rattle.perform.specs.Steps.{Left, stepOf, Performable, Actable, Acted, SoundRules}
+use Rattle.perform.specs.Steps.{TableOutcome, stepOf, Performable, Actable, Acted, SoundRules}
 
 -- ## An action
 
@@ -25,7 +25,7 @@ module _ (line : List ℕ) (s : State) (n b a : List ℕ) (v : Action) (now : �
   pub act-performable : Performable line s n b o now fates a
   act-performable = record { ready = h .judgeable .ready; feasible = (j [] fates) .feasible; room = h .room }
 
-pub act-done : (line : List ℕ) (s : State) (n b a : List ℕ) (v : line-verb.Verb) (now : ℕ) (o : Verdict) (fates : List ℕ) (x : Left) → JudgesOn s n b line now v o
+pub act-done : (line : List ℕ) (s : State) (n b a : List ℕ) (v : line-verb.Verb) (now : ℕ) (o : Verdict) (fates : List ℕ) (x : TableOutcome) → JudgesOn s n b line now v o
     → x ≡ stepOf s n b a (verdictMeans (judged line (s .next) now fates) (rowsIn s n b) o) → Acted s n b a v now x
 act-done line s n b a v now o fates x j e = record { is = λ rules. e ∙ ap (λ (d : Decision). stepOf s n b a d) ((j rules fates) .is) }
 
@@ -33,15 +33,16 @@ pub ruleset acting = (act-performable, act-done)
 
 -- ## SWEEP
 
-pub sweep-judgeable : (s : State) (n b : List ℕ) (now : ℕ) (v : line-verb.Verb) (rules : List Rule) (fates : List ℕ) → Asked s n b now v → SoundRules rules → length fates ≡ 1024 → Sweepable s rules fates
-sweep-judgeable s n b now v rules fates h r l =
+pub sweep-judgeable : (s : State) (n b : List ℕ) (now : ℕ) (v : line-verb.Verb) (rules : List Rule) (fates : List ℕ) → Asked s n b now v → SoundRules rules → fates ≡ replicate 1024 0 → Sweepable s rules fates
+sweep-judgeable s n b now v rules fates h r e =
+    let l : length fates ≡ 1024 = ap length e ∙ length-replicate {A = ℕ} 1024 0 in
     record { prefixes = r .prefixes; rules-sound = r .sound; long = omega (arith, h .ready .used-fits, h .ready .capacity-fits) }
 
 module _ (line : List ℕ) (s : State) (n b a : List ℕ) (now : ℕ) (rules : List Rule) (fates : List ℕ) (o : Verdict) where
   pub sweep-performable : SoundRules rules → Asked s n b now line-verb.Sweep → ((l : List ℕ) → JudgesBy s n b l now (rulesMean rules) fates line-verb.Sweep o) → 256 ≤ length a → Performable line s n b o now fates a
   sweep-performable r h j l = record { ready = h .ready; feasible = (j line) .feasible; room = l }
 
-  pub sweep-done : (x : Left) → ((l : List ℕ) → JudgesBy s n b l now (rulesMean rules) fates line-verb.Sweep o) → x ≡ stepOf s n b a (verdictMeans (judged line (s .next) now fates) (rowsIn s n b) o)
+  pub sweep-done : (x : TableOutcome) → ((l : List ℕ) → JudgesBy s n b l now (rulesMean rules) fates line-verb.Sweep o) → x ≡ stepOf s n b a (verdictMeans (judged line (s .next) now fates) (rowsIn s n b) o)
       → x ≡ stepOf s n b a (tableDecision (capacity b) (bucketBy s (rulesMean rules) (rowsIn s n b)) (both now) line-verb.Sweep)
   sweep-done x j e = e ∙ ap (λ (d : Decision). stepOf s n b a d) ((j line) .is)
 

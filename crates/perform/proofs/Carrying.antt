@@ -19,10 +19,10 @@ use Rattle.apply.specs.declared.Progress.{Progress}
 use Rattle.apply.specs.Applied.{judged, Applicable, Applied}
 use Rattle.outcome.specs.Outcome.{written}
 use Rattle.perform.specs.declared.Step.the-variants.{Refused, Accepted}
-use Rattle.perform.specs.Steps.{left, stepOf, Performable}
+use Rattle.perform.specs.Steps.{tableOutcome, stepOf, Performable}
 
 module _ (line : List ℕ) (s : State) (n b : List ℕ) (v : Verdict) (instant : ℕ) (fates a : List ℕ) where
-  pub step-refused : (k : ℕ) → v ≡ verdict.Refused k → left (Refused k) n b a ≡ stepOf s n b a (verdictMeans (judged line (s .next) instant fates) (rowsIn s n b) v)
+  pub step-refused : (k : ℕ) → v ≡ verdict.Refused k → tableOutcome (Refused k) n b a ≡ stepOf s n b a (verdictMeans (judged line (s .next) instant fates) (rowsIn s n b) v)
   step-refused k e = rw e
 
   module _ (p : Performable line s n b v instant fates a) (plan : Plan) (e : v ≡ verdict.Accepted plan) where
@@ -37,18 +37,18 @@ module _ (line : List ℕ) (s : State) (n b : List ℕ) (v : Verdict) (instant :
     pub step-prints : Printable (plan .answer)
     step-prints = feasible .1
 
--- What is left, by its parts.
-same-left : (l m u w x z : ℕ) (n n' b b' a a' : List ℕ) → l ≡ m → u ≡ w → x ≡ z → n ≡ n' → b ≡ b' → a ≡ a'
-    → left (Accepted (record { len = l; used = u; next = x })) n b a ≡ left (Accepted (record { len = m; used = w; next = z })) n' b' a'
-same-left l m u w x z n n' b b' a a' e1 e2 e3 e4 e5 e6 = rw (e1, e2, e3, e4, e5, e6)
+-- What it comes to, by its parts.
+same-outcome : (l m u w x z : ℕ) (n n' b b' a a' : List ℕ) → l ≡ m → u ≡ w → x ≡ z → n ≡ n' → b ≡ b' → a ≡ a'
+    → tableOutcome (Accepted (record { len = l; used = u; next = x })) n b a ≡ tableOutcome (Accepted (record { len = m; used = w; next = z })) n' b' a'
+same-outcome l m u w x z n n' b b' a a' e1 e2 e3 e4 e5 e6 = rw (e1, e2, e3, e4, e5, e6)
 
 pub step-done : (line : List ℕ) (s : State) (n b : List ℕ) (v : Verdict) (instant : ℕ) (fates a : List ℕ) (plan : Plan) (change : Change) (text : Answer) (n' b' : List ℕ) (p : Progress) (a' : List ℕ) (len : ℕ)
     → v ≡ verdict.Accepted plan → plan .change ≡ change → plan .answer ≡ text
     → Applied (judged line (s .next) instant fates) (capacity b) (rowsOf n b (s .used)) change n' b' p → Wrote a 0 (textOf text) 256 a' len
-    → left (Accepted (record { len = len; used = p .used; next = p .next })) n' b' a' ≡ stepOf s n b a (verdictMeans (judged line (s .next) instant fates) (rowsIn s n b) v)
+    → tableOutcome (Accepted (record { len = len; used = p .used; next = p .next })) n' b' a' ≡ stepOf s n b a (verdictMeans (judged line (s .next) instant fates) (rowsIn s n b) v)
 step-done line s n b v instant fates a plan change text n' b' p a' len e pc pa d w =
     let z : 0 + length (textOf text) ≡ length (textOf text) = omega arith in
-    rw (e, pc, pa) (same-left len (length (textOf text)) (p .used) _ (p .next) _ n' _ b' _ a' (written (textOf text) a)
+    rw (e, pc, pa) (same-outcome len (length (textOf text)) (p .used) _ (p .next) _ n' _ b' _ a' (written (textOf text) a)
     (omega (arith, w .next))
     (d .used-is)
     (d .next-is)

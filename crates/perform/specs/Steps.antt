@@ -24,17 +24,17 @@ use Rattle.perform.specs.declared.Step.{Step}
 use Rattle.perform.specs.declared.Step.the-variants.{Refused, Accepted}
 
 -- What a request came to, and what it left in table and answer buffer.
-pub record Left : Type 0 where
+pub record TableOutcome : Type 0 where
   pub step : Step
   pub numbers : List ℕ
   pub keys : List ℕ
   pub answer : List ℕ
 
-abbrev pub left : Step → List ℕ → List ℕ → List ℕ → Left
-left r numbers keys answer = record { step = r; numbers = numbers; keys = keys; answer = answer }
+abbrev pub tableOutcome : Step → List ℕ → List ℕ → List ℕ → TableOutcome
+tableOutcome r numbers keys answer = record { step = r; numbers = numbers; keys = keys; answer = answer }
 
 -- an effect, carried out
-abbrev pub performed : State → List ℕ → List ℕ → Effect → Left
+abbrev pub performed : State → List ℕ → List ℕ → Effect → TableOutcome
 performed s keys answer e =
     record {
       step = Accepted (record { len = length (e .text); used = length (e .rows); next = s .next + e .taken });
@@ -44,8 +44,8 @@ performed s keys answer e =
     }
 
 -- what is decided, done
-abbrev pub stepOf : State → List ℕ → List ℕ → List ℕ → Decision → Left
-stepOf s numbers keys answer (refuses n) = left (Refused n) numbers keys answer
+abbrev pub stepOf : State → List ℕ → List ℕ → List ℕ → Decision → TableOutcome
+stepOf s numbers keys answer (refuses n) = tableOutcome (Refused n) numbers keys answer
 stepOf s numbers keys answer (does e) = performed s keys answer e
 
 -- ## Premises
@@ -63,7 +63,7 @@ pub record Actable (line : List ℕ) (s : State) (numbers keys answer : List ℕ
   pub room : 256 ≤ length answer
 
 -- What a request comes to, whatever the rules.
-pub record Acted (s : State) (numbers keys answer : List ℕ) (v : Verb) (instant : ℕ) (r : Left) : Type 0 where
+pub record Acted (s : State) (numbers keys answer : List ℕ) (v : Verb) (instant : ℕ) (r : TableOutcome) : Type 0 where
   pub is : (rules : List model.Rule) → r ≡ stepOf s numbers keys answer (tableDecision (capacity keys) (bucketBy s rules (rowsIn s numbers keys)) (both instant) v)
 
 -- Rules that a sweep can be judged by.

@@ -5,7 +5,7 @@ use verdict::State;
 use verdict::Verdict;
 ghost use mathlib.Core.Path.{_≡_};
 ghost use Prim.Native.Nat.{_≤_};
-ghost use lib.ListN.{length};
+ghost use lib.ListN.{length, replicate};
 ghost use Rattle.model.specs.Requests.{Sweep};
 ghost use Rattle.request.specs.Meaning.{actionMeans};
 ghost use Rattle.settings.specs.Meaning.{rulesMean};
@@ -15,7 +15,7 @@ ghost use Rattle.verdict.specs.State.{bucketBy, rowsIn};
 ghost use Rattle.verdict.specs.Meaning.{verdictMeans};
 ghost use Rattle.judge.specs.Premises.{both, Asked};
 ghost use Rattle.apply.specs.Applied.{judged};
-ghost use Rattle.perform.specs.Steps.{left, stepOf, Performable, Actable, Acted, SoundRules};
+ghost use Rattle.perform.specs.Steps.{tableOutcome, stepOf, Performable, Actable, Acted, SoundRules};
 
 // What an accepted request leaves beside the table: the answer's length, the used rows and the next version number.
 pub struct Done {
@@ -31,7 +31,7 @@ pub enum Step {
 }
 
 // Does what a verdict says: its plan is carried out and answered.
-fn carry_out(
+fn carry_out_verdict(
     s: State,
     rows: &mut [u64],
     keys: &mut [u8],
@@ -42,7 +42,7 @@ fn carry_out(
     fates: &[u8],
 ) -> Step
     requires { ⌜ Performable (now line) s (now rows) (now keys) v instant (now fates) (now answer) ⌝ }
-    ensures { λ r. ⌜ left r (now (rows .exit)) (now (keys .exit)) (now (answer .exit)) ≡ stepOf s (now (rows .entry)) (now (keys .entry)) (now (answer .entry)) (verdictMeans (judged (now (line .entry)) (s .next) instant (now (fates .entry))) (rowsIn s (now (rows .entry)) (now (keys .entry))) v) ⌝ }
+    ensures { λ r. ⌜ tableOutcome r (now (rows .exit)) (now (keys .exit)) (now (answer .exit)) ≡ stepOf s (now (rows .entry)) (now (keys .entry)) (now (answer .entry)) (verdictMeans (judged (now (line .entry)) (s .next) instant (now (fates .entry))) (rowsIn s (now (rows .entry)) (now (keys .entry))) v) ⌝ }
 {
     match v {
         Verdict::Refused(n) => Step::Refused(n),
@@ -71,15 +71,15 @@ pub fn act(
     instant: u64,
 ) -> Step
     requires { ⌜ Actable (now line) s (now rows) (now keys) (now answer) action instant ⌝ }
-    ensures { λ r. ⌜ Acted s (now (rows .entry)) (now (keys .entry)) (now (answer .entry)) (actionMeans (now (line .entry)) action) instant (left r (now (rows .exit)) (now (keys .exit)) (now (answer .exit))) ⌝ }
+    ensures { λ r. ⌜ Acted s (now (rows .entry)) (now (keys .entry)) (now (answer .entry)) (actionMeans (now (line .entry)) action) instant (tableOutcome r (now (rows .exit)) (now (keys .exit)) (now (answer .exit))) ⌝ }
 {
     let v = judge::judge(rows, keys, line, s, action, instant);
-    carry_out(s, rows, keys, line, answer, v, instant, b"")
+    carry_out_verdict(s, rows, keys, line, answer, v, instant, b"")
 }
 
 // Room for a fate of each row.
 fn no_fates() -> [u8; 1024]
-    ensures { λ r. ⌜ length r ≡ 1024 ⌝ }
+    ensures { λ r. ⌜ r ≡ replicate 1024 0 ⌝ }
 {
     [0u8; 1024]
 }
@@ -97,9 +97,9 @@ pub fn act_sweep(
     requires { ⌜ Asked s (now rows) (now keys) instant Sweep ⌝ }
     requires { ⌜ SoundRules rules ⌝ }
     requires { ⌜ 256 ≤ length (now answer) ⌝ }
-    ensures { λ r. ⌜ left r (now (rows .exit)) (now (keys .exit)) (now (answer .exit)) ≡ stepOf s (now (rows .entry)) (now (keys .entry)) (now (answer .entry)) (tableDecision (capacity (now (keys .entry))) (bucketBy s (rulesMean rules) (rowsIn s (now (rows .entry)) (now (keys .entry)))) (both instant) Sweep) ⌝ }
+    ensures { λ r. ⌜ tableOutcome r (now (rows .exit)) (now (keys .exit)) (now (answer .exit)) ≡ stepOf s (now (rows .entry)) (now (keys .entry)) (now (answer .entry)) (tableDecision (capacity (now (keys .entry))) (bucketBy s (rulesMean rules) (rowsIn s (now (rows .entry)) (now (keys .entry)))) (both instant) Sweep) ⌝ }
 {
     let mut fates = no_fates();
     let v = judge::judge_sweep(rows, keys, s, rules, instant, &mut fates);
-    carry_out(s, rows, keys, line, answer, v, instant, &fates)
+    carry_out_verdict(s, rows, keys, line, answer, v, instant, &fates)
 }

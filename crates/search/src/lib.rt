@@ -154,7 +154,7 @@ fn order_by_rank(keys: &[u8], at: usize, key: &[u8], first: u64) -> Order
     order_at(keys, at, key)
 }
 
-// A key's current version, which is its first row, or the place where the key belongs.
+// A key's current version, which is its first row, or the place where the key belongs. The keys alone decide; the rows stand for the contract.
 pub fn find_current(rows: &[u64], keys: &[u8], used: usize, key: &[u8]) -> Found
     requires { ⌜ Searchable (now rows) (now keys) used ⌝ }
     ensures { λ r. ⌜ r ≡ currentIn (now (key .entry)) (rowsOf (now (rows .entry)) (now (keys .entry)) used) ⌝ }

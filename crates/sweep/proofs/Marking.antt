@@ -12,9 +12,10 @@ use Rattle.model.specs.Sweep.{Fate, stays, goes, gains, inPlace, marker, marks,
 use Rattle.table.specs.Layout.{Holds, numbersOfRow, rowsOf, keysFit, capacity}
 use Rattle.table.proofs.Held.{rows-length}
 use Rattle.lifecycle.specs.Fates.{fateOf, fatesIn}
-use Rattle.sweep.specs.Passes.{kept, unlessGone, Place, Put, Thinned}
+use Rattle.lifecycle.proofs.Fates.{fates-append, fates-length, total-append}
+use Rattle.sweep.specs.Passes.{kept, unlessGone, InBuffers, Put, Thinned}
 use Rattle.sweep.proofs.Flat.{free, padded, padded-length, Lay, lay-numbers, lay-keys, lay-put, lay-set, lay-row, lay-block, holds-lay, lay-holds}
-use Rattle.sweep.proofs.Passes.{fates-append, fates-length, total-append, marks-few, kept-append, kept-marks, carried-append, carried-length, carried-fit}
+use Rattle.sweep.proofs.Passes.{marks-few, kept-append, kept-marks, carried-append, carried-length, carried-fit}
 use Rattle.sweep.proofs.Removing.{fate-goes, fate-gains, fate-stays, still-there}
 
 -- the fates of the first so many rows, and those of them that are left
@@ -173,10 +174,10 @@ module _ (t next u : ℕ) (m : List ℕ) (c : ℕ) (xs : List Row) where
         pub mark-row : 1 ≤ i
         mark-row = let q = one-less in omega arith
 
-        pub mark-place : Place (i - 1 + k) n b
+        pub mark-place : InBuffers (i - 1 + k) n b
         mark-place = let q = one-less in let r = p .room in let s = p .numbers in let o = p .keys in record { numbers = omega arith; block = omega arith }
 
-        pub mark-behind : Place (i - 1 + (k - 1) + 1) n b
+        pub mark-behind : InBuffers (i - 1 + (k - 1) + 1) n b
         mark-behind = let q : i - 1 + (k - 1) + 1 ≡ i - 1 + k = omega arith in rw q mark-place
 
         -- what is to come, with the last row's part in front of what is done

@@ -1,5 +1,5 @@
 -- Laws of the two passes on lists: what is kept, and what is carried out on it.
-use Prim.Native.Nat.{ℕ, suc, _+_, _-_, _≤_}
+use Prim.Native.Nat.{ℕ, _+_, _-_, _≤_}
 use mathlib.Core.Path.{_≡_, refl, ap}
 use mathlib.Core.Bool.{true}
 use mathlib.Core.List.{List, [], _∷_, _++_, append-assoc}
@@ -12,22 +12,9 @@ use Rattle.buffers.proofs.Lists.{all-append}
 use Rattle.model.specs.Rows.{Row}
 use Rattle.model.specs.Sweep.{Fate, stays, goes, gains, inPlace, marker, marks, removes, total, carriedOut}
 use Rattle.table.specs.Layout.{keysFit}
-use Rattle.lifecycle.specs.Fates.{fateOf, fatesIn}
 use Rattle.sweep.specs.Passes.{kept, unlessGone}
 
 -- ## One list after another
-
-pub fates-append : (a b : List ℕ) → fatesIn (a ++ b) ≡ fatesIn a ++ fatesIn b
-fates-append [] b = refl
-fates-append (f ∷ a) b = ap (λ (l : List Fate). fateOf f ∷ l) (fates-append a b)
-
-pub fates-length : (a : List ℕ) → length (fatesIn a) ≡ length a
-fates-length [] = refl
-fates-length (f ∷ a) = ap suc (fates-length a)
-
-pub total-append : (of : Fate → ℕ) (fs gs : List Fate) → total of (fs ++ gs) ≡ total of fs + total of gs
-total-append of [] gs = omega arith
-total-append of (f ∷ fs) gs = let e = total-append of fs gs in omega arith
 
 pub marks-few : (fs : List Fate) → total marks fs ≤ length fs
 marks-few [] = omega arith

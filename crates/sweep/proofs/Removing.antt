@@ -15,9 +15,10 @@ use Rattle.model.specs.Sweep.{stays, goes, gains}
 use Rattle.table.specs.Layout.{Holds, rowsOf, keysFit}
 use Rattle.table.proofs.Held.{rows-length}
 use Rattle.lifecycle.specs.Fates.{fateOf, fatesIn}
-use Rattle.sweep.specs.Passes.{kept, unlessGone, Left, Put}
+use Rattle.lifecycle.proofs.Fates.{fates-length}
+use Rattle.sweep.specs.Passes.{kept, unlessGone, Remaining, Put}
 use Rattle.sweep.proofs.Flat.{free, padded, padded-length, Lay, lay-numbers, lay-keys, lay-set, lay-row, lay-block, lay-free, holds-lay, lay-holds}
-use Rattle.sweep.proofs.Passes.{fates-length, kept-more, kept-fit}
+use Rattle.sweep.proofs.Passes.{kept-more, kept-fit}
 
 pub fate-goes : (v : ℕ) → v ≡ 1 → fateOf v ≡ goes
 fate-goes v e = rw (eq-eqb v 1 e)
@@ -128,7 +129,7 @@ module _ (u : ℕ) (m : List ℕ) (c : ℕ) where
           }
 
     pub remove-end : (n′ b′ : List ℕ) → u ≤ i → Put w (replicate (8 * (u - w)) 0) (replicate (64 * (u - w)) 0) n b n′ b′
-        → Left c (kept (fatesIn (take u m)) xs) n′ b′ w
+        → Remaining c (kept (fatesIn (take u m)) xs) n′ b′ w
     remove-end n′ b′ h q =
         let s = p .size in
         let l = p .low in

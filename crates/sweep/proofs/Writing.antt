@@ -7,7 +7,7 @@ use lib.ListN.{length, take, drop, length-take, length-drop, drop-of-length-le}
 use Rattle.buffers.specs.Writes.{Wrote}
 use Rattle.buffers.proofs.Writes.{placed-twice}
 use Rattle.buffers.proofs.Parts.{placed-same}
-use Rattle.sweep.specs.Passes.{Place, Put}
+use Rattle.sweep.specs.Passes.{InBuffers, Put}
 
 -- An array that is written whole holds what was written.
 pub read-whole : (zeros l : List ℕ) (a k m r : ℕ) (out : List ℕ) → Wrote zeros 0 (take (a + k - a) (drop a l)) m out r → length zeros ≡ k → a + k ≤ length l
@@ -26,7 +26,7 @@ put-as at x y xs ys n b n′ b′ p e f = record { numbers-are = p .numbers-are 
 pub put-as-both : (at : ℕ) (f x y xs ys n b n′ b′ : List ℕ) → Put at (f ++ x) (y ++ y) n b n′ b′ → x ≡ xs → y ≡ ys → Put at (f ++ xs) (ys ++ ys) n b n′ b′
 put-as-both at f x y xs ys n b n′ b′ p e h = record { numbers-are = p .numbers-are ∙ rw e; keys-are = p .keys-are ∙ rw h }
 
-pub put-same : (from to : ℕ) (n b : List ℕ) → from ≡ to → Place from n b → Put to (take 8 (drop (8 * from) n)) (take 64 (drop (64 * from) b)) n b n b
+pub put-same : (from to : ℕ) (n b : List ℕ) → from ≡ to → InBuffers from n b → Put to (take 8 (drop (8 * from) n)) (take 64 (drop (64 * from) b)) n b n b
 put-same from to n b e p =
     rw (← e) (record { numbers-are = placed-same n (8 * from) 8 (p .numbers); keys-are = placed-same b (64 * from) 64 (p .block) })
 
@@ -34,7 +34,7 @@ pub ruleset put-cases = (refl, put-as, put-same)
 
 -- Two rows, the second behind the first, are one piece.
 pub put-twice : (at : ℕ) (x y x₂ y₂ n b n₁ b₁ n₂ b₂ : List ℕ) → Put at x y n b n₁ b₁ → Put (at + 1) x₂ y₂ n₁ b₁ n₂ b₂
-    → length x ≡ 8 → length y ≡ 64 → Place (at + 1) n b → Put at (x ++ x₂) (y ++ y₂) n b n₂ b₂
+    → length x ≡ 8 → length y ≡ 64 → InBuffers (at + 1) n b → Put at (x ++ x₂) (y ++ y₂) n b n₂ b₂
 put-twice at x y x₂ y₂ n b n₁ b₁ n₂ b₂ p q lx ly s =
     let e : 8 * (at + 1) ≡ 8 * at + length x = omega arith in
     let f : 64 * (at + 1) ≡ 64 * at + length y = omega arith in

@@ -26,7 +26,7 @@ abbrev pub fatesOf : ℕ → List ℕ → List Fate
 fatesOf used fates = fatesIn (take used fates)
 
 -- What carrying out asks: the buffers hold the rows, each has its fate, the rows that go and the markers are counted, there is room and there are numbers for them.
-pub record Judged (rows keys : List ℕ) (used : ℕ) (fates : List ℕ) (gone added next : ℕ) : Type 0 where
+pub record Carriable (rows keys : List ℕ) (used : ℕ) (fates : List ℕ) (gone added next : ℕ) : Type 0 where
   pub holds : Holds (capacity keys) (rowsOf rows keys used) rows keys
   pub each : used ≤ length fates
   pub removed : gone ≡ total removes (fatesOf used fates)
@@ -43,13 +43,13 @@ pub record Thinned (rows keys : List ℕ) (left used : ℕ) (fates : List ℕ) (
   pub room : left + added ≤ capacity keys
   pub numbers : next + added ≤ 4294967296
 
--- The buffers hold these rows, which are so many.
-pub record Left (c : ℕ) (xs : List Row) (rows keys : List ℕ) (count : ℕ) : Type 0 where
+-- The buffers hold the rows that remain, which are so many.
+pub record Remaining (c : ℕ) (xs : List Row) (rows keys : List ℕ) (count : ℕ) : Type 0 where
   pub holds : Holds c xs rows keys
   pub many : count ≡ length xs
 
 -- The place lies within the buffers.
-pub record Place (at : ℕ) (rows keys : List ℕ) : Type 0 where
+pub record InBuffers (at : ℕ) (rows keys : List ℕ) : Type 0 where
   pub numbers : 8 * at + 8 ≤ length rows
   pub block : 64 * at + 64 ≤ length keys
 

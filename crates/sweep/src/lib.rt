@@ -5,7 +5,7 @@ ghost use Prim.Native.Nat.{_+_, _-_, _*_, _≤_};
 ghost use lib.ListN.{length, take, drop, replicate};
 ghost use Rattle.model.specs.Sweep.{marker, removes, total, carriedOut};
 ghost use Rattle.table.specs.Layout.{Holds, numbersOfRow, rowsOf, capacity};
-ghost use Rattle.sweep.specs.Passes.{kept, fatesOf, Judged, Thinned, Left, Place, Put};
+ghost use Rattle.sweep.specs.Passes.{kept, fatesOf, Carriable, Thinned, Remaining, InBuffers, Put};
 
 // The numbers of the row at a place.
 fn numbers_in(rows: &[u64], at: usize) -> [u64; 8]
@@ -31,7 +31,7 @@ fn block_in(keys: &[u8], at: usize) -> [u8; 64]
 
 // Writes a row at a place.
 fn put_row(rows: &mut [u64], keys: &mut [u8], at: usize, numbers: [u64; 8], block: [u8; 64])
-    requires { ⌜ Place at (now rows) (now keys) ⌝ }
+    requires { ⌜ InBuffers at (now rows) (now keys) ⌝ }
     ensures { λ _. ⌜ Put at numbers block (now (rows .entry)) (now (keys .entry)) (now (rows .exit)) (now (keys .exit)) ⌝ }
 {
     buffers::copy_in_numbers(rows, 8 * at, &numbers);
@@ -40,7 +40,7 @@ fn put_row(rows: &mut [u64], keys: &mut [u8], at: usize, numbers: [u64; 8], bloc
 
 // Copies the row at one place to another; a row that is in place already is left as it is.
 fn copy_row(rows: &mut [u64], keys: &mut [u8], from: usize, to: usize)
-    requires { ⌜ Place from (now rows) (now keys) × Place to (now rows) (now keys) ⌝ }
+    requires { ⌜ InBuffers from (now rows) (now keys) × InBuffers to (now rows) (now keys) ⌝ }
     ensures { λ _. ⌜ Put to (take 8 (drop (8 * from) (now (rows .entry)))) (take 64 (drop (64 * from) (now (keys .entry)))) (now (rows .entry)) (now (keys .entry)) (now (rows .exit)) (now (keys .exit)) ⌝ }
 {
     if from == to {
@@ -60,7 +60,7 @@ fn put_two_rows(
     second: [u64; 8],
     block: [u8; 64],
 )
-    requires { ⌜ Place (at + 1) (now rows) (now keys) ⌝ }
+    requires { ⌜ InBuffers (at + 1) (now rows) (now keys) ⌝ }
     ensures { λ _. ⌜ Put at (first ++ second) (block ++ block) (now (rows .entry)) (now (keys .entry)) (now (rows .exit)) (now (keys .exit)) ⌝ }
 {
     put_row(rows, keys, at, first, block);
@@ -76,7 +76,7 @@ fn copy_row_with_marker(
     number: u64,
     stamp: u64,
 )
-    requires { ⌜ Place from (now rows) (now keys) × Place (to + 1) (now rows) (now keys) ⌝ }
+    requires { ⌜ InBuffers from (now rows) (now keys) × InBuffers (to + 1) (now rows) (now keys) ⌝ }
     ensures { λ _. ⌜ Put to (numbersOfRow (marker stamp number []) ++ take 8 (drop (8 * from) (now (rows .entry)))) (take 64 (drop (64 * from) (now (keys .entry))) ++ take 64 (drop (64 * from) (now (keys .entry)))) (now (rows .entry)) (now (keys .entry)) (now (rows .exit)) (now (keys .exit)) ⌝ }
 {
     let numbers = numbers_in(rows, from);
@@ -97,7 +97,7 @@ fn free_rows(rows: &mut [u64], keys: &mut [u8], at: usize, count: usize)
 // Leaves out the rows that go, and returns how many are left. Each row is copied at most once.
 fn remove_rows(rows: &mut [u64], keys: &mut [u8], used: usize, fates: &[u8]) -> usize
     requires { ⌜ Holds (capacity (now keys)) (rowsOf (now rows) (now keys) used) (now rows) (now keys) × (used ≤ length (now fates)) ⌝ }
-    ensures { λ r. ⌜ Left (capacity (now (keys .entry))) (kept (fatesOf used (now (fates .entry))) (rowsOf (now (rows .entry)) (now (keys .entry)) used)) (now (rows .exit)) (now (keys .exit)) r ⌝ }
+    ensures { λ r. ⌜ Remaining (capacity (now (keys .entry))) (kept (fatesOf used (now (fates .entry))) (rowsOf (now (rows .entry)) (now (keys .entry)) used)) (now (rows .exit)) (now (keys .exit)) r ⌝ }
 {
     let mut left = 0;
     let mut i = 0;
@@ -117,7 +117,7 @@ fn remove_rows(rows: &mut [u64], keys: &mut [u8], used: usize, fates: &[u8]) -> 
 fn thin(rows: &mut [u64], keys: &mut [u8], used: usize, fates: &[u8], gone: usize) -> usize
     requires { ⌜ Holds (capacity (now keys)) (rowsOf (now rows) (now keys) used) (now rows) (now keys) × (used ≤ length (now fates)) ⌝ }
     requires { ⌜ gone ≡ total removes (fatesOf used (now fates)) ⌝ }
-    ensures { λ r. ⌜ Left (capacity (now (keys .entry))) (kept (fatesOf used (now (fates .entry))) (rowsOf (now (rows .entry)) (now (keys .entry)) used)) (now (rows .exit)) (now (keys .exit)) r ⌝ }
+    ensures { λ r. ⌜ Remaining (capacity (now (keys .entry))) (kept (fatesOf used (now (fates .entry))) (rowsOf (now (rows .entry)) (now (keys .entry)) used)) (now (rows .exit)) (now (keys .exit)) r ⌝ }
 {
     if gone == 0 {
         return used;
@@ -168,7 +168,7 @@ pub fn carry_out(
     next: u64,
     stamp: u64,
 )
-    requires { ⌜ Judged (now rows) (now keys) used (now fates) gone added next ⌝ }
+    requires { ⌜ Carriable (now rows) (now keys) used (now fates) gone added next ⌝ }
     ensures { λ _. ⌜ Holds (capacity (now (keys .entry))) (carriedOut stamp next (fatesOf used (now (fates .entry))) (rowsOf (now (rows .entry)) (now (keys .entry)) used)) (now (rows .exit)) (now (keys .exit)) ⌝ }
 {
     let left = thin(rows, keys, used, fates, gone);

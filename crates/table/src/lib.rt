@@ -165,7 +165,7 @@ pub fn remove_row(rows: &mut [u64], keys: &mut [u8], used: usize, at: usize)
     close_keys(keys, used, at);
 }
 
-// Replaces the numbers of the row at a position; its key stays.
+// Replaces the numbers of the row at a position; its key stays, so that `keys` and `used` stand for the contract alone.
 pub fn rewrite_row(rows: &mut [u64], keys: &[u8], used: usize, at: usize, n: Numbers)
     requires { ⌜ InUse (now rows) (now keys) used at ⌝ }
     ensures { λ _. ⌜ Holds (capacity (now (keys .entry))) (set (rowsOf (now (rows .entry)) (now (keys .entry)) used) at (rowFrom n (keyAt (now (keys .entry)) at))) (now (rows .exit)) (now (keys .entry)) ⌝ }

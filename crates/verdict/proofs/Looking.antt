@@ -1,30 +1,28 @@
 -- The row that a name names, from what the search finds in the buffers.
 use Prim.Native.Nat.{ℕ, _+_, _*_, _≤_, _<_}
 use mathlib.Core.Path.{_≡_, refl, sym, ap, _∙_}
-use mathlib.Core.Bool.{true}
 use mathlib.Core.List.{List}
 use mathlib.Core.Option.{Option, some, none}
 use native.Mathlib.Omega.{arith}
 use lib.ListN.{length, take, drop}
-use Rattle.model.specs.Rows.{Row, ordered}
+use Rattle.model.specs.Rows.{Row}
 use Rattle.model.specs.Requests.{Version, numbered, name}
-use Rattle.model.specs.Effects.{rowOf}
 use Rattle.table.specs.declared.Numbers.{Numbers}
-use Rattle.table.specs.Layout.{rowAt, rowsOf}
-use Rattle.table.specs.Places.{rowFrom, numbersIn}
+use Rattle.table.specs.Layout.{rowsOf}
+use Rattle.table.specs.Places.{numbersIn}
 use Rattle.table.proofs.Held.{held-numbers, rows-length}
 use Rattle.search.specs.declared.Found.{Found}
 use Rattle.search.specs.declared.Found.the-variants.{At, Place}
 use Rattle.search.specs.Places as places
 use Rattle.search.specs.Searching.{Searchable}
 use Rattle.search.proofs.Positions.{rows-row, holds-searchable, current-used, version-used}
-use Rattle.search.proofs.Named.{current-row, version-row}
 use Rattle.fields.specs.declared.Version as fields
 use Rattle.fields.specs.declared.Version.the-variants.{Current, Numbered}
 use Rattle.fields.specs.Meaning.{versionMeans}
 use Rattle.verdict.specs.declared.State.{State}
+use Rattle.verdict.specs.declared.Looked.the-variants.{Absent, Present}
 use Rattle.verdict.specs.State.{rowsIn, Ready}
-use Rattle.verdict.specs.Meaning.{foundBy, keyHere}
+use Rattle.verdict.specs.Meaning.{foundBy, lookedAt, lookedBy}
 
 -- ## What is found, by the version's case
 
@@ -37,12 +35,7 @@ module _ (xs : List Row) (k : List ℕ) (v : fields.Version) (r : Found) where
 
 pub ruleset found-cases = (found-current, found-version)
 
--- It is the row that is named.
-found-row : (xs : List Row) (k : List ℕ) (v : Option Version) → ordered xs ≡ true → places.rowFound xs (foundBy xs k v) ≡ rowOf xs (name k v)
-found-row xs k none o = current-row k xs o
-found-row xs k (some (numbered n)) o = version-row k n xs o
-
--- It is a used row.
+-- What is found is a used row.
 found-used : (n b : List ℕ) (u : ℕ) (k : List ℕ) (v : Option Version) (i : ℕ) → foundBy (rowsOf n b u) k v ≡ At i → i < u
 found-used n b u k none i e = current-used n b u k (At i) i (sym e) refl
 found-used n b u k (some (numbered m)) i e = version-used n b u k (At i) i m (sym e) refl
@@ -54,26 +47,19 @@ module _ (s : State) (n b : List ℕ) (w : Ready s n b) where
   ready-searchable = holds-searchable (w .holds) (w .in-order) (s .used) (sym (rows-length n b (s .used)))
 
   module _ (k : List ℕ) (v : Option Version) (r : Found) (i : ℕ) (e : r ≡ foundBy (rowsIn s n b) k v) where
-    pub absent : r ≡ Place i → rowOf (rowsIn s n b) (name k v) ≡ none
-    absent t = sym (found-row (rowsIn s n b) k v (w .in-order)) ∙ ap (places.rowFound (rowsIn s n b)) (sym e ∙ t)
+    pub look-absent : r ≡ Place i → Absent ≡ lookedBy (rowsIn s n b) (name k v)
+    unfolding lookedBy
+    look-absent t = ap (lookedAt (rowsIn s n b)) (sym t ∙ e)
 
     module _ (t : r ≡ At i) where
       used : i < s .used
       used = found-used n b (s .used) k v i (sym e ∙ t)
 
-      pub present-fits : 8 * i + 8 ≤ length n
-      present-fits = let h = used in let f = w .used-fits in let l = held-numbers (w .holds) in omega arith
+      pub look-fits : 8 * i + 8 ≤ length n
+      look-fits = let h = used in let f = w .used-fits in let l = held-numbers (w .holds) in omega arith
 
-      pub present-below : i < length (rowsIn s n b)
-      present-below = rw (rows-length n b (s .used)) used
+      pub look-present : (m : Numbers) → m ≡ numbersIn (take 8 (drop (8 * i) n)) → Present i m ≡ lookedBy (rowsIn s n b) (name k v)
+      unfolding lookedBy
+      look-present m q = rw (q, sym e ∙ t, rows-row n b (s .used) i used)
 
-      here : places.nthRow (rowsIn s n b) i ≡ some (rowAt n b i)
-      here = rows-row n b (s .used) i used
-
-      pub present-place : (m : Numbers) → m ≡ numbersIn (take 8 (drop (8 * i) n)) → places.nthRow (rowsIn s n b) i ≡ some (rowFrom m (keyHere (rowsIn s n b) i))
-      present-place m q = rw (here, q)
-
-      pub present-row : (m : Numbers) → m ≡ numbersIn (take 8 (drop (8 * i) n)) → rowOf (rowsIn s n b) (name k v) ≡ some (rowFrom m (keyHere (rowsIn s n b) i))
-      present-row m q = sym (found-row (rowsIn s n b) k v (w .in-order)) ∙ ap (places.rowFound (rowsIn s n b)) (sym e ∙ t) ∙ present-place m q
-
-pub ruleset looking = (ready-searchable, absent, present-fits, present-below, present-place, present-row)
+pub ruleset looking = (ready-searchable, look-absent, look-fits, look-present)

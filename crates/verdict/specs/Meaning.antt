@@ -10,10 +10,11 @@ use Rattle.model.specs.Rows.{Row}
 use Rattle.model.specs.Settings.{spentNumber}
 use Rattle.model.specs.Sweep.{marks, removes, total, carriedOut}
 use Rattle.model.specs.Requests.{Version, numbered, Name}
-use Rattle.model.specs.Effects.{rowOf}
-use Rattle.table.specs.Places.{rowFrom}
+use Rattle.table.specs.Layout.{numbersOfRow}
+use Rattle.table.specs.Places.{rowFrom, numbersIn}
 use Rattle.table.specs.Changes.{insertAt, removeAt}
 use Rattle.search.specs.declared.Found.{Found}
+use Rattle.search.specs.declared.Found.the-variants.{At, Place}
 use Rattle.search.specs.Places as places
 use Rattle.lifecycle.specs.Fates.{fatesIn}
 use Rattle.answers.specs.Meaning.{textOf, Printable}
@@ -89,7 +90,11 @@ abbrev pub foundBy : List Row → List ℕ → Option Version → Found
 foundBy xs k none = places.currentIn k xs
 foundBy xs k (some (numbered n)) = places.versionIn k n xs
 
--- It is not there; or it stands at a position, with these numbers and its key.
-abbrev pub Looks : List Row → Name → Looked → Type 0
-Looks xs n Absent = rowOf xs n ≡ none
-Looks xs n (Present i m) = (rowOf xs n ≡ some (rowFrom m (keyHere xs i))) × (places.nthRow xs i ≡ some (rowFrom m (keyHere xs i))) × (i < length xs)
+-- what was found, with the numbers of its row
+abbrev pub lookedAt : List Row → Found → Looked
+lookedAt xs (At i) = thenSome (places.nthRow xs i) Absent (λ x. Present i (numbersIn (numbersOfRow x)))
+lookedAt xs (Place i) = Absent
+
+-- the row that a name names: its position and its numbers
+unfoldable pub lookedBy : List Row → Name → Looked
+lookedBy xs n = lookedAt xs (foundBy xs (n .key) (n .version))

@@ -22,10 +22,10 @@ ghost use Rattle.search.specs.Searching.{Searchable};
 ghost use Rattle.fields.specs.Meaning.{versionMeans, modeMeans, untilMeans};
 ghost use Rattle.request.specs.Meaning.{retentionMeans};
 ghost use Rattle.verdict.specs.State.{configBy, rowsIn, Ready};
-ghost use Rattle.verdict.specs.Meaning.{foundBy, Looks};
+ghost use Rattle.verdict.specs.Meaning.{foundBy, lookedBy};
 ghost use Rattle.verdict.specs.Locks.{newLock, lockMeans};
 
-// What of the settings a line is judged by.
+// What of the settings a line is judged by. The contracts alone read `time`: no row was created after it.
 pub struct State {
     pub time: u64,
     pub used: usize,
@@ -40,7 +40,7 @@ pub enum Change {
     Keep,
     // position, numbers, the key's place in the line
     Insert(usize, Numbers, Place),
-    // position and numbers; the key is that of the row there
+    // position and numbers; the key is that of the row there, whose bytes are in place once the rows have moved
     InsertSame(usize, Numbers),
     Rewrite(usize, Numbers),
     Remove(usize),
@@ -84,7 +84,7 @@ fn find_named(rows: &[u64], keys: &[u8], used: usize, key: &[u8], version: Versi
 // The row that a key and a version field name.
 pub fn look(rows: &[u64], keys: &[u8], s: State, key: &[u8], version: Version) -> Looked
     requires { ⌜ Ready s (now rows) (now keys) ⌝ }
-    ensures { λ r. ⌜ Looks (rowsIn s (now (rows .entry)) (now (keys .entry))) (name (now (key .entry)) (versionMeans version)) r ⌝ }
+    ensures { λ r. ⌜ r ≡ lookedBy (rowsIn s (now (rows .entry)) (now (keys .entry))) (name (now (key .entry)) (versionMeans version)) ⌝ }
 {
     let used = s.used;
     let found = find_named(rows, keys, used, key, version);

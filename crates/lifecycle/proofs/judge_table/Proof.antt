@@ -1,11 +1,11 @@
--- `judge` meets its contract.
+-- `judge_table` meets its contract.
 use Rattle.lifecycle.proofs.Judging.{laid-cases, laid-few, left-first}
 use borrow.Author.Needs.{needs}
-use Rattle.lifecycle.proofs.judge.Statement.{statement}
-use Rattle.lifecycle.proofs.judge.Tie as tie
+use Rattle.lifecycle.proofs.judge_table.Statement.{statement}
+use Rattle.lifecycle.proofs.judge_table.Tie as tie
 
-pub judge-spec : {M : Type 1} → statement M
-judge-spec =
+pub judge-table-spec : {M : Type 1} → statement M
+judge-table-spec =
     tie.close
     (tie.spec
     (λ c κs. search needs)

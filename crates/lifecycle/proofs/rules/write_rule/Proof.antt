@@ -1,13 +1,13 @@
--- `put_rule` meets its contract.
+-- `write_rule` meets its contract.
 use Rattle.lifecycle.proofs.Laying.{rule-put}
 use native.Mathlib.Omega.{arith}
 use lib.ListN.{length-set}
 use borrow.Author.Needs.{needs}
-use Rattle.lifecycle.proofs.rules.put_rule.Statement.{statement}
-use Rattle.lifecycle.proofs.rules.put_rule.Tie as tie
+use Rattle.lifecycle.proofs.rules.write_rule.Statement.{statement}
+use Rattle.lifecycle.proofs.rules.write_rule.Tie as tie
 
-pub put-rule-spec : {M : Type 1} → statement M
-put-rule-spec =
+pub write-rule-spec : {M : Type 1} → statement M
+write-rule-spec =
     tie.close
     (tie.spec
     (λ c. search needs)
