@@ -1,3 +1,6 @@
+pub mod Lines
+pub mod Outcomes
+pub mod Cutting
 pub mod Printing
-pub mod Room
 pub mod Serving
+pub mod Blocks

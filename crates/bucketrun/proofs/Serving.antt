@@ -1,43 +1,91 @@
--- Laws of the loops: what holds between two lines, and between two blocks.
-use Prim.Native.Nat.{ℕ, _+_, _*_, _-_, _≤_, _<_}
+-- Laws of the loops over a block: what holds between two lines, and between two parts.
+use Prim.Native.Nat.{ℕ, zero, suc, _+_, _-_, _≤_, _<_}
 use mathlib.Core.Path.{_≡_, refl, sym, _∙_, ap, subst⁻¹}
-use mathlib.Core.Bool.{true}
-use mathlib.Core.List.{List, _++_}
-use mathlib.Core.Option.{none}
+use mathlib.Core.Bool.{Bool, true, false}
+use mathlib.Core.List.{List, [], _∷_, _++_, append-nil, append-assoc}
 use native.Mathlib.Omega.{arith}
-use lib.ListN.{length, take, drop, replicate, length-append, length-take, length-drop, length-replicate}
-use lib.Seq.{length-take-le, take-take}
-use borrow.Author.Tests.{lt-ltb}
+use lib.ListN.{length, take, drop, replicate, length-take, length-drop, length-append, length-replicate, take-append-drop}
+use lib.Seq.{length-take-le, take-all, take-at, drop-at, drop-drop, take-add, take-append-le, drop-append-le}
 use borrow.Rule.Slice.PartMut.{midOf, putMid, same-len-mid}
-use Rattle.buffers.specs.Ranges.{Within, Span}
-use Rattle.buffers.specs.Writes.{Wrote}
-use Rattle.buffers.specs.Moves.{movedDown}
+use Rattle.buffers.specs.Ranges.{Within}
+use Rattle.buffers.specs.Writes.{placed, Wrote}
+use Rattle.buffers.proofs.Tests.{clash}
 use Rattle.buffers.proofs.Parts.{rest-all, part-cut}
+use Rattle.buffers.proofs.Writes.{wrote-both}
 use Rattle.text.specs.Lines.{linesOf, feedAt}
-use Rattle.text.proofs.Lines.{lines-at}
 use Rattle.settings.specs.declared.Settings.{Settings}
-use Rattle.settings.specs.Changes.{Fresh}
 use Rattle.bucket.specs.Whole.{whole}
-use Rattle.bucket.proofs.Whole.{fresh-whole}
-use Rattle.request.specs.Grammar.{readLine}
 use Rattle.outcome.specs.Outcome.{Outcome, outcome}
+use Rattle.outcome.specs.Calls.{Lent, lent, leaves}
+use Rattle.outcome.specs.Printed.{printed, printedOf}
 use Rattle.outcome.proofs.Room.{end-inside}
 use Rattle.outcome.proofs.Kept.{outcome-whole}
 use Rattle.engine.specs.declared.Served.{Served}
 use Rattle.engine.specs.Served.{outcomeFrom}
 use Rattle.engine.proofs.Serving.{answer-fits}
+use Rattle.bucketrun.specs.declared.Course.{Course as After}
 use Rattle.bucketrun.specs.declared.Block.{Block}
-use Rattle.bucketrun.specs.Course.{Ready, Held, held, holds, leave, Goes, Kept, Left, Runs, Serving, Running}
-use Rattle.bucketrun.proofs.Room.{same-left}
+use Rattle.bucketrun.specs.Program.{answerRoom, servedLine, leftBy, printedBy, endOf}
+use Rattle.bucketrun.specs.Course.{Servable, Through, ServedSome, BetweenLines, ServedAll, BetweenParts}
+use Rattle.bucketrun.proofs.Lines.{none-feed, none-end, end-append, end-first, lines-append, lines-first}
+use Rattle.bucketrun.proofs.Outcomes.{same-left, same-printed, same-behind}
+use Rattle.bucketrun.proofs.Cutting.{left-append, printed-append}
 
--- ## The lines of a block
+-- ## The first bytes of a block, and more of them
 
-part-wide : (out : List ℕ) (at : ℕ) → at ≤ 65536 → length out ≡ 131072 → length (take 65536 (drop at out)) ≡ 65536
-part-wide out at h l = length-take-le 65536 (drop at out) (rw length-drop (omega arith))
+module _ (h : Lent) (block : List ℕ) where
+  pub through-none : (s : Settings) (n b : List ℕ) → whole s n b ≡ true → Through (lent s n b) block 0 s n b
+  through-none s n b w = record { is-whole = w; leads = refl; inside = omega arith; cut = refl }
+
+  module _ (i j : ℕ) (s : Settings) (n b : List ℕ) (g : Through h block i s n b) (s′ : Settings) (n′ b′ : List ℕ) (d : Through (lent s n b) (drop i block) j s′ n′ b′) where
+    ended : endOf (take i block) ≡ length (take i block)
+    ended = g .cut ∙ sym (length-take-le i block (g .inside))
+
+    lines-both : linesOf (take (i + j) block) ≡ linesOf (take i block) ++ linesOf (take j (drop i block))
+    lines-both = ap linesOf (take-add i j block) ∙ lines-append (take i block) (take j (drop i block)) ended
+
+    pub through-both : Through h block (i + j) s′ n′ b′
+    through-both =
+        let m = length-take-le i block (g .inside) in
+        let l = length-drop i block in
+        let e = end-append (take i block) (take j (drop i block)) ended in
+        let y = d .inside in
+        let z = d .cut in
+        record {
+          is-whole = d .is-whole;
+          leads =
+              d .leads ∙ ap (λ (x : Lent). leftBy x (linesOf (take j (drop i block)))) (g .leads)
+              ∙ sym (ap (leftBy h) lines-both ∙ left-append h (linesOf (take i block)) (linesOf (take j (drop i block))));
+          inside = omega (arith, g .inside);
+          cut = ap endOf (take-add i j block) ∙ omega arith;
+        }
+
+    pub printed-both : printedBy h (linesOf (take (i + j) block)) ≡ printedBy h (linesOf (take i block)) ++ printedBy (lent s n b) (linesOf (take j (drop i block)))
+    printed-both =
+        ap (printedBy h) lines-both ∙ printed-append h (linesOf (take i block)) (linesOf (take j (drop i block)))
+        ∙ ap (λ (x : Lent). printedBy h (linesOf (take i block)) ++ printedBy x (linesOf (take j (drop i block)))) (sym (g .leads))
+
+  -- Behind the last line feed nothing more ends.
+  pub through-all : (i : ℕ) (s : Settings) (n b : List ℕ) → Through h block i s n b → length block ≤ i + feedAt (drop i block) → feedAt (drop i block) ≤ length (drop i block) → i ≡ endOf block
+  through-all i s n b g q m =
+      let t = length-take-le i block (g .inside) in
+      let l = length-drop i block in
+      let x = none-end (drop i block) (none-feed (drop i block) (omega (arith, g .inside))) in
+      let e = end-append (take i block) (drop i block) (g .cut ∙ sym t) in
+      omega (arith, ap endOf (take-append-drop i block))
+
+-- ## What a line leaves in its part of the output
 
 -- The part of the output that a line is lent.
 room-part : (out : List ℕ) (at : ℕ) → midOf at (at + 65536 - at) out ≡ take 65536 (drop at out)
 room-part out at = part-cut out at 65536
+
+room-wide : (out : List ℕ) (at : ℕ) → at ≤ 65536 → length out ≡ 131072 → length (take 65536 (drop at out)) ≡ 65536
+room-wide out at h l = length-take-le 65536 (drop at out) (rw length-drop (omega arith))
+
+answer-wide : length answerRoom ≡ 65536
+unfolding answerRoom
+answer-wide = length-replicate {A = ℕ} 65536 0
 
 -- A line's answer stands within the part that it was lent.
 pub answer-most : (s : Settings) (n b line out n′ b′ p : List ℕ) (at : ℕ) (r : Served) → outcomeFrom r n′ b′ p ≡ outcome s n b line (midOf at (at + 65536 - at) out) → length p ≡ length (midOf at (at + 65536 - at) out)
@@ -46,149 +94,212 @@ answer-most s n b line out n′ b′ p at r q l =
     let m : length p ≡ _ = l ∙ ap length (room-part out at) ∙ length-take 65536 (drop at out) in
     omega (arith, answer-fits s n b line (midOf at (at + 65536 - at) out) n′ b′ p r q)
 
-module _ (n₀ b₀ out₀ block : List ℕ) where
-  pub first-line : (s : Settings) (at : ℕ) → Ready s n₀ b₀ out₀ at
-      → Serving (take 65536 (drop at out₀)) (leave (take 65536 (drop at out₀)) (held s n₀ b₀) (linesOf block)) n₀ b₀ out₀ block s n₀ b₀ out₀ at 0
-  first-line s at h =
+module _ (out p : List ℕ) (at k : ℕ) (h : at + k ≤ length out) (l : length p ≡ k) where
+  at-part : drop at (putMid at k out p) ≡ p ++ drop k (drop at out)
+  at-part = drop-at (take at out) (p ++ drop k (drop at out)) at (length-take-le at out (omega arith))
+
+  -- What is written over a part that has stayed behind it, is written over what was there before.
+  over-part : (vs : List ℕ) → length vs ≤ k → drop (length vs) p ≡ drop (length vs) (take k (drop at out)) → placed (putMid at k out p) at vs ≡ placed out at vs
+  over-part vs m e =
+      let d = length-drop at out in
+      let w = length-take-le k (drop at out) (omega arith) in
+      let t : take at (putMid at k out p) ≡ take at out = take-at (take at out) (p ++ drop k (drop at out)) at (length-take-le at out (omega arith)) in
+      let b : drop (at + length vs) (putMid at k out p) ≡ drop (at + length vs) out =
+      sym (drop-drop (length vs) at (putMid at k out p)) ∙ ap (drop (length vs)) at-part
+      ∙ drop-append-le (length vs) p (drop k (drop at out)) (omega arith)
+      ∙ ap (λ (x : List ℕ). x ++ drop k (drop at out)) e
+      ∙ sym (drop-append-le (length vs) (take k (drop at out)) (drop k (drop at out)) (omega arith))
+      ∙ ap (drop (length vs)) (take-append-drop k (drop at out))
+      ∙ drop-drop (length vs) at out in
+      ap (λ (x : List ℕ). x ++ vs ++ drop (at + length vs) (putMid at k out p)) t
+      ∙ ap (λ (x : List ℕ). take at out ++ vs ++ x) b
+
+  part-read : (len : ℕ) → len ≤ k → take len (drop at (putMid at k out p)) ≡ take len p
+  part-read len m = ap (take len) at-part ∙ take-append-le len p (drop k (drop at out)) (omega arith)
+
+-- What a line prints is written behind what waits, and nothing else is.
+module _ (s : Settings) (n b line out n′ b′ p : List ℕ) (at : ℕ) (r : Served) (h : at ≤ 65536) (lo : length out ≡ 131072)
+    (q : outcomeFrom r n′ b′ p ≡ outcome s n b line (take 65536 (drop at out))) (lp : length p ≡ 65536) (m : r .len ≤ 65536) where
+  line-printed : printed (r .number) (take (r .len) (drop at (putMid at 65536 out p))) ≡ printedOf (servedLine (lent s n b) line)
+  line-printed =
+      ap (printed (r .number)) (part-read out p at 65536 (omega arith) lp (r .len) m) ∙ ap printedOf q
+      ∙ same-printed s n b line (take 65536 (drop at out)) answerRoom (room-wide out at h lo ∙ sym answer-wide)
+
+  line-behind : (vs : List ℕ) → vs ≡ printedOf (outcomeFrom r n′ b′ p) → drop (length vs) p ≡ drop (length vs) (take 65536 (drop at out))
+  line-behind vs e =
+      rw e (subst⁻¹ (λ (o : Outcome). drop (length (printedOf o)) (o .answer) ≡ drop (length (printedOf o)) (take 65536 (drop at out))) q (same-behind s n b line (take 65536 (drop at out))))
+
+  line-left : lent (r .settings) n′ b′ ≡ leaves (servedLine (lent s n b) line)
+  line-left = ap leaves q ∙ same-left s n b line (take 65536 (drop at out)) answerRoom (room-wide out at h lo ∙ sym answer-wide)
+
+  line-wrote : (out′ : List ℕ) (j : ℕ) → Wrote (putMid at 65536 out p) at (printed (r .number) (take (r .len) (drop at (putMid at 65536 out p)))) 65536 out′ j
+      → Wrote out at (printedOf (servedLine (lent s n b) line)) 65536 out′ j
+  line-wrote out′ j v =
+      let e = line-printed in
+      let z : printed (r .number) (take (r .len) (drop at (putMid at 65536 out p))) ≡ printedOf (outcomeFrom r n′ b′ p) =
+      ap (printed (r .number)) (part-read out p at 65536 (omega arith) lp (r .len) m) in
+      let x = v .next in
+      let y = v .most in
       record {
-        leads = refl;
-        wide = part-wide out₀ at (h .fits) (h .long);
-        is-whole = h .is-whole;
-        fits = omega (arith, h .fits);
-        inside = omega arith;
-        long = h .long;
-        numbers-same = refl;
-        keys-same = refl;
-        out-same = refl;
+        next = x ∙ ap (λ (t : List ℕ). at + length t) e;
+        holds =
+            v .holds
+            ∙ over-part out p at 65536 (omega arith) lp _ (omega arith) (line-behind _ z)
+            ∙ ap (placed out at) e;
+        long = v .long ∙ same-len-mid at 65536 out p (lp ∙ sym (room-wide out at h lo));
+        most = v .most;
       }
 
-  module _ (a : List ℕ) (end : Held) (s : Settings) (n b out : List ℕ) (at i : ℕ) (g : Serving a end n₀ b₀ out₀ block s n b out at i) where
-    pub line-room : at ≤ 65536 → at + 65536 ≤ length out
-    line-room h = omega (arith, g .long)
+-- ## Between two lines
 
-    -- A line is served with the part of the output from `at` on.
-    module _ (k : ℕ) (r : Served) (n′ b′ p : List ℕ) (h : at ≤ 65536) (q : outcomeFrom r n′ b′ p ≡ outcome s n b (take (i + k - i) (drop i block)) (midOf at (at + 65536 - at) out))
-        (lp : length p ≡ length (midOf at (at + 65536 - at) out)) where
-      pub next-line : (vs out′ : List ℕ) (j w : ℕ) → Within k (feedAt (take (length block - i) (drop i block))) (length (take (length block - i) (drop i block))) → i + k < length block
-          → Wrote (putMid at (at + 65536 - at) out p) at vs 65536 out′ j → w ≤ j → length n′ ≡ length n → length b′ ≡ length b
-          → Serving a end n₀ b₀ out₀ block (r .settings) n′ b′ out′ w (i + k + 1)
-      next-line vs out′ j w e z v m ln lb =
-          let x = end-inside k (feedAt (take (length block - i) (drop i block))) i block (length block - i) e in
-          let y = g .inside in
-          let f : k ≡ feedAt (drop i block) = rw (rest-all i block) at (e .is) in
-          let d : i + k - i ≡ k = omega arith in
-          let o : outcomeFrom r n′ b′ p ≡ outcome s n b (take k (drop i block)) (take 65536 (drop at out)) = rw (d, room-part out at) at q in
-          let u : length a ≡ length (take 65536 (drop at out)) = g .wide ∙ sym (part-wide out at h (g .long)) in
-          let lo : length out′ ≡ length out = v .long ∙ same-len-mid at (at + 65536 - at) out p lp in
-          record {
-            leads =
-                g .leads ∙ ap (leave a (held s n b)) (lines-at block i k (omega arith) f)
-                ∙ ap (λ (y : Held). leave a y (linesOf (drop (i + k + 1) block))) (same-left s n b (take k (drop i block)) a (take 65536 (drop at out)) u ∙ sym (ap holds o));
-            wide = g .wide;
-            is-whole = subst⁻¹ (λ (y : Outcome). whole (y .settings) (y .numbers) (y .keys) ≡ true) o (outcome-whole s n b (take k (drop i block)) (take 65536 (drop at out)) (g .is-whole));
-            fits = omega (arith, v .most);
-            inside = omega arith;
-            long = lo ∙ g .long;
-            numbers-same = ln ∙ g .numbers-same;
-            keys-same = lb ∙ g .keys-same;
-            out-same = lo ∙ g .out-same;
-          }
+pub first-line : (s : Settings) (n b out block : List ℕ) → Servable s n b out → BetweenLines (lent s n b) block n b out s n b out 0 0
+first-line s n b out block a =
+    record {
+      through = through-none (lent s n b) block s n b (a .is-whole);
+      prints = record { next = refl; holds = refl; long = refl; most = omega arith };
+      inside = omega arith;
+      long = a .long;
+      numbers-same = refl;
+      keys-same = refl;
+      out-same = refl;
+    }
 
-module _ (a : List ℕ) (h : Held) (n₀ b₀ out₀ block : List ℕ) (s : Settings) (n b out : List ℕ) (at i : ℕ) (g : Serving a (leave a h (linesOf block)) n₀ b₀ out₀ block s n b out at i) where
+module _ (h : Lent) (block n₀ b₀ out₀ : List ℕ) (s : Settings) (n b out : List ℕ) (at i : ℕ) (g : BetweenLines h block n₀ b₀ out₀ s n b out at i) where
+  pub line-room : at ≤ 65536 → at + 65536 ≤ length out
+  line-room m = omega (arith, g .long)
+
+  pub now-whole : whole s n b ≡ true
+  now-whole = g .through .is-whole
+
+  -- One line is served.
+  module _ (k : ℕ) (r : Served) (n′ b′ p : List ℕ) (m : at ≤ 65536) (q : outcomeFrom r n′ b′ p ≡ outcome s n b (take k (drop i block)) (take 65536 (drop at out)))
+      (lp : length p ≡ 65536) (f : k ≡ feedAt (drop i block)) (z : i + k < length block) where
+    inside : k < length (drop i block)
+    inside = rw length-drop (omega arith)
+
+    line-is : linesOf (take (suc k) (drop i block)) ≡ take k (drop i block) ∷ []
+    line-is = rw f (lines-first (drop i block) (rw (← f) inside))
+
+    len-most : r .len ≤ 65536
+    len-most = omega (arith, answer-fits s n b (take k (drop i block)) (take 65536 (drop at out)) n′ b′ p r q)
+
+    line-through : Through (lent s n b) (drop i block) (suc k) (r .settings) n′ b′
+    line-through =
+        record {
+          is-whole = subst⁻¹ (λ (y : Outcome). whole (y .settings) (y .numbers) (y .keys) ≡ true) q (outcome-whole s n b (take k (drop i block)) (take 65536 (drop at out)) (g .through .is-whole));
+          leads = line-left s n b (take k (drop i block)) out n′ b′ p at r m (g .long) q lp len-most ∙ sym (ap (leftBy (lent s n b)) line-is);
+          inside = omega (arith, inside);
+          cut = rw f (end-first (drop i block) (rw (← f) inside));
+        }
+
+    line-prints : (out′ : List ℕ) (j : ℕ) → Wrote (putMid at 65536 out p) at (printed (r .number) (take (r .len) (drop at (putMid at 65536 out p)))) 65536 out′ j
+        → Wrote out₀ 0 (printedBy h (linesOf (take (i + suc k) block))) 131072 out′ j
+    line-prints out′ j v =
+        let w = line-wrote s n b (take k (drop i block)) out n′ b′ p at r m (g .long) q lp len-most out′ j v in
+        let x = wrote-both out₀ 0 (printedBy h (linesOf (take i block))) 131072 out at (printedOf (servedLine (lent s n b) (take k (drop i block)))) 65536 out′ j (omega arith) (g .prints) w in
+        let e : printedBy h (linesOf (take i block)) ++ printedOf (servedLine (lent s n b) (take k (drop i block))) ≡ printedBy h (linesOf (take (i + suc k) block)) =
+        ap (λ (t : List ℕ). printedBy h (linesOf (take i block)) ++ t) (sym (append-nil (printedOf (servedLine (lent s n b) (take k (drop i block))))))
+        ∙ sym (ap (λ (ls : List (List ℕ)). printedBy h (linesOf (take i block)) ++ printedBy (lent s n b) ls) line-is)
+        ∙ sym (printed-both h block i (suc k) s n b (g .through) (r .settings) n′ b′ line-through) in
+        record { next = x .next ∙ ap (λ (t : List ℕ). 0 + length t) e; holds = x .holds ∙ ap (placed out₀ 0) e; long = x .long; most = omega (arith, w .most) }
+
+    line-next : (out′ : List ℕ) (j : ℕ) → Wrote (putMid at 65536 out p) at (printed (r .number) (take (r .len) (drop at (putMid at 65536 out p)))) 65536 out′ j
+        → length n′ ≡ length n → length b′ ≡ length b → BetweenLines h block n₀ b₀ out₀ (r .settings) n′ b′ out′ j (i + suc k)
+    line-next out′ j v ln lb =
+        let x = line-prints out′ j v in
+        let lo : length out′ ≡ length out = x .long ∙ sym (g .out-same) in
+        record {
+          through = through-both h block i (suc k) s n b (g .through) (r .settings) n′ b′ line-through;
+          prints = x;
+          inside = omega arith;
+          long = lo ∙ g .long;
+          numbers-same = ln ∙ g .numbers-same;
+          keys-same = lb ∙ g .keys-same;
+          out-same = x .long;
+        }
+
+  -- The same in the words that the code leaves.
+  pub next-line : (k : ℕ) (r : Served) (n′ b′ p : List ℕ) → at ≤ 65536 → outcomeFrom r n′ b′ p ≡ outcome s n b (take (i + k - i) (drop i block)) (midOf at (at + 65536 - at) out)
+      → length p ≡ length (midOf at (at + 65536 - at) out) → (out′ : List ℕ) (j : ℕ) → Within k (feedAt (take (length block - i) (drop i block))) (length (take (length block - i) (drop i block))) → i + k < length block
+      → Wrote (putMid at (at + 65536 - at) out p) at (printed (r .number) (take (r .len) (drop at (putMid at (at + 65536 - at) out p)))) 65536 out′ j → length n′ ≡ length n → length b′ ≡ length b
+      → BetweenLines h block n₀ b₀ out₀ (r .settings) n′ b′ out′ j (i + k + 1)
+  next-line k r n′ b′ p m q lp out′ j e z v ln lb =
+      let f : k ≡ feedAt (drop i block) = rw (rest-all i block) at (e .is) in
+      let d : i + k - i ≡ k = omega arith in
+      let c : at + 65536 - at ≡ 65536 = omega arith in
+      let u : i + k + 1 ≡ i + suc k = omega arith in
+      rw u (line-next k r n′ b′ p m (rw (d, c) at q) (lp ∙ ap length (room-part out at) ∙ room-wide out at m (g .long)) f z out′ j (rw c at v) ln lb)
+
   -- No line feed is left.
   pub lines-done : (k : ℕ) → Within k (feedAt (take (length block - i) (drop i block))) (length (take (length block - i) (drop i block))) → length block ≤ i + k
-      → Goes a h block (record { settings = s; at = at; served = i }) n b
+      → ServedSome h block out₀ (record { settings = s; at = at; served = i }) n b out
   lines-done k e q =
-      let x = end-inside k (feedAt (take (length block - i) (drop i block))) i block (length block - i) e in
-      let z : i + k ≡ length block = omega (arith, g .inside) in
       let f : k ≡ feedAt (drop i block) = rw (rest-all i block) at (e .is) in
-      record { is-whole = g .is-whole; fits = g .fits; inside = g .inside; leads = g .leads; no-feed = λ x. ap (λ (j : ℕ). i + j) (sym f) ∙ z }
+      let x : k ≤ length (drop i block) = rw (rest-all i block) at (e .most) in
+      record { through = g .through; prints = g .prints; all = λ y. through-all h block i s n b (g .through) (omega arith) (omega arith) }
 
-  -- Nobody takes the output.
-  pub lines-stopped : 65536 < at → Goes a h block (record { settings = s; at = at; served = i }) n b
-  lines-stopped q = record { is-whole = g .is-whole; fits = g .fits; inside = g .inside; leads = g .leads; no-feed = λ x. absurd (omega (arith, q, x)) }
+  -- An answer might not fit.
+  pub lines-stopped : 65536 < at → ServedSome h block out₀ (record { settings = s; at = at; served = i }) n b out
+  lines-stopped q = record { through = g .through; prints = g .prints; all = λ y. absurd (omega (arith, q, y)) }
 
--- ## The bytes behind the last line feed
+-- ## Between two parts
 
-kept-moved : (input : List ℕ) (from to : ℕ) (ys : List ℕ) → ys ≡ movedDown from (midOf 0 (to - 0) input) → putMid 0 (to - 0) input ys ≡ movedDown from (take to input) ++ drop to input
-kept-moved input from to ys e = let z : to - 0 ≡ to = omega arith in rw (e, z)
+some-served : (h : Lent) (block : List ℕ) (j : ℕ) → 0 < length (printedBy h (linesOf (take j block))) → 0 < j
+some-served h block zero q = absurd (omega arith)
+some-served h block (suc j) q = omega arith
 
--- A line of more than 512 bytes reads as nothing.
-long-unread : (l : List ℕ) → 512 < length l → readLine l ≡ none
-unfolding readLine
-long-unread l h = simp (lt-ltb _ _ h)
+pub first-part : (s : Settings) (n b out block : List ℕ) → Servable s n b out → BetweenParts (lent s n b) block n b out s n b out 0
+first-part s n b out block a =
+    record {
+      through = through-none (lent s n b) block s n b (a .is-whole);
+      inside = omega arith;
+      long = a .long;
+      numbers-same = refl;
+      keys-same = refl;
+      out-same = refl;
+    }
 
-cut-reads : (l rest : List ℕ) → 513 ≤ length l → readLine (take 513 l ++ rest) ≡ readLine (l ++ rest)
-cut-reads l rest h =
-    let n : length (take 513 l) ≡ 513 = length-take-le 513 l h in
-    long-unread (take 513 l ++ rest) (rw length-append (omega arith)) ∙ sym (long-unread (l ++ rest) (rw length-append (omega arith)))
+module _ (h : Lent) (block n₀ b₀ out₀ : List ℕ) (s : Settings) (n b out : List ℕ) (i : ℕ) (g : BetweenParts h block n₀ b₀ out₀ s n b out i) where
+  pub part-servable : Servable s n b out
+  part-servable = record { is-whole = g .through .is-whole; long = g .long }
 
-module _ (input : List ℕ) (from to : ℕ) (ys : List ℕ) (h : Span from to (length input)) (e : ys ≡ movedDown from (midOf 0 (to - 0) input)) where
-  long : length (take (to - from) (drop from input)) ≡ to - from
-  long = length-take-le (to - from) (drop from input) (rw length-drop (omega (arith, h .from, h .to)))
+  module _ (r : After) (n′ b′ out′ : List ℕ) (d : ServedSome (lent s n b) (take (length block - i) (drop i block)) out r n′ b′ out′) where
+    rest-served : ServedSome (lent s n b) (drop i block) out r n′ b′ out′
+    rest-served = rw (rest-all i block) at d
 
-  pub kept-all : to - from < 513 → Kept input from to (putMid 0 (to - 0) input ys) (to - from)
-  kept-all l =
-      record {
-        moved = kept-moved input from to ys e;
-        count = record { is = omega arith; most = omega arith };
-        reads = λ rest. ap (λ (x : List ℕ). readLine (x ++ rest)) (take-take (to - from) (to - from) (drop from input) (omega arith));
-      }
+    pub part-inside : i + r .served ≤ length block
+    part-inside = let x = rest-served .through .inside in let l = length-drop i block in omega (arith, g .inside)
 
-  pub kept-cut : 513 ≤ to - from → Kept input from to (putMid 0 (to - 0) input ys) 513
-  kept-cut l =
-      record {
-        moved = kept-moved input from to ys e;
-        count = record { is = omega arith; most = omega arith };
-        reads = λ rest. cut-reads (take (to - from) (drop from input)) rest (omega (arith, long));
-      }
+    pub part-written : r .at ≤ length out′
+    part-written = omega (arith, d .prints .most, d .prints .long, g .long)
 
-pub ruleset keep-cases = (kept-all, kept-cut)
+    part-through : Through h block (i + r .served) (r .settings) n′ b′
+    part-through = through-both h block i (r .served) s n b (g .through) (r .settings) n′ b′ (rest-served .through)
 
--- ## The run
+    -- Where output waits, a line was served.
+    pub part-less : 65536 < r .at → length block - (i + r .served) < length block - i
+    part-less q =
+        let x = some-served (lent s n b) (drop i block) (r .served) (omega (arith, rest-served .prints .next)) in
+        omega (arith, part-inside)
 
--- A bucket of zeros is fresh.
-zeros-whole : (s : Settings) (c x y : ℕ) (n b : List ℕ) → Fresh s → 1 ≤ c → c ≤ 1024 → x ≡ 8 * c → y ≡ 64 * c → n ≡ replicate x 0 → b ≡ replicate y 0 → whole s n b ≡ true
-zeros-whole s c x y n b f some most ex ey en eb = rw (en, eb, ex, ey) (fresh-whole s c f some most)
-
-zeros-long : (l : List ℕ) (k : ℕ) → l ≡ replicate k 0 → length l ≡ k
-zeros-long l k e = rw e (length-replicate k 0)
-
-pub may-run : (s : Settings) (input n b out : List ℕ) → Fresh s → input ≡ replicate 66560 0 → n ≡ replicate 8192 0 → b ≡ replicate 65536 0 → out ≡ replicate 131072 0 → Runs s input n b out
-may-run s input n b out f ei en eb eo =
-    record { is-whole = zeros-whole s 1024 8192 65536 n b f (omega arith) (omega arith) refl refl en eb; input-long = zeros-long input 66560 ei; long = zeros-long out 131072 eo }
-
-module _ (input₀ n₀ b₀ out₀ : List ℕ) where
-  pub first-block : (s : Settings) → Runs s input₀ n₀ b₀ out₀ → Running input₀ n₀ b₀ out₀ s input₀ n₀ b₀ out₀ 0 0
-  first-block s h =
-      record {
-        is-whole = h .is-whole;
-        fits = omega arith;
-        few = omega arith;
-        input-long = h .input-long;
-        long = h .long;
-        input-same = refl;
-        numbers-same = refl;
-        keys-same = refl;
-        out-same = refl;
-      }
-
-  module _ (s : Settings) (input n b out : List ℕ) (at kept : ℕ) (g : Running input₀ n₀ b₀ out₀ s input n b out at kept) where
-    pub block-ready : at ≤ 65536 → Ready s n b out at
-    block-ready h = record { is-whole = g .is-whole; fits = h; long = g .long }
-
-    pub next-block : (r : Block) (filled input′ n′ b′ out′ : List ℕ) → Left r n′ b′
-        → length filled ≡ length input → length input′ ≡ length filled → length n′ ≡ length n → length b′ ≡ length b → length out′ ≡ length out
-        → Running input₀ n₀ b₀ out₀ (r .settings) input′ n′ b′ out′ (r .at) (r .kept)
-    next-block r filled input′ n′ b′ out′ d lf li ln lb lo =
+    pub part-next : length n′ ≡ length n → length b′ ≡ length b → length out′ ≡ length out → BetweenParts h block n₀ b₀ out₀ (r .settings) n′ b′ out′ (i + r .served)
+    part-next ln lb lo =
         record {
-          is-whole = d .is-whole;
-          fits = d .fits;
-          few = d .few;
-          input-long = li ∙ lf ∙ g .input-long;
+          through = part-through;
+          inside = part-inside;
           long = lo ∙ g .long;
-          input-same = li ∙ lf ∙ g .input-same;
           numbers-same = ln ∙ g .numbers-same;
           keys-same = lb ∙ g .keys-same;
           out-same = lo ∙ g .out-same;
         }
+
+    -- Nobody takes the output.
+    pub parts-stopped : ServedAll h block (record { settings = r .settings; served = i + r .served; told = false }) n′ b′
+    parts-stopped = record { through = part-through; all = λ x. absurd (clash false x refl) }
+
+    pub parts-done : r .at ≤ 65536 → ServedAll h block (record { settings = r .settings; served = i + r .served; told = true }) n′ b′
+    parts-done q =
+        let t = length-take-le i block (g .inside) in
+        let e = end-append (take i block) (drop i block) (g .through .cut ∙ sym t) in
+        let x = rest-served .all q in
+        record { through = part-through; all = λ y. omega (arith, ap endOf (take-append-drop i block)) }

@@ -1,89 +1,114 @@
--- What holds between two lines: the bucket is whole, and an answer fits behind the output that waits.
-use Prim.Native.Nat.{ℕ, _+_, _-_, _≤_, min}
+-- What the program's functions ask for and leave.
+use Prim.Native.Nat.{ℕ, _+_, _-_, _≤_, _<_, min}
 use mathlib.Core.Path.{_≡_}
-use mathlib.Core.Bool.{true}
+use mathlib.Core.Bool.{Bool, true, false}
 use mathlib.Core.List.{List, [], _∷_, _++_}
 use lib.ListN.{length, take, drop}
-use Rattle.buffers.specs.Ranges.{Within}
+use Rattle.buffers.specs.Ranges.{Within, Span}
 use Rattle.buffers.specs.Moves.{movedDown}
-use Rattle.text.specs.Lines.{linesOf, feedAt}
+use Rattle.buffers.specs.Writes.{Wrote}
+use Rattle.text.specs.Lines.{linesOf}
+use Rattle.text.specs.Keys.{contains}
 use Rattle.settings.specs.declared.Settings.{Settings}
 use Rattle.bucket.specs.Whole.{whole}
-use Rattle.request.specs.Grammar.{readLine}
-use Rattle.outcome.specs.Outcome.{Outcome, outcome}
+use Rattle.outcome.specs.Calls.{Lent, lent}
 use Rattle.bucketrun.specs.declared.Course.{Course as After}
 use Rattle.bucketrun.specs.declared.Block.{Block}
+use Rattle.bucketrun.specs.declared.Rest.{Rest}
+use Rattle.bucketrun.specs.Program.{leftBy, printedBy, endOf, Waiting, waiting, afterBlock, afterBlocks, joined}
 
--- A line may come.
-pub record Ready (s : Settings) (numbers keys out : List ℕ) (at : ℕ) : Type 0 where
+-- ## The lines of a block
+
+-- The bucket is whole, and the output has room for what waits and for an answer.
+pub record Servable (s : Settings) (numbers keys out : List ℕ) : Type 0 where
   pub is-whole : whole s numbers keys ≡ true
-  pub fits : at ≤ 65536
   pub long : length out ≡ 131072
 
--- The bucket as it is lent.
-pub record Held : Type 0 where
-  pub settings : Settings
-  pub numbers : List ℕ
-  pub keys : List ℕ
-
-abbrev pub held : Settings → List ℕ → List ℕ → Held
-held s numbers keys = record { settings = s; numbers = numbers; keys = keys }
-
--- what an outcome leaves of it
-abbrev pub holds : Outcome → Held
-holds o = held (o .settings) (o .numbers) (o .keys)
-
--- What lines leave, each handed what the one before it left and the answer buffer a, of which only the length counts.
-abbrev pub leave : List ℕ → Held → List (List ℕ) → Held
-leave a h [] = h
-leave a h (l ∷ ls) = leave a (holds (outcome (h .settings) (h .numbers) (h .keys) l a)) ls
-
--- Lines of a block are served: all that a line feed ends, where the output was taken.
-pub record Goes (a : List ℕ) (h : Held) (block : List ℕ) (r : After) (numbers keys : List ℕ) : Type 0 where
-  pub is-whole : whole (r .settings) numbers keys ≡ true
-  pub fits : r .at ≤ 131072
-  pub inside : r .served ≤ length block
-  pub leads : leave a h (linesOf block) ≡ leave a (held (r .settings) numbers keys) (linesOf (drop (r .served) block))
-  pub no-feed : r .at ≤ 65536 → r .served + feedAt (drop (r .served) block) ≡ length block
-
--- The bytes between two places are at the front, and r of them are kept: whatever comes behind them, the line reads the same.
-pub record Kept (input : List ℕ) (from to : ℕ) (exit : List ℕ) (r : ℕ) : Type 0 where
-  pub moved : exit ≡ movedDown from (take to input) ++ drop to input
-  pub count : Within r (min (to - from) 513) 513
-  pub reads : (rest : List ℕ) → readLine (take r (take (to - from) (drop from input)) ++ rest) ≡ readLine (take (to - from) (drop from input) ++ rest)
-
--- A block is served, and the start of a line may be kept.
-pub record Left (r : Block) (numbers keys : List ℕ) : Type 0 where
-  pub is-whole : whole (r .settings) numbers keys ≡ true
-  pub fits : r .at ≤ 131072
-  pub few : r .kept ≤ 513
-
--- A run may start.
-pub record Runs (s : Settings) (input numbers keys out : List ℕ) : Type 0 where
+-- The lines of the first bytes of a block are served: what they leave, and a cut behind a line feed.
+pub record Through (h : Lent) (block : List ℕ) (i : ℕ) (s : Settings) (numbers keys : List ℕ) : Type 0 where
   pub is-whole : whole s numbers keys ≡ true
-  pub input-long : length input ≡ 66560
-  pub long : length out ≡ 131072
+  pub leads : lent s numbers keys ≡ leftBy h (linesOf (take i block))
+  pub inside : i ≤ length block
+  pub cut : endOf (take i block) ≡ i
 
--- Between two lines of a block, of which i bytes are served; the lists with ₀ are those that came.
-pub record Serving (a : List ℕ) (end : Held) (numbers₀ keys₀ out₀ block : List ℕ) (s : Settings) (numbers keys out : List ℕ) (at i : ℕ) : Type 0 where
-  pub leads : end ≡ leave a (held s numbers keys) (linesOf (drop i block))
-  pub wide : length a ≡ 65536
-  pub is-whole : whole s numbers keys ≡ true
-  pub fits : at ≤ 131072
+-- Some lines are served, and what they print stands at the output's start; where there is room for more, they are all that a line feed ends.
+pub record ServedSome (h : Lent) (block out : List ℕ) (r : After) (numbers keys out′ : List ℕ) : Type 0 where
+  pub through : Through h block (r .served) (r .settings) numbers keys
+  pub prints : Wrote out 0 (printedBy h (linesOf (take (r .served) block))) 131072 out′ (r .at)
+  pub all : r .at ≤ 65536 → r .served ≡ endOf block
+
+-- Between two of them; the lists with ₀ are those that came.
+pub record BetweenLines (h : Lent) (block numbers₀ keys₀ out₀ : List ℕ) (s : Settings) (numbers keys out : List ℕ) (at i : ℕ) : Type 0 where
+  pub through : Through h block i s numbers keys
+  pub prints : Wrote out₀ 0 (printedBy h (linesOf (take i block))) 131072 out at
   pub inside : i ≤ length block
   pub long : length out ≡ 131072
   pub numbers-same : length numbers ≡ length numbers₀
   pub keys-same : length keys ≡ length keys₀
   pub out-same : length out ≡ length out₀
 
--- Between two blocks.
-pub record Running (input₀ numbers₀ keys₀ out₀ : List ℕ) (s : Settings) (input numbers keys out : List ℕ) (at kept : ℕ) : Type 0 where
-  pub is-whole : whole s numbers keys ≡ true
-  pub fits : at ≤ 131072
-  pub few : kept ≤ 513
-  pub input-long : length input ≡ 66560
+-- Lines are served and written: all that a line feed ends, where all output was taken.
+pub record ServedAll (h : Lent) (block : List ℕ) (r : Block) (numbers keys : List ℕ) : Type 0 where
+  pub through : Through h block (r .served) (r .settings) numbers keys
+  pub all : r .told ≡ true → r .served ≡ endOf block
+
+-- Between two parts of a block, each of which is written once it is served.
+pub record BetweenParts (h : Lent) (block numbers₀ keys₀ out₀ : List ℕ) (s : Settings) (numbers keys out : List ℕ) (i : ℕ) : Type 0 where
+  pub through : Through h block i s numbers keys
+  pub inside : i ≤ length block
   pub long : length out ≡ 131072
+  pub numbers-same : length numbers ≡ length numbers₀
+  pub keys-same : length keys ≡ length keys₀
+  pub out-same : length out ≡ length out₀
+
+-- ## The blocks
+
+-- Bytes came behind the first `kept`, which stay.
+pub record CameBehind (input : List ℕ) (kept : ℕ) (exit : List ℕ) (r : ℕ) : Type 0 where
+  pub span : Span kept r (length input)
+  pub stays : take kept exit ≡ take kept input
+
+-- The bytes between two places are at the front, and 513 of them, or all, are kept.
+pub record Begun (input : List ℕ) (from to : ℕ) (exit : List ℕ) (r : ℕ) : Type 0 where
+  pub moved : exit ≡ movedDown from (take to input) ++ drop to input
+  pub count : Within r (min (to - from) 513) 513
+
+-- A block is served, and the start of a line may be kept: what stands then is what the block leaves, where all output was taken.
+pub record TookBlock (h : Lent) (block : List ℕ) (r : Rest) (numbers keys input′ : List ℕ) : Type 0 where
+  pub is-whole : whole (r .settings) numbers keys ≡ true
+  pub few : r .kept ≤ 513
+  pub takes : r .told ≡ true → waiting (lent (r .settings) numbers keys) (take (r .kept) input′) ≡ afterBlock (waiting h []) block
+
+-- A line feed may be put behind the line that has begun.
+pub record Ending (input : List ℕ) (kept : ℕ) : Type 0 where
+  pub room : kept < length input
+  pub no-feed : contains (take kept input) 10 ≡ false
+
+-- Where all output is written, the bucket is what the last line leaves, if there is one.
+pub record EndsIn (told : Bool) (h : Lent) (begun numbers keys : List ℕ) : Type 0 where
+  pub settings : Settings
+  pub is : told ≡ true → lent settings numbers keys ≡ leftBy h (linesOf begun)
+
+-- A run may start.
+pub record Startable (s : Settings) (input numbers keys out : List ℕ) : Type 0 where
+  pub servable : Servable s numbers keys out
+  pub input-long : length input ≡ 66560
+
+-- Between two blocks: the bucket and what is kept are what the blocks so far leave.
+pub record BetweenBlocks (h : Lent) (input₀ numbers₀ keys₀ out₀ : List ℕ) (s : Settings) (input numbers keys out : List ℕ) (kept : ℕ) : Type 0 where
+  pub blocks : List (List ℕ)
+  pub leads : waiting (lent s numbers keys) (take kept input) ≡ afterBlocks (waiting h []) blocks
+  pub servable : Servable s numbers keys out
+  pub few : kept ≤ 513
+  pub no-feed : contains (take kept input) 10 ≡ false
+  pub input-long : length input ≡ 66560
   pub input-same : length input ≡ length input₀
   pub numbers-same : length numbers ≡ length numbers₀
   pub keys-same : length keys ≡ length keys₀
   pub out-same : length out ≡ length out₀
+
+-- Where all output is written, the bucket is what the lines of the blocks that came leave.
+pub record Ran (told : Bool) (h : Lent) (numbers keys : List ℕ) : Type 0 where
+  pub blocks : List (List ℕ)
+  pub settings : Settings
+  pub is : told ≡ true → lent settings numbers keys ≡ leftBy h (linesOf (joined blocks))

@@ -1,14 +1,18 @@
 // Serves the lines of standard input on a fresh bucket of 1024 rows, and prints each answer, or `no`, tab, number, line feed.
+// All that is owed is written before more is read, so that whoever waits for an answer has it.
+use libc::STDERR_FILENO;
 use libc::STDIN_FILENO;
 use libc::STDOUT_FILENO;
 use settings::Settings;
 ghost use mathlib.Core.Path.{_≡_};
+ghost use mathlib.Core.Bool.{true};
 ghost use Prim.Native.Nat.{_+_, _≤_, _<_};
 ghost use lib.ListN.{length, take, drop, replicate};
 ghost use Rattle.buffers.specs.Ranges.{Span};
 ghost use Rattle.buffers.specs.Writes.{Wrote};
+ghost use Rattle.outcome.specs.Calls.{lent};
 ghost use Rattle.outcome.specs.Printed.{printed};
-ghost use Rattle.bucketrun.specs.Course.{Ready, held, Goes, Kept, Left, Runs};
+ghost use Rattle.bucketrun.specs.Course.{Servable, ServedSome, ServedAll, CameBehind, Begun, TookBlock, Ending, EndsIn, Startable, Ran};
 
 // The length of the answer buffer; no more output than that waits when a line comes.
 const ROOM: usize = 65536;
@@ -16,18 +20,25 @@ const ROOM: usize = 65536;
 // A line of more bytes than this is read as this many: it is refusal 3 whatever it holds.
 const LONGEST: usize = 513;
 
-// After the lines of a block: the settings, how many bytes of output wait, and how many of the block are served.
+// After lines of a block: the settings, how many bytes of output wait, and how many of the block are served.
 pub struct Course {
     pub settings: Settings,
     pub at: usize,
     pub served: usize,
 }
 
-// After a block: the settings, how many bytes of output wait, and how many of input stand at the front.
+// After a block: the settings, how many of its bytes are served, and whether all output is written.
 pub struct Block {
     pub settings: Settings,
-    pub at: usize,
+    pub served: usize,
+    pub told: bool,
+}
+
+// Before the next block: the settings, how many bytes at the input's front are kept, and whether all output is written.
+pub struct Rest {
+    pub settings: Settings,
     pub kept: usize,
+    pub told: bool,
 }
 
 // What a line prints stands where it goes out from: its answer does so already, a refusal is written there. Returns the place after it.
@@ -44,76 +55,81 @@ fn print(out: &mut [u8], at: usize, number: u64, len: usize) -> usize
     buffers::copy_in(out, after_number, b"\n")
 }
 
-// Writes the output that waits where a line's answer would not fit behind it; it stays where nobody takes it.
-fn make_room(out: &[u8], at: usize) -> usize
-    requires { ⌜ at ≤ length (now out) ⌝ }
-    ensures { λ r. ⌜ r ≤ at ⌝ }
-{
-    if at <= ROOM {
-        return at;
-    }
-    if io::write_all(STDOUT_FILENO, &out[0..at]) {
-        return 0;
-    }
-    at
-}
-
-// Serves the lines that end in the block, until nobody takes the output.
-fn serve_lines(
+// Serves lines that end in the block, until none is left or an answer might not fit behind the output that waits.
+fn serve_some(
+    block: &[u8],
     s: Settings,
     rows: &mut [u64],
     keys: &mut [u8],
-    block: &[u8],
     out: &mut [u8],
-    at: usize,
 ) -> Course
-    requires { ⌜ Ready s (now rows) (now keys) (now out) at ⌝ }
-    ensures { λ r. ⌜ Goes (take 65536 (drop at (now (out .entry)))) (held s (now (rows .entry)) (now (keys .entry))) (now (block .entry)) r (now (rows .exit)) (now (keys .exit)) ⌝ }
+    requires { ⌜ Servable s (now rows) (now keys) (now out) ⌝ }
+    ensures { λ r. ⌜ ServedSome (lent s (now (rows .entry)) (now (keys .entry))) (now (block .entry)) (now (out .entry)) r (now (rows .exit)) (now (keys .exit)) (now (out .exit)) ⌝ }
 {
     let mut after = s;
-    let mut waits = at;
+    let mut at = 0;
     let mut i = 0;
-    while waits <= ROOM {
+    while at <= ROOM {
         let end = i + text::line_length(&block[i..]);
         if block.len() <= end {
             break;
         }
         let next = end + 1;
-        let room = waits + ROOM;
-        let r = engine::serve_whole(after, rows, keys, &block[i..end], &mut out[waits..room]);
+        let room = at + ROOM;
+        let r = engine::serve_whole(after, rows, keys, &block[i..end], &mut out[at..room]);
         after = r.settings;
-        let behind = print(out, waits, r.number, r.len);
-        waits = make_room(out, behind);
+        at = print(out, at, r.number, r.len);
         i = next;
     }
     Course {
         settings: after,
-        at: waits,
+        at,
         served: i,
     }
 }
 
-// Reads behind the bytes that are kept, and returns the place after what came; at the input's end a line feed ends what is kept.
+// Serves every line that ends in the block, and writes what they print, until nobody takes it.
+fn serve_all(block: &[u8], s: Settings, rows: &mut [u64], keys: &mut [u8], out: &mut [u8]) -> Block
+    requires { ⌜ Servable s (now rows) (now keys) (now out) ⌝ }
+    ensures { λ r. ⌜ ServedAll (lent s (now (rows .entry)) (now (keys .entry))) (now (block .entry)) r (now (rows .exit)) (now (keys .exit)) ⌝ }
+{
+    let mut after = s;
+    let mut i = 0;
+    loop {
+        let r = serve_some(&block[i..], after, rows, keys, out);
+        after = r.settings;
+        i += r.served;
+        let at = r.at;
+        if !io::write_all(STDOUT_FILENO, &out[0..at]) {
+            return Block {
+                settings: after,
+                served: i,
+                told: false,
+            };
+        }
+        if at <= ROOM {
+            return Block {
+                settings: after,
+                served: i,
+                told: true,
+            };
+        }
+    }
+}
+
+// Reads behind the bytes that are kept, and returns the place after what came; at the input's end nothing comes.
 fn read_behind(input: &mut [u8], kept: usize) -> usize
     requires { ⌜ kept < length (now input) ⌝ }
-    ensures { λ r. ⌜ Span kept r (length (now (input .entry))) ⌝ }
+    ensures { λ r. ⌜ CameBehind (now (input .entry)) kept (now (input .exit)) r ⌝ }
 {
     let got = libc::read(STDIN_FILENO, &mut input[kept..]);
-    let count = io::count(got, &input[kept..]);
-    if count > 0 {
-        return kept + count;
-    }
-    if kept == 0 {
-        return 0;
-    }
-    input[kept] = b'\n';
-    kept + 1
+    kept + io::count(got, &input[kept..])
 }
 
 // Moves the bytes from `from` to `to` to the front, and returns how many of them a line needs.
 fn keep(input: &mut [u8], from: usize, to: usize) -> usize
     requires { ⌜ Span from to (length (now input)) ⌝ }
-    ensures { λ r. ⌜ Kept (now (input .entry)) from to (now (input .exit)) r ⌝ }
+    ensures { λ r. ⌜ Begun (now (input .entry)) from to (now (input .exit)) r ⌝ }
 {
     buffers::move_down_bytes(&mut input[0..to], from);
     let len = to - from;
@@ -125,48 +141,72 @@ fn keep(input: &mut [u8], from: usize, to: usize) -> usize
 
 // Serves the lines of the input up to `end`, and keeps what stands behind its last line feed.
 fn serve_block(
+    input: &mut [u8],
+    end: usize,
+    s: Settings,
+    rows: &mut [u64],
+    keys: &mut [u8],
+    out: &mut [u8],
+) -> Rest
+    requires { ⌜ end ≤ length (now input) ⌝ }
+    requires { ⌜ Servable s (now rows) (now keys) (now out) ⌝ }
+    ensures { λ r. ⌜ TookBlock (lent s (now (rows .entry)) (now (keys .entry))) (take end (now (input .entry))) r (now (rows .exit)) (now (keys .exit)) (now (input .exit)) ⌝ }
+{
+    let block = serve_all(&input[0..end], s, rows, keys, out);
+    let after = block.settings;
+    let kept = keep(input, block.served, end);
+    Rest {
+        settings: after,
+        kept,
+        told: block.told,
+    }
+}
+
+// At the input's end a line feed ends the line that has begun, if there is one. Returns whether all output is written.
+fn serve_rest(
     s: Settings,
     input: &mut [u8],
     rows: &mut [u64],
     keys: &mut [u8],
     out: &mut [u8],
-    at: usize,
-    end: usize,
-) -> Block
-    requires { ⌜ Ready s (now rows) (now keys) (now out) at ⌝ }
-    requires { ⌜ end ≤ length (now input) ⌝ }
-    ensures { λ r. ⌜ Left r (now (rows .exit)) (now (keys .exit)) ⌝ }
+    kept: usize,
+) -> bool
+    requires { ⌜ Servable s (now rows) (now keys) (now out) ⌝ }
+    requires { ⌜ Ending (now input) kept ⌝ }
+    ensures { λ r. ⌜ EndsIn r (lent s (now (rows .entry)) (now (keys .entry))) (take kept (now (input .entry))) (now (rows .exit)) (now (keys .exit)) ⌝ }
 {
-    let r = serve_lines(s, rows, keys, &input[0..end], out, at);
-    let after = r.settings;
-    let kept = keep(input, r.served, end);
-    Block {
-        settings: after,
-        at: r.at,
-        kept,
+    if kept == 0 {
+        return true;
     }
+    input[kept] = b'\n';
+    let end = kept + 1;
+    let r = serve_all(&input[0..end], s, rows, keys, out);
+    r.told
 }
 
+// Serves the input block by block, and returns whether all output is written.
 // Nothing says that the input ends, and a proved loop has to: it counts down from a number that no run uses up.
-fn run(s: Settings, input: &mut [u8], rows: &mut [u64], keys: &mut [u8], out: &mut [u8])
-    requires { ⌜ Runs s (now input) (now rows) (now keys) (now out) ⌝ }
+fn run(s: Settings, input: &mut [u8], rows: &mut [u64], keys: &mut [u8], out: &mut [u8]) -> bool
+    requires { ⌜ Startable s (now input) (now rows) (now keys) (now out) ⌝ }
+    ensures { λ r. ⌜ Ran r (lent s (now (rows .entry)) (now (keys .entry))) (now (rows .exit)) (now (keys .exit)) ⌝ }
 {
     let mut after = s;
-    let mut at = 0;
     let mut kept = 0;
     let mut turns = u64::MAX;
-    while turns > 0 && at <= ROOM {
+    while turns > 0 {
         let end = read_behind(input, kept);
         if end == kept {
-            io::write_all(STDOUT_FILENO, &out[0..at]);
-            return;
+            return serve_rest(after, input, rows, keys, out, kept);
         }
-        let block = serve_block(after, input, rows, keys, out, at, end);
-        after = block.settings;
-        at = block.at;
-        kept = block.kept;
+        let rest = serve_block(input, end, after, rows, keys, out);
+        if !rest.told {
+            return false;
+        }
+        after = rest.settings;
+        kept = rest.kept;
         turns -= 1;
     }
+    false
 }
 
 // A block of input, and a line that began before it.
@@ -188,11 +228,16 @@ fn main() {
     let mut rows = table::fresh_rows();
     let mut keys = table::fresh_keys();
     let mut out = no_output();
-    run(
+    if !run(
         settings::fresh(),
         &mut input,
         &mut rows,
         &mut keys,
         &mut out,
-    );
+    ) {
+        io::write_all(
+            STDERR_FILENO,
+            b"bucketrun: standard output can't be written\n",
+        );
+    }
 }

@@ -1,3 +1,4 @@
 pub mod Outcome
+pub mod Calls
 pub mod Steps
 pub mod Printed

@@ -1,5 +1,5 @@
 -- `keep` meets its contract.
-use Rattle.bucketrun.proofs.Serving.{keep-cases}
+use Rattle.bucketrun.proofs.Blocks.{keep-cases}
 use borrow.Author.Needs.{needs}
 use Rattle.bucketrun.proofs.keep.Statement.{statement}
 use Rattle.bucketrun.proofs.keep.Tie as tie

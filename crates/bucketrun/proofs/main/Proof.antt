@@ -1,5 +1,5 @@
 -- `main` is safe: what it starts with is a fresh bucket.
-use Rattle.bucketrun.proofs.Serving.{may-run}
+use Rattle.bucketrun.proofs.Blocks.{may-start}
 use borrow.Author.Needs.{needs}
 use Rattle.bucketrun.proofs.main.Statement.{statement}
 use Rattle.bucketrun.proofs.main.Tie as tie
@@ -17,5 +17,8 @@ main-spec =
     (λ c. search needs)
     (λ c. search needs)
     (λ c. search needs)
-    (λ c κs. search (needs, may-run))
+    (λ c κs. search (needs, may-start))
+    (λ c. search needs)
+    (λ c κs. search needs)
+    (λ c. search needs)
     (λ c. search needs))

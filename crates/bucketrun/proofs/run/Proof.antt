@@ -1,16 +1,17 @@
 -- `run` meets its contract.
-use Rattle.bucketrun.specs.Course.{Running}
-use Rattle.bucketrun.proofs.Serving.{first-block, block-ready, next-block}
+use Rattle.outcome.specs.Calls.{lent}
+use Rattle.bucketrun.specs.Course.{BetweenBlocks}
+use Rattle.bucketrun.proofs.Blocks.{first-block, read-room, end-ending, run-ends, next-block, run-stopped}
 use borrow.Author.Needs.{needs}
 use Rattle.bucketrun.proofs.run.Statement.{statement}
 use Rattle.bucketrun.proofs.run.Tie as tie
 
 abbrev Inv-loop : tie.InvT-loop
-Inv-loop input₀ rows₀ keys₀ out₀ after₀ at₀ kept₀ turns₀ input rows keys out after at kept turns =
-    Running input₀ rows₀ keys₀ out₀ after input rows keys out at kept
+Inv-loop input₀ rows₀ keys₀ out₀ after₀ kept₀ turns₀ input rows keys out after kept turns =
+    BetweenBlocks (lent after₀ rows₀ keys₀) input₀ rows₀ keys₀ out₀ after input rows keys out kept
 
 abbrev μ-loop : tie.MeasureT-loop
-μ-loop input₀ rows₀ keys₀ out₀ after₀ at₀ kept₀ turns₀ input rows keys out after at kept turns = turns
+μ-loop input₀ rows₀ keys₀ out₀ after₀ kept₀ turns₀ input rows keys out after kept turns = turns
 
 pub run-spec : {M : Type 1} → statement M
 run-spec =
@@ -19,17 +20,19 @@ run-spec =
     Inv-loop
     μ-loop
     (λ c. search (needs, first-block))
+    (λ c κs. search (needs, read-room))
+    (λ c κs. search (needs, end-ending))
+    (λ c. search needs)
+    (λ c. search needs)
+    (λ c. search needs)
+    (λ c. search needs)
+    (λ c. search (needs, run-ends))
     (λ c κs. search needs)
     (λ c. search needs)
     (λ c. search needs)
     (λ c. search needs)
-    (λ c κs. search needs)
     (λ c. search needs)
-    (λ c. search needs)
-    (λ c. search needs)
-    (λ c. search needs)
-    (λ c. search needs)
-    (λ c κs. search (needs, block-ready))
+    (λ c. search (needs, run-stopped))
     (λ c. search needs)
     (λ c. search needs)
     (λ c. search (needs, next-block))
@@ -37,9 +40,4 @@ run-spec =
     (λ c. search needs)
     (λ c. search needs)
     (λ c. search needs)
-    (λ c. search needs)
-    (λ c. search needs)
-    (λ c. search needs)
-    (λ c. search needs)
-    (λ c. search needs)
-    (λ c. search needs))
+    (λ c. search (needs, run-stopped)))

@@ -1,21 +1,21 @@
--- `serve_lines` meets its contract.
+-- `serve_some` meets its contract.
 use Prim.Native.Nat.{_+_, _-_}
-use lib.ListN.{length, take, drop}
-use Rattle.text.specs.Lines.{linesOf}
-use Rattle.bucketrun.specs.Course.{Serving, held, leave}
-use Rattle.bucketrun.proofs.Serving.{first-line, line-room, next-line, answer-most, lines-done, lines-stopped}
+use lib.ListN.{length}
+use Rattle.outcome.specs.Calls.{lent}
+use Rattle.bucketrun.specs.Course.{BetweenLines}
+use Rattle.bucketrun.proofs.Serving.{first-line, line-room, now-whole, next-line, answer-most, lines-done, lines-stopped}
 use borrow.Author.Needs.{needs}
-use Rattle.bucketrun.proofs.serve_lines.Statement.{statement}
-use Rattle.bucketrun.proofs.serve_lines.Tie as tie
+use Rattle.bucketrun.proofs.serve_some.Statement.{statement}
+use Rattle.bucketrun.proofs.serve_some.Tie as tie
 
 abbrev Inv-loop : tie.InvT-loop
-Inv-loop rows₀ keys₀ block out₀ at after₀ waits₀ i₀ rows keys out after waits i = Serving (take 65536 (drop at out₀)) (leave (take 65536 (drop at out₀)) (held after₀ rows₀ keys₀) (linesOf block)) rows₀ keys₀ out₀ block after rows keys out waits i
+Inv-loop block rows₀ keys₀ out₀ after₀ at₀ i₀ rows keys out after at i = BetweenLines (lent after₀ rows₀ keys₀) block rows₀ keys₀ out₀ after rows keys out at i
 
 abbrev μ-loop : tie.MeasureT-loop
-μ-loop rows₀ keys₀ block out₀ at after₀ waits₀ i₀ rows keys out after waits i = length block + 1 - i
+μ-loop block rows₀ keys₀ out₀ after₀ at₀ i₀ rows keys out after at i = length block + 1 - i
 
-pub serve-lines-spec : {M : Type 1} → statement M
-serve-lines-spec =
+pub serve-some-spec : {M : Type 1} → statement M
+serve-some-spec =
     tie.close
     (tie.spec
     Inv-loop
@@ -36,7 +36,6 @@ serve-lines-spec =
     (λ c. search needs)
     (λ c κs. search needs)
     (λ c κs. (search (needs, line-room), search (needs, answer-most)))
-    (λ c κs. search needs)
     (λ c. search needs)
     (λ c. search (needs, next-line))
     (λ c. search needs)

@@ -1,0 +1,206 @@
+-- Laws of reading: what stands in the input before, between and after blocks.
+use Prim.Native.Nat.{ℕ, suc, _+_, _*_, _-_, _≤_, _<_, min}
+use mathlib.Core.Path.{_≡_, refl, sym, _∙_, ap}
+use mathlib.Core.Bool.{Bool, true, false, not}
+use mathlib.Core.Logic.{inl, inr}
+use mathlib.Core.List.{List, [], _∷_, _++_, append-assoc}
+use native.Mathlib.Omega.{arith}
+use native.Mathlib.Numerals.{add-one}
+use lib.Dec.{ltb}
+use lib.ListN.{length, take, drop, set, replicate, length-append, length-take, length-drop, length-replicate, length-set, take-append-drop}
+use lib.Seq.{length-take-le, take-take, take-all, take-at, take-add, take-append-le, take-suc-set}
+use borrow.Author.Tests.{ltb-true, ltb-false}
+use borrow.Rule.Slice.PartMut.{midOf, putMid, take-put, same-len-mid}
+use Rattle.buffers.specs.Ranges.{Within, Span}
+use Rattle.buffers.specs.Moves.{movedDown}
+use Rattle.buffers.proofs.Tests.{either, clash}
+use Rattle.text.specs.Lines.{linesOf}
+use Rattle.text.specs.Keys.{contains}
+use Rattle.settings.specs.declared.Settings.{Settings}
+use Rattle.settings.specs.Changes.{Fresh}
+use Rattle.bucket.specs.Whole.{whole}
+use Rattle.bucket.proofs.Whole.{fresh-whole}
+use Rattle.outcome.specs.Calls.{Lent, lent}
+use Rattle.bucketrun.specs.declared.Block.{Block}
+use Rattle.bucketrun.specs.declared.Rest.{Rest}
+use Rattle.bucketrun.specs.Program.{leftBy, endOf, endedLines, begunLine, Waiting, waiting, afterBlock, afterBlocks, joined}
+use Rattle.bucketrun.specs.Course.{Servable, Through, ServedAll, CameBehind, Begun, TookBlock, Ending, EndsIn, Startable, BetweenBlocks, Ran}
+use Rattle.bucketrun.proofs.Lines.{end-most, rest-none, none-take, end-last, line-last}
+use Rattle.bucketrun.proofs.Cutting.{blocks-left}
+
+-- ## Reading and keeping
+
+pub came-behind : (input : List ℕ) (kept : ℕ) (ys : List ℕ) (k : ℕ) → kept < length input → length ys ≡ length (midOf kept (length input - kept) input) → k ≤ length (take (length (putMid kept (length input - kept) input ys) - kept) (drop kept (putMid kept (length input - kept) input ys)))
+    → CameBehind input kept (putMid kept (length input - kept) input ys) (kept + k)
+came-behind input kept ys k h l m =
+    let e = same-len-mid kept (length input - kept) input ys l in
+    let t = length-take (length (putMid kept (length input - kept) input ys) - kept) (drop kept (putMid kept (length input - kept) input ys)) in
+    let d = length-drop kept (putMid kept (length input - kept) input ys) in
+    record { span = record { from = omega arith; to = omega arith }; stays = take-put kept (length input - kept) input ys (omega arith) }
+
+kept-moved : (input : List ℕ) (from to : ℕ) (ys : List ℕ) → ys ≡ movedDown from (midOf 0 (to - 0) input) → putMid 0 (to - 0) input ys ≡ movedDown from (take to input) ++ drop to input
+kept-moved input from to ys e = let z : to - 0 ≡ to = omega arith in rw (e, z)
+
+module _ (input : List ℕ) (from to : ℕ) (ys : List ℕ) (h : Span from to (length input)) (e : ys ≡ movedDown from (midOf 0 (to - 0) input)) where
+  pub kept-all : to - from < 513 → Begun input from to (putMid 0 (to - 0) input ys) (to - from)
+  kept-all l = record { moved = kept-moved input from to ys e; count = record { is = omega arith; most = omega arith } }
+
+  pub kept-cut : 513 ≤ to - from → Begun input from to (putMid 0 (to - 0) input ys) 513
+  kept-cut l = record { moved = kept-moved input from to ys e; count = record { is = omega arith; most = omega arith } }
+
+pub ruleset keep-cases = (kept-all, kept-cut)
+
+take-least : (r k : ℕ) (l : List ℕ) → r ≡ min (length l) k → take r l ≡ take k l
+take-least r k l e =
+    elim (either (ltb k (length l))) [
+      | inl t ↦ let h = ltb-true k (length l) t in let q : r ≡ k = omega arith in rw q
+      | inr t ↦ let h = ltb-false k (length l) t in take-all r l (omega arith) ∙ sym (take-all k l (omega arith))
+    ]
+
+-- What is kept is the start of the line that has begun.
+kept-begun : (input : List ℕ) (to : ℕ) (exit : List ℕ) (r : ℕ) → to ≤ length input → Begun input (endOf (take to input)) to exit r → take r exit ≡ begunLine (take to input)
+unfolding movedDown
+kept-begun input to exit r h d =
+    let t = length-take-le to input h in
+    let l = length-drop (endOf (take to input)) (take to input) in
+    let m = end-most (take to input) in
+    ap (take r) (d .moved ∙ append-assoc (drop (endOf (take to input)) (take to input)) (replicate (endOf (take to input)) 0) (drop to input))
+    ∙ take-append-le r (drop (endOf (take to input)) (take to input)) (replicate (endOf (take to input)) 0 ++ drop to input) (omega (arith, d .count .is))
+    ∙ take-least r 513 (drop (endOf (take to input)) (take to input)) (d .count .is ∙ omega arith)
+
+-- ## A block
+
+module _ (h : Lent) (input : List ℕ) (end : ℕ) (l : end ≤ length input) (r : Block) (n′ b′ : List ℕ) (d : ServedAll h (midOf 0 (end - 0) input) r n′ b′) where
+  block-served : ServedAll h (take end input) r n′ b′
+  block-served = let z : end - 0 ≡ end = omega arith in rw z at d
+
+  pub keep-span : Span (r .served) end (length input)
+  keep-span = record { from = omega (arith, block-served .through .inside, length-take end input); to = l }
+
+  pub took-block : (input′ : List ℕ) (k : ℕ) → Begun input (r .served) end input′ k → TookBlock h (take end input) (record { settings = r .settings; kept = k; told = r .told }) n′ b′ input′
+  took-block input′ k e = record { is-whole = d .through .is-whole; few = e .count .most; takes = λ t. taken t }
+    where
+      taken : r .told ≡ true → waiting (lent (r .settings) n′ b′) (take k input′) ≡ afterBlock (waiting h []) (take end input)
+      taken t =
+          let a : r .served ≡ endOf (take end input) = block-served .all t in
+          let f : Begun input (endOf (take end input)) end input′ k = rw a at e in
+          ap (λ (x : Lent). waiting x (take k input′)) (block-served .through .leads ∙ ap (λ (j : ℕ). leftBy h (linesOf (take j (take end input)))) a)
+          ∙ ap (waiting (leftBy h (endedLines (take end input)))) (kept-begun input end input′ k l f)
+
+-- ## The end of the input
+
+-- A line feed is put behind the line that has begun.
+fed : (input : List ℕ) (kept : ℕ) → kept < length input → take (kept + 1) (set input kept 10) ≡ take kept input ++ 10 ∷ []
+fed input kept h = rw add-one (take-suc-set input kept 10 h)
+
+pub feed-inside : (input : List ℕ) (kept : ℕ) → Ending input kept → kept + 1 ≤ length (set input kept 10)
+feed-inside input kept a = rw length-set (omega (arith, a .room))
+
+pub rest-none-kept : (s : Settings) (n b : List ℕ) (input : List ℕ) (kept : ℕ) → kept ≡ 0 → EndsIn true (lent s n b) (take kept input) n b
+rest-none-kept s n b input kept e = record { settings = s; is = λ x. rw e }
+
+pub rest-served : (h : Lent) (input : List ℕ) (kept : ℕ) (r : Block) (n′ b′ : List ℕ) → Ending input kept → (kept ≡ 0 → ⊥) → ServedAll h (midOf 0 (kept + 1 - 0) (set input kept 10)) r n′ b′ → EndsIn (r .told) h (take kept input) n′ b′
+rest-served h input kept r n′ b′ a q d =
+    let z : kept + 1 - 0 ≡ kept + 1 = omega arith in
+    let t : midOf 0 (kept + 1 - 0) (set input kept 10) ≡ take kept input ++ 10 ∷ [] = rw z (fed input kept (a .room)) in
+    let e : ServedAll h (take kept input ++ 10 ∷ []) r n′ b′ = rw t at d in
+    let l = length-take-le kept input (omega (arith, a .room)) in
+    record {
+      settings = r .settings;
+      is =
+          λ x. e .through .leads
+          ∙ ap (λ (j : ℕ). leftBy h (linesOf (take j (take kept input ++ 10 ∷ [])))) (e .all x ∙ end-last (take kept input))
+          ∙ ap (λ (t : List ℕ). leftBy h (linesOf t)) (take-all (length (take kept input ++ 10 ∷ [])) (take kept input ++ 10 ∷ []) (omega arith))
+          ∙ ap (leftBy h) (line-last (take kept input) (a .no-feed) (omega arith));
+    }
+
+pub ruleset rest-cases = (rest-none-kept, rest-served)
+
+-- ## The run
+
+-- A bucket of zeros is fresh.
+zeros-whole : (s : Settings) (c x y : ℕ) (n b : List ℕ) → Fresh s → 1 ≤ c → c ≤ 1024 → x ≡ 8 * c → y ≡ 64 * c → n ≡ replicate x 0 → b ≡ replicate y 0 → whole s n b ≡ true
+zeros-whole s c x y n b f some most ex ey en eb = rw (en, eb, ex, ey) (fresh-whole s c f some most)
+
+zeros-long : (l : List ℕ) (k : ℕ) → l ≡ replicate k 0 → length l ≡ k
+zeros-long l k e = rw e (length-replicate k 0)
+
+pub may-start : (s : Settings) (input n b out : List ℕ) → Fresh s → input ≡ replicate 66560 0 → n ≡ replicate 8192 0 → b ≡ replicate 65536 0 → out ≡ replicate 131072 0 → Startable s input n b out
+may-start s input n b out f ei en eb eo =
+    record {
+      servable = record { is-whole = zeros-whole s 1024 8192 65536 n b f (omega arith) (omega arith) refl refl en eb; long = zeros-long out 131072 eo };
+      input-long = zeros-long input 66560 ei;
+    }
+
+after-more : (w : Waiting) (xs : List (List ℕ)) (x : List ℕ) → afterBlocks w (xs ++ x ∷ []) ≡ afterBlock (afterBlocks w xs) x
+after-more w [] x = refl
+after-more w (y ∷ xs) x = after-more (afterBlock w y) xs x
+
+pub first-block : (s : Settings) (input n b out : List ℕ) → Startable s input n b out → BetweenBlocks (lent s n b) input n b out s input n b out 0
+first-block s input n b out a =
+    record {
+      blocks = [];
+      leads = refl;
+      servable = a .servable;
+      few = omega arith;
+      no-feed = refl;
+      input-long = a .input-long;
+      input-same = refl;
+      numbers-same = refl;
+      keys-same = refl;
+      out-same = refl;
+    }
+
+was-told : (b : Bool) → not b ≡ false → b ≡ true
+was-told true e = refl
+was-told false e = absurd (clash true refl e)
+
+-- Output was not taken.
+pub run-stopped : (h : Lent) (n b : List ℕ) → Ran false h n b
+run-stopped h n b = record { blocks = []; settings = h .settings; is = λ x. absurd (clash false x refl) }
+
+module _ (h : Lent) (input₀ n₀ b₀ out₀ : List ℕ) (s : Settings) (input n b out : List ℕ) (kept : ℕ) (g : BetweenBlocks h input₀ n₀ b₀ out₀ s input n b out kept) where
+  pub read-room : kept < length input
+  read-room = omega (arith, g .few, g .input-long)
+
+  module _ (filled : List ℕ) (end : ℕ) (c : CameBehind input kept filled end) (lf : length filled ≡ length input) where
+    -- The text up to `end` is what was kept, and what came.
+    came : take end filled ≡ take kept input ++ take (end - kept) (drop kept filled)
+    came =
+        let z : end ≡ kept + (end - kept) = omega (arith, c .span .from) in
+        ap (λ (j : ℕ). take j filled) z ∙ take-add kept (end - kept) filled ∙ ap (λ (t : List ℕ). t ++ take (end - kept) (drop kept filled)) (c .stays)
+
+    pub end-ending : Ending filled kept
+    end-ending = record { room = omega (arith, read-room); no-feed = ap (λ (t : List ℕ). contains t 10) (c .stays) ∙ g .no-feed }
+
+    pub run-ends : (told : Bool) (n′ b′ : List ℕ) → EndsIn told (lent s n b) (take kept filled) n′ b′ → Ran told h n′ b′
+    run-ends told n′ b′ d =
+        record {
+          blocks = g .blocks;
+          settings = d .settings;
+          is =
+              λ x. d .is x ∙ ap (λ (t : List ℕ). leftBy (lent s n b) (linesOf t)) (c .stays)
+              ∙ ap (λ (w : Waiting). leftBy (w .bucket) (linesOf (w .begun))) (g .leads)
+              ∙ blocks-left h [] (g .blocks);
+        }
+
+    pub next-block : (r : Rest) (input′ n′ b′ out′ : List ℕ) → TookBlock (lent s n b) (take end filled) r n′ b′ input′ → not (r .told) ≡ false
+        → length input′ ≡ length filled → length n′ ≡ length n → length b′ ≡ length b → length out′ ≡ length out
+        → BetweenBlocks h input₀ n₀ b₀ out₀ (r .settings) input′ n′ b′ out′ (r .kept)
+    next-block r input′ n′ b′ out′ d t li ln lb lo =
+        let a : waiting (lent (r .settings) n′ b′) (take (r .kept) input′) ≡ afterBlock (waiting (lent s n b) []) (take end filled) = d .takes (was-told (r .told) t) in
+        record {
+          blocks = g .blocks ++ take (end - kept) (drop kept filled) ∷ [];
+          leads =
+              a ∙ ap (afterBlock (waiting (lent s n b) [])) came
+              ∙ ap (λ (w : Waiting). afterBlock w (take (end - kept) (drop kept filled))) (g .leads)
+              ∙ sym (after-more (waiting h []) (g .blocks) (take (end - kept) (drop kept filled)));
+          servable = record { is-whole = d .is-whole; long = lo ∙ g .servable .long };
+          few = d .few;
+          no-feed = ap (λ (w : Waiting). contains (w .begun) 10) a ∙ none-take 513 (drop (endOf (take end filled)) (take end filled)) (rest-none (take end filled));
+          input-long = li ∙ lf ∙ g .input-long;
+          input-same = li ∙ lf ∙ g .input-same;
+          numbers-same = ln ∙ g .numbers-same;
+          keys-same = lb ∙ g .keys-same;
+          out-same = lo ∙ g .out-same;
+        }

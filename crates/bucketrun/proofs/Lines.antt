@@ -1,0 +1,181 @@
+-- Laws of the lines that a line feed ends, and of the line that has begun behind them.
+use Prim.Native.Nat.{ℕ, zero, suc, _+_, _≤_, _<_}
+use mathlib.Core.Path.{_≡_, refl, sym, _∙_, ap}
+use mathlib.Core.Logic.{inl, inr}
+use mathlib.Core.Bool.{Bool, true, false, _||_}
+use mathlib.Core.List.{List, [], _∷_, _++_, append-nil}
+use native.Mathlib.Omega.{arith}
+use lib.Dec.{eqb}
+use lib.ListN.{length, take, drop, length-append}
+use lib.Seq.{take-append-add, drop-append-add}
+use Rattle.buffers.proofs.Tests.{either, clash, or-none}
+use Rattle.text.specs.Fields.{onFirst}
+use Rattle.text.specs.Lines.{linesOf, feedAt}
+use Rattle.text.specs.Keys.{contains}
+use Rattle.text.proofs.Lines.{lines-next}
+use Rattle.bucketrun.specs.Program.{endOf, endedLines}
+
+-- ## Texts without a line feed
+
+pub none-feed : (s : List ℕ) → feedAt s ≡ length s → contains s 10 ≡ false
+none-feed [] e = refl
+none-feed (b ∷ s) e =
+    elim (either (eqb b 10)) [
+      | inl t ↦ let z : 0 ≡ suc (length s) = rw t at e in absurd (omega arith)
+      | inr t ↦ let z : suc (feedAt s) ≡ suc (length s) = rw t at e in rw t (none-feed s (omega arith))
+    ]
+
+feed-none : (s u : List ℕ) → contains s 10 ≡ false → feedAt (s ++ u) ≡ length s + feedAt u
+feed-none [] u e = omega arith
+feed-none (b ∷ s) u e =
+    let p = or-none (eqb b 10) (contains s 10) e in
+    let x = feed-none s u (p .1) in
+    rw (p .0) (omega arith)
+
+pub none-take : (n : ℕ) (s : List ℕ) → contains s 10 ≡ false → contains (take n s) 10 ≡ false
+none-take zero s e = refl
+none-take (suc n) [] e = refl
+none-take (suc n) (b ∷ s) e = let p = or-none (eqb b 10) (contains s 10) e in rw (p .0) (none-take n s (p .1))
+
+pub none-end : (s : List ℕ) → contains s 10 ≡ false → endOf s ≡ 0
+none-end [] e = refl
+none-end (b ∷ s) e = rw e
+
+some-left : (s u : List ℕ) → contains s 10 ≡ true → contains (s ++ u) 10 ≡ true
+some-left [] u e = absurd (clash false e refl)
+some-left (b ∷ s) u e =
+    elim (either (eqb b 10)) [
+      | inl t ↦ rw t
+      | inr t ↦ rw t (some-left s u (rw t at e))
+    ]
+
+-- ## The last line feed
+
+-- Where it ends the text, that has one.
+some-ended : (b : ℕ) (s : List ℕ) (k : ℕ) → endOf (b ∷ s) ≡ suc k → (contains (b ∷ s) 10 ≡ true) × (endOf s ≡ k)
+some-ended b s k e =
+    elim (either (contains (b ∷ s) 10)) [
+      | inl t ↦ (t, let z : suc (endOf s) ≡ suc k = rw t at e in omega arith)
+      | inr t ↦ let z : 0 ≡ suc k = rw t at e in absurd (omega arith)
+    ]
+
+pub end-most : (s : List ℕ) → endOf s ≤ length s
+end-most [] = omega arith
+end-most (b ∷ s) =
+    elim (either (contains (b ∷ s) 10)) [
+      | inl t ↦ let x = end-most s in rw t (omega arith)
+      | inr t ↦ rw t (omega arith)
+    ]
+
+pub rest-none : (s : List ℕ) → contains (drop (endOf s) s) 10 ≡ false
+rest-none [] = refl
+rest-none (b ∷ s) =
+    elim (either (contains (b ∷ s) 10)) [
+      | inl t ↦ rw t (rest-none s)
+      | inr t ↦ simp t
+    ]
+
+some-cut : (s : List ℕ) → contains s 10 ≡ true → contains (take (endOf s) s) 10 ≡ true
+some-cut [] e = e
+some-cut (b ∷ s) e =
+    elim (either (eqb b 10)) [
+      | inl t ↦ rw (e, t)
+      | inr t ↦ rw (e, t) (some-cut s (rw t at e))
+    ]
+
+cut-long : (b : ℕ) (s : List ℕ) → contains (b ∷ s) 10 ≡ true → take (endOf (b ∷ s)) (b ∷ s) ≡ b ∷ take (endOf s) s
+cut-long b s e = rw e
+
+pub end-cut : (s : List ℕ) → endOf (take (endOf s) s) ≡ endOf s
+end-cut [] = refl
+end-cut (b ∷ s) =
+    elim (either (contains (b ∷ s) 10)) [
+      | inl t ↦
+          let x : contains (b ∷ take (endOf s) s) 10 ≡ true = rw t at (some-cut (b ∷ s) t) in
+          ap endOf (cut-long b s t) ∙ rw (x, t) (ap suc (end-cut s))
+      | inr t ↦ simp t
+    ]
+
+-- ## A text that ends in a line feed, and what stands behind it
+
+first-append : (b : ℕ) (f : List ℕ) (fs gs hs : List (List ℕ)) → gs ≡ f ∷ fs → onFirst b (gs ++ hs) ≡ onFirst b gs ++ hs
+first-append b f fs gs hs e = rw e
+
+pub lines-append : (s u : List ℕ) → endOf s ≡ length s → linesOf (s ++ u) ≡ linesOf s ++ linesOf u
+lines-append [] u e = refl
+lines-append (b ∷ []) u e =
+    let p = some-ended b [] 0 e in
+    elim (either (eqb b 10)) [
+      | inl t ↦ rw t
+      | inr t ↦ absurd (clash (eqb b 10 || false) (p .0) (rw t))
+    ]
+lines-append (b ∷ c ∷ s) u e =
+    let p = some-ended b (c ∷ s) (suc (length s)) e in
+    let x = lines-append (c ∷ s) u (p .1) in
+    elim (either (eqb b 10)) [
+      | inl t ↦ rw t (ap (λ (ls : List (List ℕ)). [] ∷ ls) x)
+      | inr t ↦ rw t (ap (onFirst b) x ∙ first-append b _ _ (linesOf (c ∷ s)) (linesOf u) (lines-next c s))
+    ]
+
+pub end-append : (s u : List ℕ) → endOf s ≡ length s → endOf (s ++ u) ≡ length s + endOf u
+end-append [] u e = omega arith
+end-append (b ∷ s) u e =
+    let p = some-ended b s (length s) e in
+    let x = end-append s u (p .1) in
+    rw (some-left (b ∷ s) u (p .0)) (omega arith)
+
+-- ## The first line that ends
+
+some-end : (s : List ℕ) (k : ℕ) → endOf s ≡ suc k → contains s 10 ≡ true
+some-end [] k e = absurd (omega arith)
+some-end (b ∷ s) k e = some-ended b s k e .0
+
+pub end-first : (s : List ℕ) → feedAt s < length s → endOf (take (suc (feedAt s)) s) ≡ suc (feedAt s)
+end-first [] h = absurd (omega arith)
+end-first (b ∷ s) h =
+    elim (either (eqb b 10)) [
+      | inl t ↦ simp t
+      | inr t ↦
+          let l : suc (feedAt s) < suc (length s) = rw t at h in
+          let x = end-first s (omega arith) in
+          simp (t, some-end (take (suc (feedAt s)) s) (feedAt s) x) (ap suc x)
+    ]
+
+pub lines-first : (s : List ℕ) → feedAt s < length s → linesOf (take (suc (feedAt s)) s) ≡ take (feedAt s) s ∷ []
+lines-first [] h = absurd (omega arith)
+lines-first (b ∷ s) h =
+    elim (either (eqb b 10)) [
+      | inl t ↦ simp t
+      | inr t ↦
+          let l : suc (feedAt s) < suc (length s) = rw t at h in
+          simp t (ap (onFirst b) (lines-first s (omega arith)))
+    ]
+
+-- ## The line that has begun
+
+lines-whole : (s : List ℕ) → 0 < length s → linesOf s ≡ take (feedAt s) s ∷ linesOf (drop (suc (feedAt s)) s)
+lines-whole [] h = absurd (omega arith)
+lines-whole (b ∷ s) h = lines-next b s
+
+-- What comes behind it is joined to it.
+pub lines-begun : (s u : List ℕ) → contains s 10 ≡ false → 0 < length s → linesOf (s ++ u) ≡ (s ++ take (feedAt u) u) ∷ linesOf (drop (suc (feedAt u)) u)
+lines-begun s u e h =
+    let q : suc (length s + feedAt u) ≡ length s + suc (feedAt u) = omega arith in
+    lines-whole (s ++ u) (rw length-append (omega arith))
+    ∙ rw (feed-none s u e, q, take-append-add s u, drop-append-add s u)
+
+some-last : (s : List ℕ) → contains (s ++ 10 ∷ []) 10 ≡ true
+some-last [] = refl
+some-last (b ∷ s) =
+    elim (either (eqb b 10)) [
+      | inl t ↦ rw t
+      | inr t ↦ rw t (some-last s)
+    ]
+
+pub end-last : (s : List ℕ) → endOf (s ++ 10 ∷ []) ≡ length (s ++ 10 ∷ [])
+end-last [] = refl
+end-last (b ∷ s) = rw (some-last (b ∷ s)) (ap suc (end-last s))
+
+-- A line feed ends it.
+pub line-last : (s : List ℕ) → contains s 10 ≡ false → 0 < length s → linesOf (s ++ 10 ∷ []) ≡ linesOf s
+line-last s e h = lines-begun s (10 ∷ []) e h ∙ sym (lines-begun s [] e h) ∙ ap linesOf (append-nil s)

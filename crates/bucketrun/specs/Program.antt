@@ -1,0 +1,74 @@
+-- 01, program `bucketrun`: what lines print, and what input prints that is read block by block.
+use Prim.Native.Nat.{ℕ, suc}
+use mathlib.Core.Path.{_≡_}
+use mathlib.Core.List.{List, [], _∷_, _++_}
+use lib.ListN.{take, drop, replicate}
+use Rattle.buffers.specs.Choices.{pick}
+use Rattle.text.specs.Lines.{linesOf}
+use Rattle.text.specs.Keys.{contains}
+use Rattle.outcome.specs.Outcome.{Outcome, outcome}
+use Rattle.outcome.specs.Calls.{Lent, leaves}
+use Rattle.outcome.specs.Printed.{printedOf}
+
+-- ## Lines
+
+-- The answer buffer that a line is handed; only its length counts.
+unfoldable pub answerRoom : List ℕ
+answerRoom = replicate 65536 0
+
+abbrev pub servedLine : Lent → List ℕ → Outcome
+servedLine h l = outcome (h .settings) (h .numbers) (h .keys) l answerRoom
+
+-- What lines leave, each handed the bucket that the one before it left.
+abbrev pub leftBy : Lent → List (List ℕ) → Lent
+leftBy h [] = h
+leftBy h (l ∷ ls) = leftBy (leaves (servedLine h l)) ls
+
+-- What they print.
+abbrev pub printedBy : Lent → List (List ℕ) → List ℕ
+printedBy h [] = []
+printedBy h (l ∷ ls) = printedOf (servedLine h l) ++ printedBy (leaves (servedLine h l)) ls
+
+-- ## Blocks
+
+-- the bytes up to the last line feed: how many
+abbrev pub endOf : List ℕ → ℕ
+endOf [] = 0
+endOf (b ∷ s) = pick (contains (b ∷ s) 10) (suc (endOf s)) 0
+
+-- the lines that a line feed ends
+abbrev pub endedLines : List ℕ → List (List ℕ)
+endedLines t = linesOf (take (endOf t) t)
+
+-- the line that has begun behind the last line feed: its first 513 bytes are kept, which are unreadable like the whole of it
+abbrev pub begunLine : List ℕ → List ℕ
+begunLine t = take 513 (drop (endOf t) t)
+
+-- Between two reads: the bucket, and what is kept of a line that has begun.
+pub record Waiting : Type 0 where
+  pub bucket : Lent
+  pub begun : List ℕ
+
+abbrev pub waiting : Lent → List ℕ → Waiting
+waiting h begun = record { bucket = h; begun = begun }
+
+-- A block comes behind what is kept.
+abbrev pub afterBlock : Waiting → List ℕ → Waiting
+afterBlock w x = waiting (leftBy (w .bucket) (endedLines (w .begun ++ x))) (begunLine (w .begun ++ x))
+
+abbrev pub afterBlocks : Waiting → List (List ℕ) → Waiting
+afterBlocks w [] = w
+afterBlocks w (x ∷ xs) = afterBlocks (afterBlock w x) xs
+
+-- What blocks print as they are read; at the input's end what is kept is a line.
+abbrev pub printedBlocks : Waiting → List (List ℕ) → List ℕ
+printedBlocks w [] = printedBy (w .bucket) (linesOf (w .begun))
+printedBlocks w (x ∷ xs) = printedBy (w .bucket) (endedLines (w .begun ++ x)) ++ printedBlocks (afterBlock w x) xs
+
+abbrev pub joined : List (List ℕ) → List ℕ
+joined [] = []
+joined (x ∷ xs) = x ++ joined xs
+
+-- However the input is cut into blocks, it prints what its lines print.
+abbrev pub CutAnywhere : Type 0
+CutAnywhere = (h : Lent) (blocks : List (List ℕ)) → printedBlocks (waiting h []) blocks ≡ printedBy h (linesOf (joined blocks))
