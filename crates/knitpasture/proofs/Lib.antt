@@ -1,5 +1,6 @@
 pub mod Numbers
 pub mod Serving
+pub mod Keys
 pub mod Fits
 pub mod Hub
 pub mod FreshBucket

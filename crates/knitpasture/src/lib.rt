@@ -8,7 +8,8 @@ ghost use Rattle.knitpasture.specs.Lent.{lentOutcome, lentOutcomeFrom};
 ghost use Rattle.knitpasture.specs.Bytes.{numbersFrom, numbersBytes, byteOutcome, wordsServed, spelledServed, hubServed, spelledKey, hubKey, freshOutcome, keysFit, wordsFresh, hubFresh};
 
 // Serves a line on settings that are lent and altered here, and returns 0 or the refusal.
-pub fn serve_lent(
+#[no_mangle]
+pub extern "C" fn knitpasture_serve_lent(
     settings: &mut Settings,
     rows: &mut [u64],
     keys: &mut [u8],
