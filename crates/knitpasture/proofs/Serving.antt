@@ -79,15 +79,30 @@ module _ (k number : ℕ) (settings rows n keys line answer settings′ n′ key
 
 pub ruleset spelled-cases = (spelled-refused, spelled-accepted)
 
--- A table of as many numbers as the rows have is lent of the room for all.
-pub part-long : (rows room : List ℕ) → length room ≡ 8192 → length rows ≤ 65536 → length (midOf 0 (length rows / 8 - 0) room) ≡ length rows / 8
-part-long rows room e h =
+-- As many numbers as the rows have are lent of a room that has them.
+part-long : (rows room : List ℕ) → length rows / 8 ≤ length room → length (midOf 0 (length rows / 8 - 0) room) ≡ length rows / 8
+part-long rows room h =
     let n : length rows / 8 - 0 ≡ length rows / 8 = omega arith in
-    rw n (length-take-le (length rows / 8) room (omega arith))
+    rw n (length-take-le (length rows / 8) room h)
 
-pub line-served : (o : ByteOutcome) (settings rows keys line answer room : List ℕ) → length room ≡ 8192 → length rows ≤ 65536
-    → o ≡ spelledServed (length (midOf 0 (length rows / 8 - 0) room)) settings rows keys line answer → o ≡ spelledServed (length rows / 8) settings rows keys line answer
-line-served o settings rows keys line answer room e h q = q ∙ ap (λ (k : ℕ). spelledServed k settings rows keys line answer) (part-long rows room e h)
+pub part-few : (rows room : List ℕ) → length room ≡ 512 → length rows ≤ 4096 → length (midOf 0 (length rows / 8 - 0) room) ≡ length rows / 8
+part-few rows room e h = part-long rows room (omega arith)
+
+pub part-most : (rows room : List ℕ) → length room ≡ 8192 → length rows ≤ 65536 → length (midOf 0 (length rows / 8 - 0) room) ≡ length rows / 8
+part-most rows room e h = part-long rows room (omega arith)
+
+module _ (o : ByteOutcome) (settings rows keys line answer room : List ℕ) where
+  abbrev Part : Type 0
+  Part = o ≡ spelledServed (length (midOf 0 (length rows / 8 - 0) room)) settings rows keys line answer
+
+  abbrev All : Type 0
+  All = o ≡ spelledServed (length rows / 8) settings rows keys line answer
+
+  pub few-served : length room ≡ 512 → length rows ≤ 4096 → Part → All
+  few-served e h q = q ∙ ap (λ (k : ℕ). spelledServed k settings rows keys line answer) (part-few rows room e h)
+
+  pub most-served : length room ≡ 8192 → length rows ≤ 65536 → Part → All
+  most-served e h q = q ∙ ap (λ (k : ℕ). spelledServed k settings rows keys line answer) (part-most rows room e h)
 
 -- ## A row's key
 
@@ -95,9 +110,8 @@ pub key-spelled : (k i : ℕ) (s : Settings) (settings rows n keys key : List �
     → length key ≡ length (spelledKey k settings rows keys i)
 key-spelled k i s settings rows n keys key e d f = rw (e, d, f)
 
-pub key-served : (r i : ℕ) (settings rows keys room : List ℕ) → length room ≡ 8192 → length rows ≤ 65536
-    → r ≡ length (spelledKey (length (midOf 0 (length rows / 8 - 0) room)) settings rows keys i) → r ≡ length (spelledKey (length rows / 8) settings rows keys i)
-key-served r i settings rows keys room e h q = q ∙ ap (λ (k : ℕ). length (spelledKey k settings rows keys i)) (part-long rows room e h)
+pub key-served : (r i k n : ℕ) (settings rows keys : List ℕ) → r ≡ length (spelledKey n settings rows keys i) → n ≡ k → r ≡ length (spelledKey k settings rows keys i)
+key-served r i k n settings rows keys q e = q ∙ ap (λ (m : ℕ). length (spelledKey m settings rows keys i)) e
 
 -- The length of a choice is the choice of the lengths.
 pub length-pick : (r : ℕ) (t : Bool) (a b : List ℕ) → r ≡ pick t (length a) (length b) → r ≡ length (pick t a b)

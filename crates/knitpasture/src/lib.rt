@@ -47,6 +47,13 @@ pub extern "C" fn knitpasture_serve_words(
     0
 }
 
+// Room for the numbers of 64 rows: less to clear, where the table is small.
+fn few_numbers() -> [u64; 512]
+    ensures { λ r. ⌜ length r ≡ 512 ⌝ }
+{
+    [0u64; 512]
+}
+
 // Room for the numbers of the largest table.
 fn no_numbers() -> [u64; 8192]
     ensures { λ r. ⌜ length r ≡ 8192 ⌝ }
@@ -122,6 +129,10 @@ pub extern "C" fn knitpasture_serve(
         return 1;
     }
     let n = rows.len() / 8;
+    if rows.len() <= 4096 {
+        let mut few = few_numbers();
+        return serve_spelled(settings, rows, keys, line, answer, &mut few[0..n]);
+    }
     let mut numbers = no_numbers();
     serve_spelled(settings, rows, keys, line, answer, &mut numbers[0..n])
 }

@@ -1,7 +1,7 @@
 -- `knitpasture_key` meets its contract: each way through it is one of the cited laws.
 use Rattle.buffers.proofs.Choices.{picks}
 use Rattle.knitpasture.specs.Bytes.{hubKey}
-use Rattle.knitpasture.proofs.Serving.{key-served, length-pick}
+use Rattle.knitpasture.proofs.Serving.{part-most, key-served, length-pick}
 use borrow.Author.Needs.{needs}
 use Rattle.knitpasture.proofs.knitpasture_key.Statement.{statement}
 use Rattle.knitpasture.proofs.knitpasture_key.Tie as tie
@@ -19,4 +19,4 @@ knitpasture-key-spec =
     (λ c. search needs)
     (λ c. search needs)
     (λ c κs. search needs)
-    (λ c. search (picks, length-pick, key-served) depth 16))
+    (λ c. search (picks, length-pick, key-served, part-most) depth 16))
