@@ -175,6 +175,23 @@ static void wrong_lengths(struct bucket *bucket) {
     take(bucket, &(struct step){"2024-06-01T00:00:00Z|c|SWEEP", "ok|0|0"});
 }
 
+/* Longer buffers whose new rows are zero hold the same bucket. */
+static void grown(const struct bucket *bucket) {
+    static uint8_t rows[2 * sizeof bucket->rows], keys[2 * sizeof bucket->keys];
+    uint8_t settings[KNITPASTURE_SETTINGS_BYTES];
+    memcpy(settings, bucket->settings, sizeof settings);
+    memcpy(rows, bucket->rows, sizeof bucket->rows);
+    memcpy(keys, bucket->keys, sizeof bucket->keys);
+    for (size_t i = 0; i < 2 * CAPACITY; i++) {
+        char line[KNITPASTURE_MAX_LINE];
+        uint8_t answer[KNITPASTURE_MIN_ANSWER];
+        int length = snprintf(line, sizeof line, "2024-07-01T00:00:00Z\tw\tPUT\tgauge/%u\t1\t1\t-\t-\t-", (unsigned)i);
+        check(knitpasture_serve(settings, sizeof settings, rows, sizeof rows, keys, sizeof keys, (const uint8_t *)line,
+                                (size_t)length, answer, sizeof answer) == 0,
+              "a bucket that was made larger has room for as many rows");
+    }
+}
+
 static void texts(void) {
     for (uint64_t number = 0; number <= KNITPASTURE_TABLE_FULL; number++) {
         check(strcmp(knitpasture_refusal_text(number), "unknown") != 0, "each result has a text");
@@ -193,6 +210,7 @@ int main(int count, char **words) {
         kept_through_reload(bucket, words[1]);
         wrong_lengths(bucket);
     }
+    grown(bucket);
     texts();
     free(bucket);
     printf("client: %u checks passed\n", checks);
