@@ -3,4 +3,5 @@ pub mod Serving
 pub mod Keys
 pub mod Fits
 pub mod Hub
+pub mod Words
 pub mod FreshBucket
