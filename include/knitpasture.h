@@ -1,10 +1,11 @@
-/* The locked bucket of the gauge hub: one bucket with Object Lock, served line by line.
+/* Knitpasture: one S3 bucket with Object Lock, served line by line. A locked file stays, unaltered, until its date.
  *
- * The caller lends every buffer and keeps it between calls; nothing is allocated and nothing is remembered elsewhere.
- * Each buffer is passed as a pointer and its length in bytes. The buffers must not overlap, and no pointer may be null,
- * not even for a length of 0. Numbers in the buffers are 8 bytes each, little-endian.
+ * The caller lends every buffer and keeps it between calls. The library allocates nothing, keeps nothing between calls
+ * and has no data of its own, so that threads may serve different buckets at once; calls on one bucket take turns.
+ * No buffer may overlap another of the same call, and no pointer may be null, not even with a length of 0. Buffers of
+ * any contents and lengths are safe to pass: what doesn't fit is refused, and then nothing is altered.
  *
- * A bucket of capacity c, 1 to KNITPASTURE_MAX_ROWS rows, is three buffers:
+ * A bucket of capacity c, 1 to KNITPASTURE_MAX_ROWS rows, is three buffers, which may be saved and loaded as they are:
  *
  *   settings  KNITPASTURE_SETTINGS_BYTES: bucket time, used rows, next version number, default retention (mode, count,
  *             unit), then eight rules, each a prefix of 64 bytes, current days and noncurrent days
@@ -12,8 +13,8 @@
  *             retain-until date, hold
  *   keys      c * KNITPASTURE_KEY_BYTES: for each row the key's length in one byte, the key, then zeros
  *
- * docs/FORMATS.md has the layouts, the request lines and the answers in tables.
- */
+ * Numbers in the buffers are 8 bytes each, little-endian. The archive is compiled for x86-64 Linux; of the C library it
+ * needs memcpy, memmove and memset. docs/C.md has a complete example, docs/FORMATS.md the layouts, lines and answers. */
 #ifndef KNITPASTURE_H
 #define KNITPASTURE_H
 
@@ -24,35 +25,68 @@
 extern "C" {
 #endif
 
+#define KNITPASTURE_VERSION "1.0.0"
+#define KNITPASTURE_VERSION_MAJOR 1
+#define KNITPASTURE_VERSION_MINOR 0
+#define KNITPASTURE_VERSION_PATCH 0
+
 #define KNITPASTURE_SETTINGS_BYTES 688
 #define KNITPASTURE_ROW_BYTES 64
+#define KNITPASTURE_ROW_WORDS 8
 #define KNITPASTURE_KEY_BYTES 64
 #define KNITPASTURE_MAX_ROWS 1024
 #define KNITPASTURE_MIN_ANSWER 256
 #define KNITPASTURE_MAX_LINE 512
 
-/* What a call returns. The refusals are checked in this order, and the first that holds is returned. */
+/* The stack that a call may take, in bytes, whatever c is. Rows as bytes are read into room for the largest table. */
+#define KNITPASTURE_STACK_SERVE 77824
+#define KNITPASTURE_STACK_SERVE_WORDS 10240
+#define KNITPASTURE_STACK_SERVE_LENT 10240
+#define KNITPASTURE_STACK_KEY 69632
+#define KNITPASTURE_STACK_FRESH 1024
+
+/* What serving a line returns. The refusals are checked in this order, and the first that holds is returned. */
 enum knitpasture_result {
-    KNITPASTURE_ACCEPTED = 0,        /* the line was carried out */
-    KNITPASTURE_UNSOUND = 1,         /* the buffers' lengths don't fit one c, or settings and table aren't sound */
-    KNITPASTURE_SHORT_ANSWER = 2,    /* the answer buffer has fewer than KNITPASTURE_MIN_ANSWER bytes */
-    KNITPASTURE_UNREADABLE = 3,      /* the line can't be read, or a field is outside its range */
-    KNITPASTURE_HALF_GIVEN = 4,      /* exactly one of mode and date (or period) is "-" */
-    KNITPASTURE_NO_RIGHT = 5,        /* a needed right is missing */
-    KNITPASTURE_PAST_DATE = 6,       /* a given date is not after now */
-    KNITPASTURE_NO_ROW = 7,          /* the named key or version has no row */
-    KNITPASTURE_MARKER = 8,          /* the named row is a delete marker */
-    KNITPASTURE_LOCKED = 9,          /* the row is locked, or its retention doesn't admit the change */
-    KNITPASTURE_DATE_TOO_LATE = 10,  /* a date from the default would be after the last instant */
-    KNITPASTURE_NUMBERS_SPENT = 11,  /* the line needs more version numbers than are left */
-    KNITPASTURE_TABLE_FULL = 12      /* the rows after the line would exceed c */
+    KNITPASTURE_ACCEPTED = 0,
+    KNITPASTURE_UNSOUND = 1,
+    KNITPASTURE_SHORT_ANSWER = 2,
+    KNITPASTURE_UNREADABLE = 3,
+    KNITPASTURE_HALF_GIVEN = 4,
+    KNITPASTURE_NO_RIGHT = 5,
+    KNITPASTURE_PAST_DATE = 6,
+    KNITPASTURE_NO_ROW = 7,
+    KNITPASTURE_MARKER = 8,
+    KNITPASTURE_LOCKED = 9,
+    KNITPASTURE_DATE_TOO_LATE = 10,
+    KNITPASTURE_NUMBERS_SPENT = 11,
+    KNITPASTURE_TABLE_FULL = 12
 };
+
+/* A result in words; "unknown" for any other number. */
+static inline const char *knitpasture_refusal_text(uint64_t number) {
+    switch (number) {
+    case KNITPASTURE_ACCEPTED: return "the line is accepted";
+    case KNITPASTURE_UNSOUND: return "the buffers' lengths don't fit one capacity, or settings and table aren't sound";
+    case KNITPASTURE_SHORT_ANSWER: return "the answer buffer has fewer than 256 bytes";
+    case KNITPASTURE_UNREADABLE: return "the line can't be read, or a field is outside its range";
+    case KNITPASTURE_HALF_GIVEN: return "exactly one of mode and date (or period) is given";
+    case KNITPASTURE_NO_RIGHT: return "a needed right is missing";
+    case KNITPASTURE_PAST_DATE: return "a given date is not after now";
+    case KNITPASTURE_NO_ROW: return "the named key or version has no row";
+    case KNITPASTURE_MARKER: return "the named version is a delete marker";
+    case KNITPASTURE_LOCKED: return "the version is locked, or its retention doesn't admit the change";
+    case KNITPASTURE_DATE_TOO_LATE: return "a date from the default retention would be after the last instant";
+    case KNITPASTURE_NUMBERS_SPENT: return "the line needs more version numbers than are left";
+    case KNITPASTURE_TABLE_FULL: return "the table has no row left for the line";
+    default: return "unknown";
+    }
+}
 
 /* Makes the three buffers a fresh bucket of capacity c, rows and keys being 64 * c bytes each.
  * Returns 0, or 1 with every byte as it was where the lengths don't fit one c from 1 to KNITPASTURE_MAX_ROWS. */
 uint64_t knitpasture_fresh(uint8_t *settings, size_t settings_length,
-                   uint8_t *rows, size_t rows_length,
-                   uint8_t *keys, size_t keys_length);
+                           uint8_t *rows, size_t rows_length,
+                           uint8_t *keys, size_t keys_length);
 
 /* Serves one request line on the bucket. The line is passed without its line feed; one of more than
  * KNITPASTURE_MAX_LINE bytes is refused as unreadable. Returns 0 or the refusal.
@@ -61,10 +95,55 @@ uint64_t knitpasture_fresh(uint8_t *settings, size_t settings_length,
  * buffer: it ends with its first line feed (0x0A), within the first KNITPASTURE_MIN_ANSWER bytes, and the bytes after
  * that are untouched. Otherwise every byte of every buffer is as it was. */
 uint64_t knitpasture_serve(uint8_t *settings, size_t settings_length,
-                   uint8_t *rows, size_t rows_length,
-                   uint8_t *keys, size_t keys_length,
-                   const uint8_t *line, size_t line_length,
-                   uint8_t *answer, size_t answer_length);
+                           uint8_t *rows, size_t rows_length,
+                           uint8_t *keys, size_t keys_length,
+                           const uint8_t *line, size_t line_length,
+                           uint8_t *answer, size_t answer_length);
+
+/* The length of the key of the row at a position, counted from 0; 0 where the row isn't used or the bucket isn't sound.
+ * The key itself is as many bytes from KNITPASTURE_KEY_AT(keys, position) on, without a zero at its end. */
+size_t knitpasture_key(const uint8_t *settings, size_t settings_length,
+                       const uint8_t *rows, size_t rows_length,
+                       const uint8_t *keys, size_t keys_length,
+                       size_t position);
+
+#define KNITPASTURE_KEY_AT(keys, position) ((keys) + KNITPASTURE_KEY_BYTES * (size_t)(position) + 1)
+
+/* The same as knitpasture_fresh and knitpasture_serve, with the rows as 8 * c numbers in the host's order, altered in
+ * place: less stack, and no decoding. On this archive's hosts the numbers are the rows' bytes. */
+uint64_t knitpasture_fresh_words(uint8_t *settings, size_t settings_length,
+                                 uint64_t *rows, size_t rows_count,
+                                 uint8_t *keys, size_t keys_length);
+
+uint64_t knitpasture_serve_words(uint8_t *settings, size_t settings_length,
+                                 uint64_t *rows, size_t rows_count,
+                                 uint8_t *keys, size_t keys_length,
+                                 const uint8_t *line, size_t line_length,
+                                 uint8_t *answer, size_t answer_length);
+
+/* The settings as numbers too; their bytes in memory are those of the settings buffer. */
+struct knitpasture_rule {
+    uint8_t prefix[KNITPASTURE_KEY_BYTES];
+    uint64_t current_days;
+    uint64_t noncurrent_days;
+};
+
+struct knitpasture_settings {
+    uint64_t time;
+    uint64_t used;
+    uint64_t next;
+    uint64_t mode;
+    uint64_t count;
+    uint64_t unit;
+    struct knitpasture_rule rules[8];
+};
+
+/* The same as knitpasture_serve_words, with the settings as a struct. */
+uint64_t knitpasture_serve_lent(struct knitpasture_settings *settings,
+                                uint64_t *rows, size_t rows_count,
+                                uint8_t *keys, size_t keys_length,
+                                const uint8_t *line, size_t line_length,
+                                uint8_t *answer, size_t answer_length);
 
 #ifdef __cplusplus
 }

@@ -1,18 +1,11 @@
-/* What modem firmware does: lend three buffers, serve lines, save the bucket, load it and go on. */
-#include "knitpasture.h"
+/* What modem firmware does, through each entry: lend three buffers, serve lines, save the bucket, load it and go on. */
+#include "../../samples/save.h"
 
 #include <stdint.h>
-#include <stdio.h>
 #include <stdlib.h>
 #include <string.h>
 
-enum { CAPACITY = 16, ROW = 64, SETTINGS = 688, ANSWER = 256, LINE = 512, JUNK = 0xEE };
-
-struct bucket {
-    uint8_t settings[SETTINGS];
-    uint8_t rows[CAPACITY * ROW];
-    uint8_t keys[CAPACITY * ROW];
-};
+enum { JUNK = 0xEE };
 
 /* A request, `|` standing for a tab, and the answer as bucketrun would print it. */
 struct step {
@@ -32,28 +25,47 @@ static void check(int holds, const char *what) {
 
 /* Whether the bytes of an answer buffer from a place on are as they were lent. */
 static int untouched(const uint8_t *answer, size_t from) {
-    while (from < ANSWER && answer[from] == JUNK) {
+    while (from < KNITPASTURE_MIN_ANSWER && answer[from] == JUNK) {
         from++;
     }
-    return from >= ANSWER;
+    return from >= KNITPASTURE_MIN_ANSWER;
+}
+
+#define SETTINGS(bucket) (bucket)->settings, sizeof (bucket)->settings
+#define ROWS(bucket) (bucket)->rows, sizeof (bucket)->rows
+#define WORDS(bucket) (uint64_t *)(bucket)->rows, sizeof (bucket)->rows / 8
+#define KEYS(bucket) (bucket)->keys, sizeof (bucket)->keys
+
+/* The entries, which take turns by the form of rows and settings. */
+static enum { AS_BYTES, AS_WORDS, AS_STRUCT, FORMS } form;
+
+static uint64_t serve_bytes(struct bucket *bucket, const uint8_t *line, size_t count, uint8_t *answer, size_t length) {
+    switch (form) {
+    case AS_WORDS:
+        return knitpasture_serve_words(SETTINGS(bucket), WORDS(bucket), KEYS(bucket), line, count, answer, length);
+    case AS_STRUCT:
+        return knitpasture_serve_lent((struct knitpasture_settings *)bucket->settings, WORDS(bucket), KEYS(bucket), line,
+                                      count, answer, length);
+    default:
+        return knitpasture_serve(SETTINGS(bucket), ROWS(bucket), KEYS(bucket), line, count, answer, length);
+    }
 }
 
 static uint64_t serve(struct bucket *bucket, const char *text, uint8_t *answer, size_t length) {
-    uint8_t line[LINE];
+    uint8_t line[KNITPASTURE_MAX_LINE];
     size_t count = strlen(text);
     check(count <= sizeof line, "the line fits its buffer");
     for (size_t i = 0; i < count; i++) {
         line[i] = text[i] == '|' ? '\t' : (uint8_t)text[i];
     }
-    return knitpasture_serve(bucket->settings, sizeof bucket->settings, bucket->rows, sizeof bucket->rows,
-                     bucket->keys, sizeof bucket->keys, line, count, answer, length);
+    return serve_bytes(bucket, line, count, answer, length);
 }
 
 /* Serves one line and compares the answer, the bytes behind it and, after a refusal, the bucket. */
 static void take(struct bucket *bucket, const struct step *step) {
     struct bucket before = *bucket;
-    uint8_t answer[ANSWER];
-    char said[ANSWER + 1];
+    uint8_t answer[KNITPASTURE_MIN_ANSWER];
+    char said[KNITPASTURE_MIN_ANSWER + 1];
     size_t length = 0;
     memset(answer, JUNK, sizeof answer);
     uint64_t number = serve(bucket, step->line, answer, sizeof answer);
@@ -86,27 +98,15 @@ static void take_all(struct bucket *bucket, const struct step *steps, size_t cou
 
 static void make_fresh(struct bucket *bucket) {
     memset(bucket, 0x5A, sizeof *bucket);
-    check(knitpasture_fresh(bucket->settings, sizeof bucket->settings, bucket->rows, sizeof bucket->rows,
-                    bucket->keys, sizeof bucket->keys) == 0,
+    check((form == AS_BYTES ? knitpasture_fresh(SETTINGS(bucket), ROWS(bucket), KEYS(bucket))
+                            : knitpasture_fresh_words(SETTINGS(bucket), WORDS(bucket), KEYS(bucket))) == 0,
           "a fresh bucket is made");
 }
 
-static void save(const struct bucket *bucket, const char *path) {
-    FILE *file = fopen(path, "wb");
-    check(file != NULL, "the file opens for writing");
-    check(fwrite(bucket->settings, sizeof bucket->settings, 1, file) == 1, "the settings are saved");
-    check(fwrite(bucket->rows, sizeof bucket->rows, 1, file) == 1, "the rows are saved");
-    check(fwrite(bucket->keys, sizeof bucket->keys, 1, file) == 1, "the keys are saved");
-    check(fclose(file) == 0, "the file is written");
-}
-
-static void load(struct bucket *bucket, const char *path) {
-    FILE *file = fopen(path, "rb");
-    check(file != NULL, "the file opens for reading");
-    check(fread(bucket->settings, sizeof bucket->settings, 1, file) == 1, "the settings are loaded");
-    check(fread(bucket->rows, sizeof bucket->rows, 1, file) == 1, "the rows are loaded");
-    check(fread(bucket->keys, sizeof bucket->keys, 1, file) == 1, "the keys are loaded");
-    fclose(file);
+/* Whether the key at a position is the text; the empty text where there is none. */
+static int key_is(const struct bucket *bucket, size_t position, const char *text) {
+    size_t length = knitpasture_key(SETTINGS(bucket), ROWS(bucket), KEYS(bucket), position);
+    return length == strlen(text) && memcmp(KNITPASTURE_KEY_AT(bucket->keys, position), text, length) == 0;
 }
 
 /* The document's whole run. */
@@ -122,10 +122,12 @@ static void whole_run(struct bucket *bucket) {
     };
     make_fresh(bucket);
     TAKE(bucket, run);
+    check(key_is(bucket, 0, "q/7"), "the marker that is left has the key");
+    check(key_is(bucket, 1, "") && key_is(bucket, SIZE_MAX, ""), "a row that isn't used has none");
 }
 
 /* A file under COMPLIANCE stays through a reload and goes at its date. */
-static void kept_through_reload(struct bucket *bucket, const char *path) {
+static void kept_through_reload(struct bucket *bucket, const char *folder) {
     static const struct step before[] = {
         {"2024-04-01T00:00:00Z|wt|PUT|gauge/1|77|4096|COMPLIANCE|2024-05-01T00:00:00Z|-", "ok|1"},
         {"2024-04-02T00:00:00Z|db|DELETE|gauge/1|1|yes", "no|9"},
@@ -138,10 +140,12 @@ static void kept_through_reload(struct bucket *bucket, const char *path) {
     };
     make_fresh(bucket);
     TAKE(bucket, before);
-    save(bucket, path);
+    check(save(bucket, folder, "bucket"), "the bucket is saved");
     memset(bucket, 0, sizeof *bucket);
+    check(key_is(bucket, 0, ""), "what isn't sound has no key");
     take(bucket, &(struct step){"2024-05-01T00:00:00Z|d|DELETE|gauge/1|1|no", "no|1"});
-    load(bucket, path);
+    check(load(bucket, folder, "bucket") == 1, "the bucket is loaded");
+    check(key_is(bucket, 0, "gauge/1"), "its row has its key");
     TAKE(bucket, after);
 }
 
@@ -149,35 +153,65 @@ static void kept_through_reload(struct bucket *bucket, const char *path) {
 static void wrong_lengths(struct bucket *bucket) {
     static const uint8_t sweep[] = "2024-06-01T00:00:00Z\tc\tSWEEP";
     struct bucket before = *bucket;
-    uint8_t answer[ANSWER];
+    uint8_t answer[KNITPASTURE_MIN_ANSWER];
     memset(answer, JUNK, sizeof answer);
     size_t line = sizeof sweep - 1;
-    check(knitpasture_serve(bucket->settings, SETTINGS - 1, bucket->rows, sizeof bucket->rows, bucket->keys,
-                    sizeof bucket->keys, sweep, line, answer, ANSWER) == 1,
+    check(knitpasture_serve(bucket->settings, KNITPASTURE_SETTINGS_BYTES - 1, ROWS(bucket), KEYS(bucket), sweep, line,
+                            answer, sizeof answer) == 1,
           "settings of 687 bytes meet 1");
-    check(knitpasture_serve(bucket->settings, SETTINGS, bucket->rows, sizeof bucket->rows - ROW, bucket->keys,
-                    sizeof bucket->keys, sweep, line, answer, ANSWER) == 1,
+    check(knitpasture_serve_words(bucket->settings, KNITPASTURE_SETTINGS_BYTES - 1, WORDS(bucket), KEYS(bucket), sweep,
+                                  line, answer, sizeof answer) == 1,
+          "with rows as words too");
+    check(knitpasture_serve(SETTINGS(bucket), bucket->rows, sizeof bucket->rows - KNITPASTURE_ROW_BYTES, KEYS(bucket),
+                            sweep, line, answer, sizeof answer) == 1,
           "a row too few meets 1");
-    check(knitpasture_fresh(bucket->settings, SETTINGS - 1, bucket->rows, sizeof bucket->rows, bucket->keys,
-                    sizeof bucket->keys) == 1,
+    check(knitpasture_fresh(bucket->settings, KNITPASTURE_SETTINGS_BYTES - 1, ROWS(bucket), KEYS(bucket)) == 1,
           "settings of 687 bytes are not made fresh");
-    check(knitpasture_serve(bucket->settings, SETTINGS, bucket->rows, sizeof bucket->rows, bucket->keys,
-                    sizeof bucket->keys, sweep, line, answer, ANSWER - 1) == 2,
-          "an answer buffer of 255 bytes meets 2");
+    check(knitpasture_fresh_words(SETTINGS(bucket), WORDS(bucket), bucket->keys, sizeof bucket->keys - 1) == 1,
+          "nor are keys a byte short");
+    check(serve_bytes(bucket, sweep, line, answer, sizeof answer - 1) == 2, "an answer buffer of 255 bytes meets 2");
     check(memcmp(&before, bucket, sizeof before) == 0, "none of them changes a byte");
     check(untouched(answer, 0), "nor writes an answer");
     take(bucket, &(struct step){"2024-06-01T00:00:00Z|c|SWEEP", "ok|0|0"});
 }
 
+/* Longer buffers whose new rows are zero hold the same bucket. */
+static void grown(const struct bucket *bucket) {
+    static uint8_t rows[2 * sizeof bucket->rows], keys[2 * sizeof bucket->keys];
+    uint8_t settings[KNITPASTURE_SETTINGS_BYTES];
+    memcpy(settings, bucket->settings, sizeof settings);
+    memcpy(rows, bucket->rows, sizeof bucket->rows);
+    memcpy(keys, bucket->keys, sizeof bucket->keys);
+    for (size_t i = 0; i < 2 * CAPACITY; i++) {
+        char line[KNITPASTURE_MAX_LINE];
+        uint8_t answer[KNITPASTURE_MIN_ANSWER];
+        int length = snprintf(line, sizeof line, "2024-07-01T00:00:00Z\tw\tPUT\tgauge/%u\t1\t1\t-\t-\t-", (unsigned)i);
+        check(knitpasture_serve(settings, sizeof settings, rows, sizeof rows, keys, sizeof keys, (const uint8_t *)line,
+                                (size_t)length, answer, sizeof answer) == 0,
+              "a bucket that was made larger has room for as many rows");
+    }
+}
+
+static void texts(void) {
+    for (uint64_t number = 0; number <= KNITPASTURE_TABLE_FULL; number++) {
+        check(strcmp(knitpasture_refusal_text(number), "unknown") != 0, "each result has a text");
+    }
+    check(strcmp(knitpasture_refusal_text(13), "unknown") == 0, "no other number has");
+}
+
 int main(int count, char **words) {
     struct bucket *bucket = malloc(sizeof *bucket);
     if (bucket == NULL || count != 2) {
-        fprintf(stderr, "usage: client FILE\n");
+        fprintf(stderr, "usage: client FOLDER\n");
         return 2;
     }
-    whole_run(bucket);
-    kept_through_reload(bucket, words[1]);
-    wrong_lengths(bucket);
+    for (form = AS_BYTES; form < FORMS; form++) {
+        whole_run(bucket);
+        kept_through_reload(bucket, words[1]);
+        wrong_lengths(bucket);
+    }
+    grown(bucket);
+    texts();
     free(bucket);
     printf("client: %u checks passed\n", checks);
     return 0;

@@ -15,7 +15,7 @@ use Rattle.settings.specs.Meaning.{settingsSound}
 use Rattle.settings.proofs.RoundTrip.{settings-back}
 use Rattle.bucket.specs.Whole.{whole}
 use Rattle.bucket.proofs.Whole.{fresh-whole}
-use Rattle.knitpasture.specs.Bytes.{numbersFrom, freshSettings, freshOutcome, hubFresh}
+use Rattle.knitpasture.specs.Bytes.{numbersFrom, freshSettings, freshOutcome, keysFit, hubFresh}
 use Rattle.knitpasture.proofs.Numbers.{zeros-read}
 use Rattle.knitpasture.proofs.Fits.{whole-fits}
 
@@ -26,11 +26,11 @@ fresh-fresh = record { means = refl; unused = refl; sound = refl }
 -- Rows and keys for c rows.
 module _ (settings rows keys : List ℕ) (c : ℕ) (some : 1 ≤ c) (most : c ≤ 1024) (ls : length settings ≡ 688) (lr : length rows ≡ 64 * c) (lk : length keys ≡ 64 * c) where
   pub fresh-made : hubFresh settings rows keys ≡ freshOutcome 0 (settingsBytes freshSettings) (replicate (64 * c) 0) (replicate (64 * c) 0)
-  unfolding hubFresh
+  unfolding hubFresh keysFit
   fresh-made =
-      let a : length rows % 64 ≡ 0 = omega (arith, lr) in
-      let k : length keys ≡ length rows = lk ∙ sym lr in
-      simp (eq-eqb (length settings) 688 ls, le-ltb (length rows) 64 (omega arith), le-ltb 65536 (length rows) (omega arith), eq-eqb (length rows % 64) 0 a, eq-eqb (length keys) (length rows) k)
+      let a : length keys % 64 ≡ 0 = omega (arith, lk) in
+      let k : length rows ≡ length keys = lr ∙ sym lk in
+      simp (eq-eqb (length settings) 688 ls, eq-eqb (length rows) (length keys) k, le-ltb (length keys) 64 (omega arith), le-ltb 65536 (length keys) (omega arith), eq-eqb (length keys % 64) 0 a)
       (rw (lr, lk))
 
   -- The bytes read as fresh settings and zeros, which are whole.

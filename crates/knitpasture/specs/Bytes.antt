@@ -1,5 +1,6 @@
--- 01, the C boundary: settings and rows travel as bytes, each number 8 bytes little-endian; a wrong length meets 1.
+-- 01, the C boundary: settings and rows travel as bytes, each number 8 bytes little-endian; a wrong length meets 1. Rows may also be lent as numbers.
 use Prim.Native.Nat.{ℕ, zero, suc, _/_, _%_}
+use mathlib.Core.Bool.{Bool, false}
 use mathlib.Core.List.{List, [], _∷_, _++_}
 use lib.Dec.{eqb, ltb}
 use lib.ListN.{length, take, drop, replicate}
@@ -8,6 +9,7 @@ use Rattle.buffers.specs.Words.{number, spelled}
 use Rattle.model.specs.Settings.{fresh}
 use Rattle.settings.specs.declared.Settings.{Settings}
 use Rattle.settings.specs.Bytes.{settingsOf, settingsBytes}
+use Rattle.bucket.specs.Whole.{keyOf}
 use Rattle.outcome.specs.Outcome.{Outcome, settingsFrom, outcome}
 
 -- ## Numbers as bytes
@@ -21,9 +23,17 @@ unfoldable pub numbersBytes : List ℕ → List ℕ
 numbersBytes [] = []
 numbersBytes (n ∷ ns) = spelled 8 n ++ numbersBytes ns
 
+-- Settings of 688 bytes, and rows that spell whole numbers, at most those of 1024 rows, give the one; other lengths the other. Whether rows and keys fit one c is told where they are used.
+abbrev pub spelling : {A : Type 0} → List ℕ → List ℕ → A → A → A
+spelling settings rows served wrong =
+    pick (eqb (length settings) 688)
+    (pick (ltb 65536 (length rows)) wrong
+    (pick (eqb (length rows % 8) 0) served wrong))
+    wrong
+
 -- ## A line
 
--- What a call returns, and what it leaves of the bytes.
+-- What a call returns, and what it leaves of the buffers.
 pub record ByteOutcome : Type 0 where
   pub number : ℕ
   pub settings : List ℕ
@@ -34,12 +44,27 @@ pub record ByteOutcome : Type 0 where
 abbrev pub byteOutcome : ℕ → List ℕ → List ℕ → List ℕ → List ℕ → ByteOutcome
 byteOutcome n settings rows keys answer = record { number = n; settings = settings; rows = rows; keys = keys; answer = answer }
 
--- The bytes of an accepted line's outcome; a refusal leaves every byte as it was.
-abbrev pub outcomeBytes : Outcome → List ℕ → List ℕ → List ℕ → List ℕ → ByteOutcome
-outcomeBytes o settings rows keys answer =
+-- What a line leaves, `after` being its rows as they are lent; a refusal leaves every buffer as it was.
+abbrev pub outcomeLeft : List ℕ → Outcome → List ℕ → List ℕ → List ℕ → List ℕ → ByteOutcome
+outcomeLeft after o settings rows keys answer =
     pick (eqb (o .number) 0)
-    (byteOutcome 0 (settingsBytes (o .settings)) (numbersBytes (o .numbers)) (o .keys) (o .answer))
+    (byteOutcome 0 (settingsBytes (o .settings)) after (o .keys) (o .answer))
     (byteOutcome (o .number) settings rows keys answer)
+
+-- with rows as numbers
+abbrev pub outcomeWords : Outcome → List ℕ → List ℕ → List ℕ → List ℕ → ByteOutcome
+outcomeWords o = outcomeLeft (o .numbers) o
+
+-- with rows as bytes
+abbrev pub outcomeBytes : Outcome → List ℕ → List ℕ → List ℕ → List ℕ → ByteOutcome
+outcomeBytes o = outcomeLeft (numbersBytes (o .numbers)) o
+
+-- A line on rows that are numbers: the settings are 688 bytes.
+unfoldable pub wordsServed : List ℕ → List ℕ → List ℕ → List ℕ → List ℕ → ByteOutcome
+wordsServed settings numbers keys line answer =
+    pick (eqb (length settings) 688)
+    (outcomeWords (outcome (settingsOf settings) numbers keys line answer) settings numbers keys answer)
+    (byteOutcome 1 settings numbers keys answer)
 
 -- the outcome of a line on what the bytes spell: the settings, and n numbers of rows
 abbrev pub spelledOutcome : ℕ → List ℕ → List ℕ → List ℕ → List ℕ → List ℕ → Outcome
@@ -48,18 +73,24 @@ spelledOutcome n settings rows keys line answer = outcome (settingsOf settings) 
 abbrev pub spelledServed : ℕ → List ℕ → List ℕ → List ℕ → List ℕ → List ℕ → ByteOutcome
 spelledServed n settings rows keys line answer = outcomeBytes (spelledOutcome n settings rows keys line answer) settings rows keys answer
 
--- The settings are 688 bytes, and the rows whole numbers, at most those of 1024 rows; whether rows and keys fit one c the outcome tells.
+-- A line on rows that are bytes.
 unfoldable pub hubServed : List ℕ → List ℕ → List ℕ → List ℕ → List ℕ → ByteOutcome
 hubServed settings rows keys line answer =
-    pick (eqb (length settings) 688)
-    (pick (ltb 65536 (length rows)) (byteOutcome 1 settings rows keys answer)
-    (pick (eqb (length rows % 8) 0) (spelledServed (length rows / 8) settings rows keys line answer)
-    (byteOutcome 1 settings rows keys answer)))
-    (byteOutcome 1 settings rows keys answer)
+    spelling settings rows (spelledServed (length rows / 8) settings rows keys line answer) (byteOutcome 1 settings rows keys answer)
+
+-- ## A row's key
+
+-- the key at a position of what the bytes spell
+abbrev pub spelledKey : ℕ → List ℕ → List ℕ → List ℕ → ℕ → List ℕ
+spelledKey n settings rows keys i = keyOf (settingsOf settings) (numbersFrom n rows) keys i
+
+-- A wrong length gives the empty part.
+unfoldable pub hubKey : List ℕ → List ℕ → List ℕ → ℕ → List ℕ
+hubKey settings rows keys i = spelling settings rows (spelledKey (length rows / 8) settings rows keys i) []
 
 -- ## A fresh bucket
 
--- What making a fresh bucket returns, and what it leaves of the bytes.
+-- What making a fresh bucket returns, and what it leaves of the buffers.
 pub record FreshOutcome : Type 0 where
   pub number : ℕ
   pub settings : List ℕ
@@ -73,14 +104,24 @@ freshOutcome n settings rows keys = record { number = n; settings = settings; ro
 abbrev pub freshSettings : Settings
 freshSettings = settingsFrom (fresh .settings) 0
 
--- The settings are 688 bytes, and rows and keys 64 for each of 1 to 1024 rows; else every byte stays.
-unfoldable pub hubFresh : List ℕ → List ℕ → List ℕ → FreshOutcome
-hubFresh settings rows keys =
+-- as many key bytes as 1 to 1024 rows have
+unfoldable pub keysFit : ℕ → Bool
+keysFit n = pick (ltb n 64) false (pick (ltb 65536 n) false (eqb (n % 64) 0))
+
+-- The settings are 688 bytes, the keys those of 1 to 1024 rows, and the rows as long as is said; else every buffer stays.
+abbrev pub madeFresh : ℕ → List ℕ → List ℕ → List ℕ → FreshOutcome
+madeFresh long settings rows keys =
     pick (eqb (length settings) 688)
-    (pick (ltb (length rows) 64) (freshOutcome 1 settings rows keys)
-    (pick (ltb 65536 (length rows)) (freshOutcome 1 settings rows keys)
-    (pick (eqb (length rows % 64) 0)
-    (pick (eqb (length keys) (length rows)) (freshOutcome 0 (settingsBytes freshSettings) (replicate (length rows) 0) (replicate (length keys) 0))
+    (pick (eqb (length rows) long)
+    (pick (keysFit (length keys)) (freshOutcome 0 (settingsBytes freshSettings) (replicate (length rows) 0) (replicate (length keys) 0))
     (freshOutcome 1 settings rows keys))
-    (freshOutcome 1 settings rows keys))))
+    (freshOutcome 1 settings rows keys))
     (freshOutcome 1 settings rows keys)
+
+-- rows as numbers, eight of them to 64 key bytes
+unfoldable pub wordsFresh : List ℕ → List ℕ → List ℕ → FreshOutcome
+wordsFresh settings numbers keys = madeFresh (length keys / 8) settings numbers keys
+
+-- rows as bytes, 64 of them to 64 key bytes
+unfoldable pub hubFresh : List ℕ → List ℕ → List ℕ → FreshOutcome
+hubFresh settings rows keys = madeFresh (length keys) settings rows keys

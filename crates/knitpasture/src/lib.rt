@@ -1,14 +1,15 @@
-// The entries of the hub: the settings lent by reference, and settings and rows as bytes. The definitions are in specs/.
+// The entries of the hub: the settings lent by reference or as bytes, the rows as numbers or as bytes. The definitions are in specs/.
 use settings::Settings;
 ghost use mathlib.Core.Path.{_≡_};
 ghost use Prim.Native.Nat.{_*_};
 ghost use lib.ListN.{length, replicate};
 ghost use Rattle.outcome.specs.Outcome.{outcome};
 ghost use Rattle.knitpasture.specs.Lent.{lentOutcome, lentOutcomeFrom};
-ghost use Rattle.knitpasture.specs.Bytes.{numbersFrom, numbersBytes, byteOutcome, outcomeBytes, spelledServed, hubServed, freshOutcome, hubFresh};
+ghost use Rattle.knitpasture.specs.Bytes.{numbersFrom, numbersBytes, byteOutcome, wordsServed, spelledServed, hubServed, spelledKey, hubKey, freshOutcome, keysFit, wordsFresh, hubFresh};
 
 // Serves a line on settings that are lent and altered here, and returns 0 or the refusal.
-pub fn serve_lent(
+#[no_mangle]
+pub extern "C" fn knitpasture_serve_lent(
     settings: &mut Settings,
     rows: &mut [u64],
     keys: &mut [u8],
@@ -20,6 +21,37 @@ pub fn serve_lent(
     let r = engine::serve(*settings, rows, keys, line, answer);
     *settings = r.settings;
     r.number
+}
+
+// Serves a line on settings as bytes and rows as numbers; only an accepted line alters them.
+#[no_mangle]
+pub extern "C" fn knitpasture_serve_words(
+    settings: &mut [u8],
+    rows: &mut [u64],
+    keys: &mut [u8],
+    line: &[u8],
+    answer: &mut [u8],
+) -> u64
+    ensures { λ r. ⌜ byteOutcome r (now (settings .exit)) (now (rows .exit)) (now (keys .exit)) (now (answer .exit)) ≡ wordsServed (now (settings .entry)) (now (rows .entry)) (now (keys .entry)) (now (line .entry)) (now (answer .entry)) ⌝ }
+{
+    if settings.len() != 688 {
+        return 1;
+    }
+    let s = settings::decode(settings);
+    let r = engine::serve(s, rows, keys, line, answer);
+    if r.number != 0 {
+        return r.number;
+    }
+    let after = r.settings;
+    settings::encode(after, settings);
+    0
+}
+
+// Room for the numbers of 64 rows: less to clear, where the table is small.
+fn few_numbers() -> [u64; 512]
+    ensures { λ r. ⌜ length r ≡ 512 ⌝ }
+{
+    [0u64; 512]
 }
 
 // Room for the numbers of the largest table.
@@ -55,31 +87,8 @@ fn write_numbers(numbers: &[u64], b: &mut [u8])
     }
 }
 
-// Serves a line on what the bytes were read as; only an accepted line writes settings and rows back.
-fn serve_read(
-    s: Settings,
-    settings: &mut [u8],
-    rows: &mut [u8],
-    keys: &mut [u8],
-    line: &[u8],
-    answer: &mut [u8],
-    numbers: &mut [u64],
-) -> u64
-    requires { ⌜ (length (now settings) ≡ 688) × (length (now rows) ≡ 8 * length (now numbers)) ⌝ }
-    ensures { λ r. ⌜ byteOutcome r (now (settings .exit)) (now (rows .exit)) (now (keys .exit)) (now (answer .exit)) ≡ outcomeBytes (outcome s (now (numbers .entry)) (now (keys .entry)) (now (line .entry)) (now (answer .entry))) (now (settings .entry)) (now (rows .entry)) (now (keys .entry)) (now (answer .entry)) ⌝ }
-{
-    let r = engine::serve(s, numbers, keys, line, answer);
-    if r.number != 0 {
-        return r.number;
-    }
-    let after = r.settings;
-    settings::encode(after, settings);
-    write_numbers(numbers, rows);
-    0
-}
-
-// Serves a line on what the bytes spell.
-fn serve_bytes(
+// Serves a line on the numbers that the rows spell; only an accepted line writes them back.
+fn serve_spelled(
     settings: &mut [u8],
     rows: &mut [u8],
     keys: &mut [u8],
@@ -90,9 +99,13 @@ fn serve_bytes(
     requires { ⌜ (length (now settings) ≡ 688) × (length (now rows) ≡ 8 * length (now numbers)) ⌝ }
     ensures { λ r. ⌜ byteOutcome r (now (settings .exit)) (now (rows .exit)) (now (keys .exit)) (now (answer .exit)) ≡ spelledServed (length (now (numbers .entry))) (now (settings .entry)) (now (rows .entry)) (now (keys .entry)) (now (line .entry)) (now (answer .entry)) ⌝ }
 {
-    let s = settings::decode(settings);
     read_numbers(rows, numbers);
-    serve_read(s, settings, rows, keys, line, answer, numbers)
+    let number = knitpasture_serve_words(settings, numbers, keys, line, answer);
+    if number != 0 {
+        return number;
+    }
+    write_numbers(numbers, rows);
+    0
 }
 
 // Serves a line on settings and rows as bytes, and returns 0 or the refusal.
@@ -116,8 +129,55 @@ pub extern "C" fn knitpasture_serve(
         return 1;
     }
     let n = rows.len() / 8;
+    if rows.len() <= 4096 {
+        let mut few = few_numbers();
+        return serve_spelled(settings, rows, keys, line, answer, &mut few[0..n]);
+    }
     let mut numbers = no_numbers();
-    serve_bytes(settings, rows, keys, line, answer, &mut numbers[0..n])
+    serve_spelled(settings, rows, keys, line, answer, &mut numbers[0..n])
+}
+
+// The length of the key at a position of the numbers that the rows spell.
+fn key_length(settings: &[u8], rows: &[u8], keys: &[u8], at: usize, numbers: &mut [u64]) -> usize
+    requires { ⌜ (length (now settings) ≡ 688) × (length (now rows) ≡ 8 * length (now numbers)) ⌝ }
+    ensures { λ r. ⌜ r ≡ length (spelledKey (length (now (numbers .entry))) (now (settings .entry)) (now (rows .entry)) (now (keys .entry)) at) ⌝ }
+{
+    read_numbers(rows, numbers);
+    let s = settings::decode(settings);
+    let key = bucket::key_of(s, numbers, keys, at);
+    key.len()
+}
+
+// The length of a used row's key, which stands in the key bytes from the row's second on; 0 for the empty part.
+#[no_mangle]
+pub extern "C" fn knitpasture_key(settings: &[u8], rows: &[u8], keys: &[u8], at: usize) -> usize
+    ensures { λ r. ⌜ r ≡ length (hubKey (now (settings .entry)) (now (rows .entry)) (now (keys .entry)) at) ⌝ }
+{
+    if settings.len() != 688 {
+        return 0;
+    }
+    if rows.len() > 65536 {
+        return 0;
+    }
+    if rows.len() % 8 != 0 {
+        return 0;
+    }
+    let n = rows.len() / 8;
+    let mut numbers = no_numbers();
+    key_length(settings, rows, keys, at, &mut numbers[0..n])
+}
+
+// Whether as many key bytes are those of 1 to 1024 rows.
+fn keys_fit(n: usize) -> bool
+    ensures { λ r. ⌜ r ≡ keysFit n ⌝ }
+{
+    if n < 64 {
+        return false;
+    }
+    if n > 65536 {
+        return false;
+    }
+    n % 64 == 0
 }
 
 // Sets every byte to zero.
@@ -128,7 +188,39 @@ fn clear(b: &mut [u8])
     buffers::move_down_bytes(b, n);
 }
 
-// Makes the bytes those of a fresh bucket, and returns 0, or 1 where their lengths don't fit one capacity.
+// Sets every number to zero.
+fn clear_numbers(s: &mut [u64])
+    ensures { λ _. ⌜ now (s .exit) ≡ replicate (length (now (s .entry))) 0 ⌝ }
+{
+    let n = s.len();
+    buffers::move_down_numbers(s, n);
+}
+
+// Makes the buffers those of a fresh bucket, the rows as numbers; returns 0, or 1 where the lengths don't fit one capacity.
+#[no_mangle]
+pub extern "C" fn knitpasture_fresh_words(
+    settings: &mut [u8],
+    rows: &mut [u64],
+    keys: &mut [u8],
+) -> u64
+    ensures { λ r. ⌜ freshOutcome r (now (settings .exit)) (now (rows .exit)) (now (keys .exit)) ≡ wordsFresh (now (settings .entry)) (now (rows .entry)) (now (keys .entry)) ⌝ }
+{
+    if settings.len() != 688 {
+        return 1;
+    }
+    if rows.len() != keys.len() / 8 {
+        return 1;
+    }
+    if !keys_fit(keys.len()) {
+        return 1;
+    }
+    settings::encode(settings::fresh(), settings);
+    clear_numbers(rows);
+    clear(keys);
+    0
+}
+
+// The same with the rows as bytes.
 #[no_mangle]
 pub extern "C" fn knitpasture_fresh(settings: &mut [u8], rows: &mut [u8], keys: &mut [u8]) -> u64
     ensures { λ r. ⌜ freshOutcome r (now (settings .exit)) (now (rows .exit)) (now (keys .exit)) ≡ hubFresh (now (settings .entry)) (now (rows .entry)) (now (keys .entry)) ⌝ }
@@ -136,16 +228,10 @@ pub extern "C" fn knitpasture_fresh(settings: &mut [u8], rows: &mut [u8], keys: 
     if settings.len() != 688 {
         return 1;
     }
-    if rows.len() < 64 {
+    if rows.len() != keys.len() {
         return 1;
     }
-    if rows.len() > 65536 {
-        return 1;
-    }
-    if rows.len() % 64 != 0 {
-        return 1;
-    }
-    if keys.len() != rows.len() {
+    if !keys_fit(keys.len()) {
         return 1;
     }
     settings::encode(settings::fresh(), settings);

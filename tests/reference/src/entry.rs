@@ -86,3 +86,12 @@ pub fn fresh_bytes(settings: &mut [u8], rows: &mut [u8], keys: &mut [u8]) -> u64
     Bucket::fresh(rows.len() / ROW_BYTES).to_bytes(settings, rows, keys);
     0
 }
+
+/// The keys of the used rows, in their order; none where the bytes are no sound bucket.
+pub fn keys_in_bytes(settings: &[u8], rows: &[u8], keys: &[u8]) -> Vec<Vec<u8>> {
+    let Some(bucket) = Bucket::from_bytes(settings, rows, keys).filter(Bucket::sound) else {
+        return Vec::new();
+    };
+    let used = bucket.settings.used as usize;
+    bucket.keys[..used].iter().map(|key| key[1..=key[0] as usize].to_vec()).collect()
+}

@@ -16,4 +16,4 @@ pub mod sweep;
 pub mod verbs;
 
 pub use bucket::Bucket;
-pub use entry::{fresh_bytes, serve_bytes};
+pub use entry::{fresh_bytes, keys_in_bytes, serve_bytes};

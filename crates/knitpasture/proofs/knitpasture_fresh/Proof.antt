@@ -1,4 +1,5 @@
 -- `knitpasture_fresh` meets its contract: each way through it is one of the cited laws.
+use borrow.Author.Tests.{not-true, not-false}
 use Rattle.buffers.proofs.Choices.{picks}
 use Rattle.knitpasture.specs.Bytes.{hubFresh}
 use Rattle.knitpasture.proofs.Serving.{fresh-left}
@@ -13,9 +14,8 @@ knitpasture-fresh-spec =
     (tie.spec
     (λ c. search (picks, needs))
     (λ c. search (picks, needs))
-    (λ c. search (picks, needs))
-    (λ c. search (picks, needs))
-    (λ c. search (picks, needs))
+    (λ c κs. search needs)
+    (λ c. search (picks, not-true, not-false))
     (λ c κs. search needs)
     (λ c κs. search needs)
     (λ c κs. search needs)
@@ -23,4 +23,4 @@ knitpasture-fresh-spec =
     (λ c. search needs)
     (λ c. search needs)
     (λ c. search needs)
-    (λ c. search (picks, fresh-left) depth 12))
+    (λ c. search (picks, not-true, not-false, fresh-left) depth 12))

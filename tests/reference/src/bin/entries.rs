@@ -1,8 +1,10 @@
-//! The cost of a call of the engine's C entry on a bucket of 1024 rows, beside the reference's entry over bytes.
+//! The cost of a call of the engine's C entries on a bucket of 1024 rows, rows as bytes and as words, beside the reference's
+//! entry over bytes.
 //!
-//! `entries ROUNDS` prints a table: for each number of used rows and each call the best processor time of both.
+//! `entries ROUNDS` prints a table: for each number of used rows and each call the best processor time of each.
 use std::process::ExitCode;
 
+#[allow(dead_code)]
 #[path = "compare/engine.rs"]
 mod engine;
 #[path = "shared/usage.rs"]
@@ -104,22 +106,23 @@ fn measure(serve: Serve, call: &Call, used: usize, start: &Buffers) -> u64 {
 
 fn main() -> ExitCode {
     let rounds = std::env::args().nth(1).and_then(|word| word.parse().ok()).unwrap_or(7);
-    println!("| used rows | call | engine, ns per call | reference, ns per call | ratio |");
-    println!("|---|---|---|---|---|");
+    println!("| used rows | call | engine, ns per call | rows as words | reference, ns per call | ratio |");
+    println!("|---|---|---|---|---|---|");
     for used in [0, 100, 1000] {
         let start = Buffers::with_rows(used);
         // An empty table has no row that a GET could name.
         let calls: Vec<&Call> = CALLS_MEASURED.iter().filter(|call| used > 0 || call.name != "GET").collect();
-        let mut best = [[u64::MAX; 2]; CALLS_MEASURED.len()];
+        let mut best = [[u64::MAX; 3]; CALLS_MEASURED.len()];
         for _ in 0..rounds {
             for (call, best) in calls.iter().zip(&mut best) {
                 best[0] = best[0].min(measure(engine::serve, call, used, &start));
-                best[1] = best[1].min(measure(reference::serve_bytes, call, used, &start));
+                best[1] = best[1].min(measure(engine::serve_words, call, used, &start));
+                best[2] = best[2].min(measure(reference::serve_bytes, call, used, &start));
             }
         }
-        for (call, [engine, reference]) in calls.iter().zip(best) {
+        for (call, [engine, words, reference]) in calls.iter().zip(best) {
             let ratio = reference as f64 / engine as f64;
-            println!("| {used} | {} | {engine} | {reference} | {ratio:.2} |", call.name);
+            println!("| {used} | {} | {engine} | {words} | {reference} | {ratio:.2} |", call.name);
         }
     }
     ExitCode::SUCCESS

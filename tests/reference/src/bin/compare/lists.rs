@@ -87,10 +87,22 @@ impl List<'_> {
         change(&mut self.sides.engine, &mut self.random);
         self.serve(line)?;
         if self.random.once_in(8) {
-            let number = self.sides.fresh().map_err(|difference| format!("fresh\n{difference}"))?;
-            self.tally.fresh[number as usize] += 1;
+            self.ask_keys()?;
+            self.make_fresh()?;
         }
         self.sides.engine = before;
+        Ok(())
+    }
+
+    fn make_fresh(&mut self) -> Result<(), String> {
+        let words = self.random.once_in(2);
+        let number = self.sides.fresh(words).map_err(|difference| format!("fresh\n{difference}"))?;
+        self.tally.fresh[number as usize] += 1;
+        Ok(())
+    }
+
+    fn ask_keys(&mut self) -> Result<(), String> {
+        self.tally.keys += self.sides.keys()? as u64;
         Ok(())
     }
 
@@ -116,11 +128,12 @@ pub fn run(seed: u64, broken: bool, tally: &mut Tally) -> Result<(), String> {
     let steps = 50 + random.below(300);
     let mut list = List { sides: Sides::new(side, broken), random, keys, tally };
     if !fill {
-        let number = list.sides.fresh()?;
-        list.tally.fresh[number as usize] += 1;
+        list.make_fresh()?;
     }
     for step in 0..steps {
         list.step().map_err(|said| format!("step {step}, capacity {capacity}, {said}"))?;
     }
+    list.ask_keys()?;
+    list.tally.served(&list.sides.served);
     Ok(())
 }

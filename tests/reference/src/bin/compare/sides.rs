@@ -81,25 +81,46 @@ impl Side {
     }
 }
 
+/// The entries that serve a line, by name.
+pub const ENTRIES: [(&str, Serve); 3] =
+    [("serve", engine::serve), ("serve_words", engine::serve_words), ("serve_lent", engine::serve_lent)];
+type Serve = fn(&mut [u8], &mut [u8], &mut [u8], &[u8], &mut [u8]) -> u64;
+
 /// The engine's bytes; the reference works on a copy of them.
 pub struct Sides {
     pub engine: Side,
     reference: Side,
     broken: bool,
+    /// How often each entry has served a line.
+    pub served: [u64; ENTRIES.len()],
 }
 
 impl Sides {
     /// With `broken` the reference's answers are perturbed, so that a difference must be found.
     pub fn new(side: Side, broken: bool) -> Sides {
-        Sides { engine: side.clone(), reference: side, broken }
+        Sides { engine: side.clone(), reference: side, broken, served: [0; ENTRIES.len()] }
+    }
+
+    /// The entry whose turn it is, of those that such lengths can be lent to.
+    fn entry(&self) -> usize {
+        let whole = self.engine.rows.seen().len() % 8 == 0;
+        let fitting = match (whole, self.engine.settings.seen().len()) {
+            (false, _) => 1,
+            (true, BYTES) => 3,
+            (true, _) => 2,
+        };
+        self.served.iter().sum::<u64>() as usize % fitting
     }
 
     /// Has both serve a line: the number, or what differs.
     pub fn serve(&mut self, line: &[u8]) -> Result<u64, String> {
         self.reference.clone_from(&self.engine);
+        let entry = self.entry();
+        self.served[entry] += 1;
+        let (name, serve) = ENTRIES[entry];
         let (one, two) = (&mut self.engine, &mut self.reference);
         let engine =
-            engine::serve(one.settings.bytes(), one.rows.bytes(), one.keys.bytes(), line, one.answer.bytes());
+            serve(one.settings.bytes(), one.rows.bytes(), one.keys.bytes(), line, one.answer.bytes());
         let reference = reference::serve_bytes(
             two.settings.bytes(),
             two.rows.bytes(),
@@ -110,16 +131,34 @@ impl Sides {
         if self.broken && reference == 0 {
             two.answer.bytes()[0] ^= 1;
         }
+        self.agreed(engine, reference).map_err(|difference| format!("{name}: {difference}"))
+    }
+
+    /// Has both make a fresh bucket, of rows as words where they are whole words and those are asked for.
+    pub fn fresh(&mut self, words: bool) -> Result<u64, String> {
+        self.reference.clone_from(&self.engine);
+        let words = words && self.engine.rows.seen().len() % 8 == 0;
+        let fresh = if words { engine::fresh_words } else { engine::fresh };
+        let (one, two) = (&mut self.engine, &mut self.reference);
+        let engine = fresh(one.settings.bytes(), one.rows.bytes(), one.keys.bytes());
+        let reference = reference::fresh_bytes(two.settings.bytes(), two.rows.bytes(), two.keys.bytes());
         self.agreed(engine, reference)
     }
 
-    /// Has both make a fresh bucket.
-    pub fn fresh(&mut self) -> Result<u64, String> {
-        self.reference.clone_from(&self.engine);
-        let (one, two) = (&mut self.engine, &mut self.reference);
-        let engine = engine::fresh(one.settings.bytes(), one.rows.bytes(), one.keys.bytes());
-        let reference = reference::fresh_bytes(two.settings.bytes(), two.rows.bytes(), two.keys.bytes());
-        self.agreed(engine, reference)
+    /// Has both say the key at each position of the table, at those behind it and at the last of all: how many are keys.
+    pub fn keys(&self) -> Result<usize, String> {
+        let side = &self.engine;
+        let (settings, rows, keys) = (side.settings.seen(), side.rows.seen(), side.keys.seen());
+        let expected = reference::keys_in_bytes(settings, rows, keys);
+        let capacity = keys.len() / 64;
+        for position in (0..capacity + 2).chain([1 << 58, usize::MAX]) {
+            let said = engine::key(settings, rows, keys, position);
+            let is = expected.get(position).map_or(&[][..], |key| key);
+            if said != is {
+                return Err(format!("the key at {position}: the engine has {said:?}, the reference {is:?}"));
+            }
+        }
+        Ok(expected.len())
     }
 
     fn agreed(&self, engine: u64, reference: u64) -> Result<u64, String> {

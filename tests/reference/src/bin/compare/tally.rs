@@ -1,4 +1,5 @@
-//! How often each number came, by verb.
+//! How often each number came, by verb, and each entry was called.
+use crate::sides::ENTRIES;
 
 const VERBS: [&str; 10] =
     ["PUT", "COPY", "RETAIN", "HOLD", "DELETE", "DEFAULT", "RULE", "SWEEP", "GET", "other"];
@@ -9,6 +10,8 @@ pub struct Tally {
     pub lists: u64,
     pub lines: u64,
     pub fresh: [u64; 2],
+    pub keys: u64,
+    entries: [u64; ENTRIES.len()],
     counts: [[u64; NUMBERS]; VERBS.len()],
 }
 
@@ -24,6 +27,11 @@ impl Tally {
         self.counts[verb_of(line)][number as usize] += 1;
     }
 
+    /// Adds how often each entry has served a line.
+    pub fn served(&mut self, served: &[u64]) {
+        self.entries.iter_mut().zip(served).for_each(|(sum, count)| *sum += count);
+    }
+
     /// The numbers from 0 to 12 that never came.
     pub fn missing(&self) -> Vec<usize> {
         (0..NUMBERS).filter(|&number| self.counts.iter().all(|row| row[number] == 0)).collect()
@@ -31,7 +39,10 @@ impl Tally {
 
     pub fn print(&self) {
         println!("{} lists, {} lines", self.lists, self.lines);
-        println!("fresh buckets: {} made, {} refused", self.fresh[0], self.fresh[1]);
+        for ((name, _), count) in ENTRIES.iter().zip(&self.entries) {
+            println!("{name}: {count} lines");
+        }
+        println!("fresh buckets: {} made, {} refused; {} keys", self.fresh[0], self.fresh[1], self.keys);
         print!("{:8}", "number");
         (0..NUMBERS).for_each(|number| print!("{number:>9}"));
         println!();

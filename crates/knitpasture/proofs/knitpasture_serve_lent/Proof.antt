@@ -1,4 +1,4 @@
--- `serve_lent` meets its contract: a walk of its MIR, by hand, since the borrow checker covers no reference to a struct. The settings' borrow is opened, the struct is copied out and passed to `serve` by value, with the slices at their own lifetimes, shares and names (they are given up for good). What `serve` returns is stored behind the borrow, and the borrow is closed at it.
+-- `knitpasture_serve_lent` meets its contract: a walk of its MIR, by hand, since the borrow checker covers no reference to a struct. The settings' borrow is opened, the struct is copied out and passed to `serve` by value, with the slices at their own lifetimes, shares and names (they are given up for good). What `serve` returns is stored behind the borrow, and the borrow is closed at it.
 use Rattle.engine.proofs.serve.Symbol.{name as #engine·serve}
 use mathlib.Core.Path.{_≡_, refl, ap}
 use Prim.Native.Nat.{ℕ, _<_, _^_}
@@ -45,7 +45,7 @@ use Rattle.outcome.specs.Outcome.{outcome}
 use Rattle.engine.specs.Served.{outcomeFrom}
 use Rattle.knitpasture.specs.Lent.{lentOutcomeFrom}
 use Rattle.engine.specs.declared.Served.{Served}
-use Rattle.knitpasture.proofs.serve_lent.Key.{name as #knitpasture·serve-lent}
+use Rattle.knitpasture.proofs.knitpasture_serve_lent.Key.{name as #serve-lent}
 use denote.Struct.Laws as LL
 use Rattle.settings.proofs.Settings as T
 use Rattle.settings.proofs.Settings.Laws as T′
@@ -54,9 +54,9 @@ use Rattle.engine.proofs.Served.Laws as N′
 use Rattle.engine.proofs.serve as srv
 use Rattle.engine.proofs.serve.Symbol as serve-def
 use Rattle.engine.proofs.serve.Met as serve-thm
-use Rattle.knitpasture.proofs.serve_lent as serve-lent
-use Rattle.knitpasture.proofs.serve_lent.Statement as stated
-use Rattle.knitpasture.proofs.serve_lent.Code as code
+use Rattle.knitpasture.proofs.knitpasture_serve_lent as serve-lent
+use Rattle.knitpasture.proofs.knitpasture_serve_lent.Statement as stated
+use Rattle.knitpasture.proofs.knitpasture_serve_lent.Code as code
 
 abbrev stayed : Stays (serve-lent.ended .signature .params) (serve-lent.ended .kept)
 stayed =
@@ -209,10 +209,10 @@ serve-lent-meets 𝓤 H A W mem run 𝓣 known =
     walk-meets 𝓤 H A serve-lent.ended stayed W (goes-all 𝓤 H A W mem run) (serve-lent.clauses 𝓤 H A mem run)
     (WpFn 𝓤 H (𝓣 .C) (𝓣 .Λ) code.function) (WpFn-mono 𝓤 H (W .laws) 𝓣 code.function) (serve-lent-walks 𝓤 H A W mem run (𝓣 .C) (𝓣 .Λ) (fmOf 𝓤 H (W .laws) 𝓣) known)
 
-pub serve-lent-spec : {M : Type 1} → stated.statement M
+pub knitpasture-serve-lent-spec : {M : Type 1} → stated.statement M
 unfolding code.routine tablesOf
-serve-lent-spec 𝓤 H 𝓜 𝓖 𝓡 =
+knitpasture-serve-lent-spec 𝓤 H 𝓜 𝓖 𝓡 =
     entered 𝓤 H (tripleOf 𝓤 H (𝓖 .A) serve-lent.signature (serve-lent.spec 𝓤 H (𝓖 .A) (𝓜 .mem) (𝓡 .run)))
-    (tables 𝓤 H 𝓜 𝓡 code.env .C) (tables 𝓤 H 𝓜 𝓡 code.env .Λ) #knitpasture·serve-lent code.function (code.unfolded 𝓤 H 𝓜 𝓡)
+    (tables 𝓤 H 𝓜 𝓡 code.env .C) (tables 𝓤 H 𝓜 𝓡 code.env .Λ) #serve-lent code.function (code.unfolded 𝓤 H 𝓜 𝓡)
     (serve-lent-meets 𝓤 H (𝓖 .A) (givenOf 𝓤 H 𝓜 𝓖) (𝓜 .mem) (𝓡 .run) (tablesOf 𝓤 H 𝓜 (tables 𝓤 H 𝓜 𝓡 code.env))
     (cited 𝓤 H (Serve 𝓤 H (𝓖 .A) (𝓜 .mem) (𝓡 .run)) 𝓜 𝓡 code.env #engine·serve serve-def.routine code.calls-engine·serve (serve-thm.met 𝓤 H 𝓜 𝓖 𝓡)))

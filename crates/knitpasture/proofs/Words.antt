@@ -1,0 +1,30 @@
+-- The entries over numbers and over bytes do the same: what is served over bytes is what is served over the numbers that they spell, its rows spelled again.
+use Prim.Native.Nat.{ℕ, _/_, _%_, _≤_}
+use mathlib.Core.Path.{_≡_}
+use mathlib.Core.Logic.{inl, inr}
+use mathlib.Core.List.{List}
+use lib.Dec.{eqb}
+use lib.ListN.{length}
+use borrow.Author.Tests.{eq-eqb, le-ltb}
+use Rattle.buffers.specs.Choices.{pick}
+use Rattle.buffers.proofs.Tests.{either}
+use Rattle.settings.specs.Bytes.{settingsOf}
+use Rattle.outcome.specs.Outcome.{Outcome, outcome}
+use Rattle.knitpasture.specs.Bytes.{numbersFrom, numbersBytes, ByteOutcome, byteOutcome, wordsServed, hubServed}
+
+-- what a call over numbers leaves, its rows as bytes: those after an accepted line, else those before it
+abbrev pub rowsSpelled : List ℕ → ByteOutcome → ByteOutcome
+rowsSpelled rows w = byteOutcome (w .number) (w .settings) (pick (eqb (w .number) 0) (numbersBytes (w .rows)) rows) (w .keys) (w .answer)
+
+pub words-as-bytes : (settings rows keys line answer : List ℕ) → length rows ≤ 65536 → length rows % 8 ≡ 0
+    → hubServed settings rows keys line answer ≡ rowsSpelled rows (wordsServed settings (numbersFrom (length rows / 8) rows) keys line answer)
+unfolding hubServed wordsServed
+words-as-bytes settings rows keys line answer m e =
+    let o : Outcome = outcome (settingsOf settings) (numbersFrom (length rows / 8) rows) keys line answer in
+    elim (either (eqb (length settings) 688)) [
+      | inl t ↦ elim (either (eqb (o .number) 0)) [
+        | inl u ↦ simp (t, le-ltb 65536 (length rows) m, eq-eqb (length rows % 8) 0 e, u)
+        | inr u ↦ simp (t, le-ltb 65536 (length rows) m, eq-eqb (length rows % 8) 0 e, u)
+      ]
+      | inr t ↦ rw t
+    ]

@@ -1,0 +1,24 @@
+-- `knitpasture_serve_words` meets its contract: each way through it is one of the cited laws.
+use Rattle.knitpasture.proofs.Serving.{words-cases}
+use borrow.Author.Needs.{needs}
+use Rattle.knitpasture.proofs.knitpasture_serve_words.Statement.{statement}
+use Rattle.knitpasture.proofs.knitpasture_serve_words.Tie as tie
+
+pub knitpasture-serve-words-spec : {M : Type 1} → statement M
+knitpasture-serve-words-spec =
+    tie.close
+    (tie.spec
+    (λ c. search (needs, words-cases))
+    (λ c κs. search needs)
+    (λ c κs. search needs)
+    (λ c. search needs)
+    (λ c. search needs)
+    (λ c. search needs)
+    (λ c. search needs)
+    (λ c. search (needs, words-cases))
+    (λ c κs. search needs)
+    (λ c. search needs)
+    (λ c. search needs)
+    (λ c. search needs)
+    (λ c. search needs)
+    (λ c. search (needs, words-cases)))
