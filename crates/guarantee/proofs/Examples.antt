@@ -13,7 +13,7 @@ use Rattle.calendar.specs.Calendar.{leap, yearsLength, monthStart, monthLength,
 use Rattle.calendar.specs.Periods.{periodEnd, expiresAt}
 use Rattle.dates.specs.Examples.{Starred as Dates, starred as dates}
 use Rattle.dates.specs.Printing.{dateText, printDate}
-use Rattle.dates.specs.Reading.{digitOf, twoDigits, fourDigits, dayNumber, dayAt, secondOfDay, secondAt, placeOf, milliseconds, fractionOf, readDate}
+use Rattle.dates.specs.Reading.{digitOf, twoDigits, fourDigits, dayNumber, dayAt, secondOfDay, secondAt, fractionDigit, milliseconds, fractionOf, readDate}
 use Rattle.model.proofs.Examples.{Starred as Locks, examples}
 use Rattle.model.specs.Answers.{reply}
 use Rattle.model.specs.Effects.{added, removed, rowsAfter, setConfig, configAfter}
@@ -66,5 +66,5 @@ pub printed-run : printedRun (freshLent 4) (replicate 256 0) (linesOf text) ≡
     ++ bytes "ok\t1\t41\t300\tCOMPLIANCE\t2024-03-02T00:00:00.000Z\tOFF\n"
     ++ bytes "ok\t1\tremoved\n"
     ++ bytes "no\t8\n"
-unfolding fieldOf isKeyByte isPrefix isKey isDigit digitMore leadingZero numberOf positiveOf digits leap yearsLength monthStart monthLength validDay daysOf guessOf yearOf monthOf dateIn civilOf periodEnd expiresAt dateText printDate digitOf twoDigits fourDigits dayNumber dayAt secondOfDay secondAt placeOf milliseconds fractionOf readDate reply added removed rowsAfter setConfig configAfter locked admits halfGiven needs granted lacksRight pastDate missing namesMarker barred tooLate spends full inRange soundRow soundRules soundConfig fits sound defaultEnd blockOf isBlock whole rightsIn readRights readKey readPrefix readVersion readMode readUntil readSwitch readHold readBypass readPeriod nameAt retentionAt termsAt putOf copyOf retainOf setHoldOf deleteOf defaultOf ruleOf sweepOf getOf otherByWord verbByWord readLine fieldsText okText modeText untilText holdText refusalOf outcome
+unfolding fieldOf isKeyByte isPrefix isKey isDigit digitMore leadingZero numberOf positiveOf digits leap yearsLength monthStart monthLength validDay daysOf guessOf yearOf monthOf dateIn civilOf periodEnd expiresAt dateText printDate digitOf twoDigits fourDigits dayNumber dayAt secondOfDay secondAt fractionDigit milliseconds fractionOf readDate reply added removed rowsAfter setConfig configAfter locked admits halfGiven needs granted lacksRight pastDate missing namesMarker barred tooLate spends full inRange soundRow soundRules soundConfig fits sound defaultEnd blockOf isBlock whole rightsIn readRights readKey readPrefix readVersion readMode readUntil readSwitch readHold readBypass readPeriod nameAt retentionAt termsAt putOf copyOf retainOf setHoldOf deleteOf defaultOf ruleOf sweepOf getOf otherByWord verbByWord readLine fieldsText okText modeText untilText holdText refusalOf outcome
 printed-run = refl

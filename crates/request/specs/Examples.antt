@@ -12,7 +12,7 @@ use Rattle.text.specs.Numbers.{isDigit, leadingZero, numberOf, positiveOf}
 use Rattle.text.specs.Fields.{fieldOf}
 use Rattle.text.specs.Keys.{isKeyByte, isPrefix, isKey}
 use Rattle.calendar.specs.Calendar.{leap, yearsLength, monthStart, monthLength, validDay, daysOf}
-use Rattle.dates.specs.Reading.{digitOf, twoDigits, fourDigits, dayNumber, dayAt, secondOfDay, secondAt, placeOf, milliseconds, fractionOf, readDate}
+use Rattle.dates.specs.Reading.{digitOf, twoDigits, fourDigits, dayNumber, dayAt, secondOfDay, secondAt, fractionDigit, milliseconds, fractionOf, readDate}
 use Rattle.model.specs.Rows.{compliance}
 use Rattle.model.specs.Settings.{days}
 use Rattle.model.specs.Requests.{Rights, numbered, name, noRetention, Verb, Put, AddMarker, DeleteVersion, Set, DefaultRetention, Ask, Get}
@@ -65,7 +65,7 @@ pub record Examples : Type 0 where
 
 -- each by computing
 pub examples : Examples
-unfolding isDigit leadingZero numberOf positiveOf fieldOf isKeyByte isPrefix isKey leap yearsLength monthStart monthLength validDay daysOf digitOf twoDigits fourDigits dayNumber dayAt secondOfDay secondAt placeOf milliseconds fractionOf readDate rightsIn readRights readKey readVersion readMode readUntil readHold readBypass readPeriod nameAt retentionAt termsAt putOf deleteOf defaultOf getOf otherByWord verbByWord readLine
+unfolding isDigit leadingZero numberOf positiveOf fieldOf isKeyByte isPrefix isKey leap yearsLength monthStart monthLength validDay daysOf digitOf twoDigits fourDigits dayNumber dayAt secondOfDay secondAt fractionDigit milliseconds fractionOf readDate rightsIn readRights readKey readVersion readMode readUntil readHold readBypass readPeriod nameAt retentionAt termsAt putOf deleteOf defaultOf getOf otherByWord verbByWord readLine
 examples =
     record {
       default = refl;
