@@ -16,10 +16,10 @@ use Rattle.buffers.proofs.Parts.{rest-all, part-cut}
 use Rattle.text.specs.Lines.{linesOf, feedAt}
 use Rattle.text.proofs.Lines.{lines-at}
 use Rattle.settings.specs.declared.Settings.{Settings}
-use Rattle.settings.specs.Changes.{Fresh}
+use Rattle.settings.specs.Meaning.{freshSettings}
 use Rattle.bucket.specs.Whole.{whole}
 use Rattle.bucket.proofs.Whole.{fresh-whole}
-use Rattle.request.specs.Grammar.{readLine}
+use Rattle.request.specs.Grammar.{requestIn, readLine}
 use Rattle.outcome.specs.Outcome.{Outcome, outcome}
 use Rattle.outcome.proofs.Room.{end-inside}
 use Rattle.outcome.proofs.Kept.{outcome-whole}
@@ -115,7 +115,7 @@ kept-moved input from to ys e = let z : to - 0 ≡ to = omega arith in rw (e, z)
 
 -- A line of more than 512 bytes reads as nothing.
 long-unread : (l : List ℕ) → 512 < length l → readLine l ≡ none
-unfolding readLine
+unfolding readLine requestIn
 long-unread l h = simp (lt-ltb _ _ h)
 
 cut-reads : (l rest : List ℕ) → 513 ≤ length l → readLine (take 513 l ++ rest) ≡ readLine (l ++ rest)
@@ -148,13 +148,13 @@ pub ruleset keep-cases = (kept-all, kept-cut)
 -- ## The run
 
 -- A bucket of zeros is fresh.
-zeros-whole : (s : Settings) (c x y : ℕ) (n b : List ℕ) → Fresh s → 1 ≤ c → c ≤ 1024 → x ≡ 8 * c → y ≡ 64 * c → n ≡ replicate x 0 → b ≡ replicate y 0 → whole s n b ≡ true
-zeros-whole s c x y n b f some most ex ey en eb = rw (en, eb, ex, ey) (fresh-whole s c f some most)
+zeros-whole : (s : Settings) (c x y : ℕ) (n b : List ℕ) → s ≡ freshSettings → 1 ≤ c → c ≤ 1024 → x ≡ 8 * c → y ≡ 64 * c → n ≡ replicate x 0 → b ≡ replicate y 0 → whole s n b ≡ true
+zeros-whole s c x y n b f some most ex ey en eb = rw (f, en, eb, ex, ey) (fresh-whole c some most)
 
 zeros-long : (l : List ℕ) (k : ℕ) → l ≡ replicate k 0 → length l ≡ k
 zeros-long l k e = rw e (length-replicate k 0)
 
-pub may-run : (s : Settings) (input n b out : List ℕ) → Fresh s → input ≡ replicate 66560 0 → n ≡ replicate 8192 0 → b ≡ replicate 65536 0 → out ≡ replicate 131072 0 → Runs s input n b out
+pub may-run : (s : Settings) (input n b out : List ℕ) → s ≡ freshSettings → input ≡ replicate 66560 0 → n ≡ replicate 8192 0 → b ≡ replicate 65536 0 → out ≡ replicate 131072 0 → Runs s input n b out
 may-run s input n b out f ei en eb eo =
     record { is-whole = zeros-whole s 1024 8192 65536 n b f (omega arith) (omega arith) refl refl en eb; input-long = zeros-long input 66560 ei; long = zeros-long out 131072 eo }
 

@@ -14,11 +14,12 @@ use Rattle.buffers.proofs.Tests.{either}
 use Rattle.model.specs.Run.{Event}
 use Rattle.model.specs.LockClause.{Kept}
 use Rattle.settings.specs.Bytes.{settingsOf}
+use Rattle.settings.specs.Meaning.{freshSettings}
 use Rattle.settings.proofs.RoundTrip.{settings-length}
 use Rattle.table.specs.Layout.{capacity}
 use Rattle.request.specs.Grammar.{Said, readLine, asked}
 use Rattle.outcome.specs.Outcome.{Outcome, outcome}
-use Rattle.knitpasture.specs.Bytes.{numbersFrom, ByteOutcome, outcomeBytes, FreshOutcome, freshSettings}
+use Rattle.knitpasture.specs.Bytes.{numbersFrom, ByteOutcome, outcomeBytes, FreshOutcome}
 use Rattle.knitpasture.proofs.Hub.{reads-as, hub-hands-on, hub-refused}
 use Rattle.knitpasture.proofs.Fits.{whole-fits}
 use Rattle.knitpasture.proofs.FreshBucket.{fresh-made, reads-fresh}

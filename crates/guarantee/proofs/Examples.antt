@@ -4,7 +4,7 @@ use mathlib.Core.Path.{_≡_, refl}
 use mathlib.Core.List.{List, [], _∷_, _++_}
 use lib.ListN.{take, replicate}
 use Rattle.buffers.specs.Texts.{bytes}
-use Rattle.text.specs.Fields.{fieldOf}
+use Rattle.text.specs.Fields.{fieldOf, placeOf}
 use Rattle.text.specs.Lines.{linesOf}
 use Rattle.text.specs.Keys.{isKeyByte, isPrefix, isKey}
 use Rattle.text.specs.Numbers.{isDigit, digitMore, leadingZero, numberOf, positiveOf}
@@ -26,7 +26,7 @@ use Rattle.model.specs.Time.{defaultEnd}
 use Rattle.blocks.specs.Blocks.{blockOf, isBlock}
 use Rattle.bucket.specs.Whole.{whole}
 use Rattle.fields.specs.Fields.{rightsIn, readRights, readKey, readPrefix, readVersion, readMode, readUntil, readSwitch, readHold, readBypass, readPeriod}
-use Rattle.request.specs.Grammar.{nameAt, retentionAt, termsAt, putOf, copyOf, retainOf, setHoldOf, deleteOf, defaultOf, ruleOf, sweepOf, getOf, otherByWord, verbByWord, readLine}
+use Rattle.request.specs.Grammar.{nameAt, retentionAt, termsAt, putOf, copyOf, retainOf, setHoldOf, deleteOf, defaultOf, ruleOf, sweepOf, getOf, otherByWord, verbByWord, requestIn, readLine}
 use Rattle.answers.specs.Text.{fieldsText, okText, modeText, untilText, holdText}
 use Rattle.outcome.specs.Outcome.{refusalOf, outcome}
 use Rattle.outcome.specs.Printed.{printed}
@@ -66,5 +66,5 @@ pub printed-run : printedRun (freshLent 4) (replicate 256 0) (linesOf text) ≡
     ++ bytes "ok\t1\t41\t300\tCOMPLIANCE\t2024-03-02T00:00:00.000Z\tOFF\n"
     ++ bytes "ok\t1\tremoved\n"
     ++ bytes "no\t8\n"
-unfolding fieldOf isKeyByte isPrefix isKey isDigit digitMore leadingZero numberOf positiveOf digits leap yearsLength monthStart monthLength validDay daysOf guessOf yearOf monthOf dateIn civilOf periodEnd expiresAt dateText printDate digitOf twoDigits fourDigits dayNumber dayAt secondOfDay secondAt fractionDigit milliseconds fractionOf readDate reply added removed rowsAfter setConfig configAfter locked admits halfGiven needs granted lacksRight pastDate missing namesMarker barred tooLate spends full inRange soundRow soundRules soundConfig fits sound defaultEnd blockOf isBlock whole rightsIn readRights readKey readPrefix readVersion readMode readUntil readSwitch readHold readBypass readPeriod nameAt retentionAt termsAt putOf copyOf retainOf setHoldOf deleteOf defaultOf ruleOf sweepOf getOf otherByWord verbByWord readLine fieldsText okText modeText untilText holdText refusalOf outcome
+unfolding fieldOf placeOf isKeyByte isPrefix isKey isDigit digitMore leadingZero numberOf positiveOf digits leap yearsLength monthStart monthLength validDay daysOf guessOf yearOf monthOf dateIn civilOf periodEnd expiresAt dateText printDate digitOf twoDigits fourDigits dayNumber dayAt secondOfDay secondAt fractionDigit milliseconds fractionOf readDate reply added removed rowsAfter setConfig configAfter locked admits halfGiven needs granted lacksRight pastDate missing namesMarker barred tooLate spends full inRange soundRow soundRules soundConfig fits sound defaultEnd blockOf isBlock whole rightsIn readRights readKey readPrefix readVersion readMode readUntil readSwitch readHold readBypass readPeriod nameAt retentionAt termsAt putOf copyOf retainOf setHoldOf deleteOf defaultOf ruleOf sweepOf getOf otherByWord verbByWord requestIn readLine fieldsText okText modeText untilText holdText refusalOf outcome
 printed-run = refl

@@ -1,6 +1,6 @@
 -- A line served on bytes, and a fresh bucket: one law for each way through.
 use Prim.Native.Nat.{ℕ, _-_, _/_, _≤_}
-use mathlib.Core.Path.{_≡_, sym, ap, _∙_}
+use mathlib.Core.Path.{_≡_, ap, _∙_}
 use mathlib.Core.List.{List}
 use native.Mathlib.Omega.{arith}
 use lib.ListN.{length, replicate}
@@ -8,18 +8,14 @@ use lib.Seq.{drop-length, length-take-le}
 use borrow.Author.Tests.{eq-eqb, ne-eqb}
 use borrow.Rule.Slice.PartMut.{midOf}
 use Rattle.buffers.specs.Moves.{movedDown}
-use Rattle.buffers.proofs.Tests.{and-l}
-use Rattle.model.specs.Settings as model
 use Rattle.settings.specs.declared.Settings.{Settings}
 use Rattle.settings.specs.Bytes.{settingsOf, settingsBytes}
-use Rattle.settings.specs.Changes.{Fresh}
-use Rattle.settings.specs.Meaning.{settingsMean, settingsSound}
-use Rattle.outcome.specs.Outcome.{Outcome, settingsFrom, refused, outcome}
-use Rattle.outcome.proofs.Back.{settings-back}
+use Rattle.settings.specs.Meaning.{freshSettings}
+use Rattle.outcome.specs.Outcome.{Outcome, refused, outcome}
 use Rattle.outcome.proofs.Demands.{outcome-refused}
 use Rattle.engine.specs.declared.Served.{Served}
 use Rattle.engine.specs.Served.{outcomeFrom}
-use Rattle.knitpasture.specs.Bytes.{numbersFrom, numbersBytes, ByteOutcome, byteOutcome, outcomeBytes, spelledServed, freshSettings, freshOutcome}
+use Rattle.knitpasture.specs.Bytes.{numbersFrom, numbersBytes, ByteOutcome, byteOutcome, outcomeBytes, spelledServed, freshOutcome}
 
 -- ## A line
 
@@ -61,16 +57,6 @@ pub cleared : (b exit : List ℕ) → exit ≡ movedDown (length b) b → exit �
 unfolding movedDown
 cleared b exit e = e ∙ rw drop-length
 
--- Fresh settings are the model's, with no row used.
-pub fresh-is : (s : Settings) → Fresh s → s ≡ freshSettings
-unfolding settingsSound
-fresh-is s f =
-    sym (settings-back s (and-l _ _ (f .sound))) ∙ ap (λ (u : ℕ). settingsFrom (settingsMean s) u) (f .unused)
-    ∙ ap (λ (m : model.Settings). settingsFrom m 0) (f .means)
-
-pub fresh-bytes : (s : Settings) (b : List ℕ) → Fresh s → b ≡ settingsBytes s → b ≡ settingsBytes freshSettings
-fresh-bytes s b f e = e ∙ ap settingsBytes (fresh-is s f)
-
-pub fresh-left : (s : Settings) (settings rows keys settings′ rows′ keys′ : List ℕ) → Fresh s → settings′ ≡ settingsBytes s → rows′ ≡ replicate (length rows) 0 → keys′ ≡ replicate (length keys) 0
+pub fresh-left : (s : Settings) (settings rows keys settings′ rows′ keys′ : List ℕ) → s ≡ freshSettings → settings′ ≡ settingsBytes s → rows′ ≡ replicate (length rows) 0 → keys′ ≡ replicate (length keys) 0
     → freshOutcome 0 settings′ rows′ keys′ ≡ freshOutcome 0 (settingsBytes freshSettings) (replicate (length rows) 0) (replicate (length keys) 0)
-fresh-left s settings rows keys settings′ rows′ keys′ f e g h = rw (g, h, fresh-bytes s settings′ f e)
+fresh-left s settings rows keys settings′ rows′ keys′ f e g h = rw (g, h, e, f)

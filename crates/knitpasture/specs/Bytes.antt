@@ -5,10 +5,9 @@ use lib.Dec.{eqb, ltb}
 use lib.ListN.{length, take, drop, replicate}
 use Rattle.buffers.specs.Choices.{pick}
 use Rattle.buffers.specs.Words.{number, spelled}
-use Rattle.model.specs.Settings.{fresh}
-use Rattle.settings.specs.declared.Settings.{Settings}
 use Rattle.settings.specs.Bytes.{settingsOf, settingsBytes}
-use Rattle.outcome.specs.Outcome.{Outcome, settingsFrom, outcome}
+use Rattle.settings.specs.Meaning.{freshSettings}
+use Rattle.outcome.specs.Outcome.{Outcome, outcome}
 
 -- ## Numbers as bytes
 
@@ -68,10 +67,6 @@ pub record FreshOutcome : Type 0 where
 
 abbrev pub freshOutcome : ℕ → List ℕ → List ℕ → List ℕ → FreshOutcome
 freshOutcome n settings rows keys = record { number = n; settings = settings; rows = rows; keys = keys }
-
--- The model's fresh settings, no row used.
-abbrev pub freshSettings : Settings
-freshSettings = settingsFrom (fresh .settings) 0
 
 -- The settings are 688 bytes, and rows and keys 64 for each of 1 to 1024 rows; else every byte stays.
 unfoldable pub hubFresh : List ℕ → List ℕ → List ℕ → FreshOutcome
