@@ -15,8 +15,8 @@ use Rattle.text.specs.Keys.{isKey, isPrefix}
 use Rattle.model.specs.Rows.{Row, ordered, soundRow}
 use Rattle.model.specs.Settings.{Bucket, sound, fits, soundSettings}
 use Rattle.settings.specs.declared.Settings.{Settings}
-use Rattle.settings.specs.Changes.{Fresh}
-use Rattle.settings.specs.Meaning.{settingsMean, prefixesAre, settingsSound}
+use Rattle.settings.specs.Meaning.{settingsMean, freshSettings, prefixesAre, settingsSound}
+use Rattle.settings.proofs.Back.{fresh-sound}
 use Rattle.table.specs.Layout.{numbersOf, keysOf, rowsOf, capacity, keysFit, Holds}
 use Rattle.table.proofs.Held.{numbers-laying, keys-laying, held-numbers, held-keys, held-capacity, held-rows}
 use Rattle.bucket.specs.Whole.{bucketOf, whole}
@@ -113,9 +113,9 @@ whole-of s c xs n b some most p q u f e =
     (and-i (prefixesAre (s .rules)) _ f e))))))
 
 -- Fresh settings and zeros are whole.
-pub fresh-whole : (s : Settings) (c : ℕ) → Fresh s → 1 ≤ c → c ≤ 1024 → whole s (replicate (8 * c) 0) (replicate (64 * c) 0) ≡ true
+pub fresh-whole : (c : ℕ) → 1 ≤ c → c ≤ 1024 → whole freshSettings (replicate (8 * c) 0) (replicate (64 * c) 0) ≡ true
 unfolding sound fits settingsSound
-fresh-whole s c f some most =
-    whole-of s c [] (replicate (8 * c) 0) (replicate (64 * c) 0) some most (sym (lay-free numbers-laying c)) (sym (lay-free keys-laying c)) (f .unused)
-    (and-l _ _ (f .sound))
-    (and-i _ _ (le-leb 0 c (omega arith)) (and-i _ _ (and-r (prefixesAre (s .rules)) _ (f .sound)) refl))
+fresh-whole c some most =
+    whole-of freshSettings c [] (replicate (8 * c) 0) (replicate (64 * c) 0) some most (sym (lay-free numbers-laying c)) (sym (lay-free keys-laying c)) refl
+    (and-l _ _ fresh-sound)
+    (and-i _ _ (le-leb 0 c (omega arith)) (and-i _ _ (and-r (prefixesAre (freshSettings .rules)) _ fresh-sound) refl))

@@ -17,7 +17,7 @@ use Rattle.buffers.proofs.Tests.{either, clash}
 use Rattle.text.specs.Lines.{linesOf}
 use Rattle.text.specs.Keys.{contains}
 use Rattle.settings.specs.declared.Settings.{Settings}
-use Rattle.settings.specs.Changes.{Fresh}
+use Rattle.settings.specs.Meaning.{freshSettings}
 use Rattle.bucket.specs.Whole.{whole}
 use Rattle.bucket.proofs.Whole.{fresh-whole}
 use Rattle.outcome.specs.Calls.{Lent, lent}
@@ -119,13 +119,13 @@ pub ruleset rest-cases = (rest-none-kept, rest-served)
 -- ## The run
 
 -- A bucket of zeros is fresh.
-zeros-whole : (s : Settings) (c x y : ℕ) (n b : List ℕ) → Fresh s → 1 ≤ c → c ≤ 1024 → x ≡ 8 * c → y ≡ 64 * c → n ≡ replicate x 0 → b ≡ replicate y 0 → whole s n b ≡ true
-zeros-whole s c x y n b f some most ex ey en eb = rw (en, eb, ex, ey) (fresh-whole s c f some most)
+zeros-whole : (s : Settings) (c x y : ℕ) (n b : List ℕ) → s ≡ freshSettings → 1 ≤ c → c ≤ 1024 → x ≡ 8 * c → y ≡ 64 * c → n ≡ replicate x 0 → b ≡ replicate y 0 → whole s n b ≡ true
+zeros-whole s c x y n b f some most ex ey en eb = rw (f, en, eb, ex, ey) (fresh-whole c some most)
 
 zeros-long : (l : List ℕ) (k : ℕ) → l ≡ replicate k 0 → length l ≡ k
 zeros-long l k e = rw e (length-replicate k 0)
 
-pub may-start : (s : Settings) (input n b out : List ℕ) → Fresh s → input ≡ replicate 66560 0 → n ≡ replicate 8192 0 → b ≡ replicate 65536 0 → out ≡ replicate 131072 0 → Startable s input n b out
+pub may-start : (s : Settings) (input n b out : List ℕ) → s ≡ freshSettings → input ≡ replicate 66560 0 → n ≡ replicate 8192 0 → b ≡ replicate 65536 0 → out ≡ replicate 131072 0 → Startable s input n b out
 may-start s input n b out f ei en eb eo =
     record {
       servable = record { is-whole = zeros-whole s 1024 8192 65536 n b f (omega arith) (omega arith) refl refl en eb; long = zeros-long out 131072 eo };

@@ -13,7 +13,7 @@ use borrow.Author.Tests.{lt-ltb, ltb-true, ltb-false}
 use Rattle.buffers.proofs.Tests.{either}
 use Rattle.text.specs.Lines.{linesOf, feedAt}
 use Rattle.text.specs.Keys.{contains}
-use Rattle.request.specs.Grammar.{readLine}
+use Rattle.request.specs.Grammar.{requestIn, readLine}
 use Rattle.outcome.specs.Outcome.{Outcome}
 use Rattle.outcome.specs.Calls.{Lent, leaves}
 use Rattle.outcome.specs.Printed.{printedOf}
@@ -37,7 +37,7 @@ printed-append h (l ∷ ls) ms =
 
 -- A line of more than 512 bytes reads as nothing.
 long-unread : (l : List ℕ) → 512 < length l → readLine l ≡ none
-unfolding readLine
+unfolding readLine requestIn
 long-unread l h = simp (lt-ltb _ _ h)
 
 cut-served : (h : Lent) (s rest : List ℕ) → 513 ≤ length s → servedLine h (take 513 s ++ rest) ≡ servedLine h (s ++ rest)

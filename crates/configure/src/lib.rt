@@ -1,14 +1,14 @@
 // DEFAULT and RULE: what they set. The definitions are in the model.
 use request::Setting;
 use settings::Settings;
+ghost use mathlib.Core.Path.{_≡_};
 ghost use Rattle.request.specs.Meaning.{settingMeans};
-ghost use Rattle.model.specs.Requests.{Set};
-ghost use Rattle.configure.specs.Configured.{Settable, Configured};
+ghost use Rattle.configure.specs.Configured.{Settable, configuredBy};
 
 // The settings with what DEFAULT or RULE sets.
 pub fn configured(s: Settings, line: &[u8], setting: Setting) -> Settings
     requires { ⌜ Settable (now line) s setting ⌝ }
-    ensures { λ r. ⌜ Configured s (Set (settingMeans (now (line .entry)) setting)) r ⌝ }
+    ensures { λ r. ⌜ r ≡ configuredBy s (settingMeans (now (line .entry)) setting) ⌝ }
 {
     match setting {
         Setting::Default(m, p) => {

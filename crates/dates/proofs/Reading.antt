@@ -25,7 +25,7 @@ use Rattle.calendar.specs.declared.Civil.{Civil}
 use Rattle.dates.specs.declared.DateRead.{DateRead}
 use Rattle.dates.specs.declared.DateRead.the-variants.{At, Unreadable}
 use Rattle.calendar.specs.Calendar.{latest, validDay, daysOf}
-use Rattle.dates.specs.Reading.{instantOf, digitOf, twoDigits, dayNumber, dayAt, secondOfDay, secondAt, placeOf, milliseconds, fractionOf, readDate}
+use Rattle.dates.specs.Reading.{instantOf, digitOf, twoDigits, dayNumber, dayAt, secondOfDay, secondAt, fractionDigit, milliseconds, fractionOf, readDate}
 use Rattle.calendar.proofs.Days.{days-most}
 
 -- ## Definitions by `thenSome`
@@ -141,26 +141,26 @@ run-at (x ∷ xs) (suc i) e h = run-at xs i (and-r (isDigit x) _ e) (le-of-suc-l
 
 -- ## The fraction
 
-pub place-in : (s : List ℕ) (i r : ℕ) → i < length s → Within r (getD s i 0 - 48) 9 → Within r (placeOf s i) 9
-unfolding placeOf
+pub place-in : (s : List ℕ) (i r : ℕ) → i < length s → Within r (getD s i 0 - 48) 9 → Within r (fractionDigit s i) 9
+unfolding fractionDigit
 place-in s i r h e = record { is = rw (lt-ltb i (length s) h) (e .is); most = e .most }
 
-pub place-out : (s : List ℕ) (i : ℕ) → length s ≤ i → Within 0 (placeOf s i) 9
-unfolding placeOf
+pub place-out : (s : List ℕ) (i : ℕ) → length s ≤ i → Within 0 (fractionDigit s i) 9
+unfolding fractionDigit
 place-out s i h = record { is = rw (le-ltb i (length s) h); most = omega arith }
 
 pub ruleset places = (run-at, place-in, place-out)
 
-pub places-sum : (s : List ℕ) (x y z : ℕ) → Within x (placeOf s 0) 9 → Within y (placeOf s 1) 9 → Within z (placeOf s 2) 9
-    → some (x * 100 + y * 10 + z) ≡ some (placeOf s 0 * 100 + placeOf s 1 * 10 + placeOf s 2)
+pub places-sum : (s : List ℕ) (x y z : ℕ) → Within x (fractionDigit s 0) 9 → Within y (fractionDigit s 1) 9 → Within z (fractionDigit s 2) 9
+    → some (x * 100 + y * 10 + z) ≡ some (fractionDigit s 0 * 100 + fractionDigit s 1 * 10 + fractionDigit s 2)
 places-sum s x y z ex ey ez = rw (ex .is, ey .is, ez .is)
 
 -- the rest of a part, as a part of it
 pub rest-is : (s : List ℕ) (v : Option ℕ) → v ≡ milliseconds (take (length s - 1) (drop 1 s)) → v ≡ milliseconds (drop 1 s)
 rest-is s v e = e ∙ ap milliseconds (take-all (length s - 1) (drop 1 s) (le-of-eq (length-drop 1 s)))
 
-place-most : (s : List ℕ) (i : ℕ) → all isDigit s ≡ true → placeOf s i ≤ 9
-unfolding placeOf
+place-most : (s : List ℕ) (i : ℕ) → all isDigit s ≡ true → fractionDigit s i ≤ 9
+unfolding fractionDigit
 place-most s i e =
     elim (either (ltb i (length s))) [
       | inl t ↦ rw t (omega (arith, digit-span (getD s i 0) (run-at s i e (ltb-true i (length s) t))))
@@ -171,7 +171,7 @@ milliseconds-most : (s : List ℕ) → Most 999 (milliseconds s)
 unfolding milliseconds
 milliseconds-most s = search (ways, leaf)
   where
-    leaf : (s : List ℕ) → all isDigit s ≡ true → Most 999 (some (placeOf s 0 * 100 + placeOf s 1 * 10 + placeOf s 2))
+    leaf : (s : List ℕ) → all isDigit s ≡ true → Most 999 (some (fractionDigit s 0 * 100 + fractionDigit s 1 * 10 + fractionDigit s 2))
     leaf s t = most-some 999 _ (omega (arith, place-most s 0 t, place-most s 1 t, place-most s 2 t))
 
 fraction-most : (s : List ℕ) → Most 999 (fractionOf s)

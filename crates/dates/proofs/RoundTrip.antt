@@ -10,7 +10,7 @@ use borrow.Author.Tests.{le-ltb, le-leb}
 use Rattle.text.specs.Numbers.{isDigit}
 use Rattle.calendar.specs.declared.Civil.{Civil}
 use Rattle.calendar.specs.Calendar.{latest, day, civilOf}
-use Rattle.dates.specs.Reading.{digitOf, twoDigits, fourDigits, dayNumber, dayAt, secondOfDay, secondAt, placeOf, milliseconds, fractionOf, readDate}
+use Rattle.dates.specs.Reading.{digitOf, twoDigits, fourDigits, dayNumber, dayAt, secondOfDay, secondAt, fractionDigit, milliseconds, fractionOf, readDate}
 use Rattle.dates.specs.Printing.{lastDigit, dateText, printDate}
 use Rattle.calendar.proofs.Days.{valid-is, civil-valid, civil-days}
 
@@ -37,7 +37,7 @@ module _ (s : List ℕ) (i n : ℕ) where
   four-printed a b ea eb e = rw (ea, eb) (ap some e)
 
 fraction-back : (a b d n : ℕ) → a ≤ 9 → b ≤ 9 → d ≤ 9 → a * 100 + b * 10 + d ≡ n → fractionOf (46 ∷ (48 + a) ∷ (48 + b) ∷ (48 + d) ∷ []) ≡ some n
-unfolding fractionOf milliseconds placeOf
+unfolding fractionOf milliseconds fractionDigit
 fraction-back a b d n ha hb hd e =
     rw (digit-printed a ha, digit-printed b hb, digit-printed d hd) (ap some (omega arith))
 

@@ -4,7 +4,7 @@ use mathlib.Core.Option.{some, none}
 use Rattle.buffers.specs.Texts.{bytes}
 use Rattle.text.specs.Numbers.{isDigit}
 use Rattle.calendar.specs.Calendar.{leap, yearsLength, monthStart, monthLength, validDay, daysOf, guessOf, yearOf, monthOf, dateIn, civilOf}
-use Rattle.dates.specs.Reading.{digitOf, twoDigits, fourDigits, dayNumber, dayAt, secondOfDay, secondAt, placeOf, milliseconds, fractionOf, readDate}
+use Rattle.dates.specs.Reading.{digitOf, twoDigits, fourDigits, dayNumber, dayAt, secondOfDay, secondAt, fractionDigit, milliseconds, fractionOf, readDate}
 use Rattle.dates.specs.Printing.{dateText, printDate}
 
 -- the starred date examples
@@ -18,7 +18,7 @@ pub record Starred : Type 0 where
   pub fraction : readDate (bytes "1970-01-01T00:00:00.1239Z") ≡ some 123
 
 pub starred : Starred
-unfolding isDigit leap yearsLength monthStart monthLength validDay daysOf digitOf twoDigits fourDigits dayNumber dayAt secondOfDay secondAt placeOf milliseconds fractionOf readDate
+unfolding isDigit leap yearsLength monthStart monthLength validDay daysOf digitOf twoDigits fourDigits dayNumber dayAt secondOfDay secondAt fractionDigit milliseconds fractionOf readDate
 starred =
     record {
       epoch = refl;

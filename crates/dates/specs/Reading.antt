@@ -66,8 +66,8 @@ secondAt s =
     none) none
 
 -- the value of the digit at a place, 0 where it is missing
-unfoldable pub placeOf : List ℕ → ℕ → ℕ
-placeOf ds i = pick (ltb i (length ds)) (getD ds i 0 - 48) 0
+unfoldable pub fractionDigit : List ℕ → ℕ → ℕ
+fractionDigit ds i = pick (ltb i (length ds)) (getD ds i 0 - 48) 0
 
 -- the milliseconds that 1 to 9 digits say: the first three count, missing ones are zero
 unfoldable pub milliseconds : List ℕ → Option ℕ
@@ -75,7 +75,7 @@ milliseconds ds =
     pick (ltb (length ds) 1) none
     (pick (ltb 9 (length ds)) none
     (pick (all isDigit ds)
-    (some (placeOf ds 0 * 100 + placeOf ds 1 * 10 + placeOf ds 2))
+    (some (fractionDigit ds 0 * 100 + fractionDigit ds 1 * 10 + fractionDigit ds 2))
     none))
 
 -- what stands between the seconds and the `Z`: nothing, or a point and digits

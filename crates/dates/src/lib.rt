@@ -10,7 +10,7 @@ ghost use Rattle.buffers.specs.Ranges.{Within};
 ghost use Rattle.buffers.specs.Writes.{Wrote};
 ghost use Rattle.text.specs.Numbers.{valueOf, isDigit};
 ghost use Rattle.calendar.specs.Calendar.{latest};
-ghost use Rattle.dates.specs.Reading.{instantOf, digitOf, twoDigits, fourDigits, dayNumber, dayAt, secondOfDay, secondAt, placeOf, milliseconds, fractionOf, readDate};
+ghost use Rattle.dates.specs.Reading.{instantOf, digitOf, twoDigits, fourDigits, dayNumber, dayAt, secondOfDay, secondAt, fractionDigit, milliseconds, fractionOf, readDate};
 ghost use Rattle.dates.specs.Printing.{dateText, printDate};
 
 // What a date's text says.
@@ -154,7 +154,7 @@ fn all_digits(digits: &[u8]) -> bool
 // The value of the digit at a place, 0 where it is missing.
 fn place(digits: &[u8], at: usize) -> u64
     requires { ⌜ all isDigit (now digits) ≡ true ⌝ }
-    ensures { λ r. ⌜ Within r (placeOf (now (digits .entry)) at) 9 ⌝ }
+    ensures { λ r. ⌜ Within r (fractionDigit (now (digits .entry)) at) 9 ⌝ }
 {
     if at < digits.len() {
         return value_of(digits[at]);

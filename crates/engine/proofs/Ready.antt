@@ -5,6 +5,7 @@ use mathlib.Core.Bool.{true, _&&_}
 use mathlib.Core.List.{List}
 use native.Mathlib.Omega.{arith}
 use lib.Dec.{leb}
+use lib.ListN.{length}
 use borrow.Author.Tests.{leb-true}
 use Rattle.buffers.proofs.Tests.{and-l, and-r}
 use Rattle.calendar.specs.Calendar.{latest}
@@ -19,6 +20,7 @@ use Rattle.bucket.proofs.Whole.{whole-parts}
 use Rattle.request.specs.declared.Verb.{Verb}
 use Rattle.request.specs.Meaning.{verbMeans}
 use Rattle.request.proofs.Ranges.{read-in-range}
+use Rattle.screen.proofs.Lines.{Passes, line-passed}
 use Rattle.verdict.specs.State.{Ready}
 use Rattle.judge.specs.Premises.{Asked}
 use Rattle.perform.specs.Steps.{SoundRules}
@@ -52,12 +54,15 @@ whole-rules s n b e =
 
 -- A line that passes the screen is judged on such a bucket.
 module _ (s : Settings) (n b line a : List ℕ) (v : Verb) (now : ℕ) (p : Passing s n b line a v now) where
-  pub line-ranges : (leb (p .passes .clock) latest && inRange (verbMeans line v)) ≡ true
-  line-ranges = read-in-range line _ (p .passes .says)
+  pub line-says : Passes (settingsMean s .config) (s .time) line (length a) v now
+  line-says = line-passed (settingsMean s .config) (s .time) line (length a) v now (p .passes)
+
+  pub line-ranges : (leb (line-says .clock) latest && inRange (verbMeans line v)) ≡ true
+  line-ranges = read-in-range line _ (line-says .says)
 
   pub line-asked : Asked (stateOf s) n b now (verbMeans line v)
   line-asked =
-      let q = p .passes in
+      let q = line-says in
       let t = leb-true (s .time) latest ((sound-whole (capacity b) (bucketOf s n b) ((whole-parts s n b (p .is-whole)) .is-sound)) .time-fits) in
       let c = leb-true (q .clock) latest (and-l _ _ line-ranges) in
       record { ready = ready s n b (p .is-whole); instant = omega (arith, q .now-is); since = omega (arith, q .now-is); in-range = and-r (leb (q .clock) latest) _ line-ranges }

@@ -1,20 +1,19 @@
 -- A line served: refused, set, or a step and the settings after it.
 use Prim.Native.Nat.{ℕ, _≤_, max}
 use mathlib.Core.Path.{_≡_, refl, sym, _∙_, ap, subst⁻¹}
-use mathlib.Core.Logic.{inl, inr}
 use mathlib.Core.Bool.{Bool, true, false}
 use mathlib.Core.List.{List}
-use mathlib.Core.Option.{Option, some, none}
-use lib.Dec.{leb, ltb}
+use mathlib.Core.Option.{some}
+use native.Mathlib.Omega.{arith}
+use lib.Dec.{leb}
 use lib.ListN.{length}
-use borrow.Author.Tests.{ltb-true, ltb-false}
-use Rattle.buffers.proofs.Tests.{either, and-r}
+use Rattle.buffers.proofs.Tests.{and-r}
 use Rattle.calendar.specs.Calendar.{latest}
 use Rattle.model.specs.Requests as model
 use Rattle.model.specs.Requests.{Set, Sweep, inRange}
 use Rattle.model.specs.Refusals.{fieldChecks, tableChecks}
 use Rattle.settings.specs.declared.Settings.{Settings}
-use Rattle.settings.specs.Meaning.{rulesMean, prefixesAre}
+use Rattle.settings.specs.Meaning.{rulesMean, settingsMean, prefixesAre}
 use Rattle.table.specs.Layout.{capacity}
 use Rattle.bucket.specs.Whole.{bucketOf, whole}
 use Rattle.bucket.proofs.Whole.{whole-parts}
@@ -22,13 +21,14 @@ use Rattle.request.specs.declared.Action.{Action}
 use Rattle.request.specs.declared.Setting.{Setting}
 use Rattle.request.specs.declared.Verb.{Verb}
 use Rattle.request.specs.declared.Verb.the-variants as verb
-use Rattle.request.specs.Grammar.{Said, readLine, asked}
+use Rattle.request.specs.Grammar.{Said, saidBy, readLine}
 use Rattle.request.specs.Meaning.{actionMeans, settingMeans, verbMeans}
 use Rattle.request.proofs.Ranges.{read-in-range}
 use Rattle.request.proofs.Actions.{action-unset}
 use Rattle.screen.specs.declared.Screened.{Screened}
 use Rattle.screen.specs.declared.Screened.the-variants as screened
-use Rattle.screen.specs.Screen.{screened as fieldRefusal, lineRefusal, Stops, Screens}
+use Rattle.screen.specs.Screen.{screened as fieldRefusal, screenedLine, Screens, lineRefusal}
+use Rattle.screen.proofs.Lines.{Comes, short, unread, barred, passed, comes}
 use Rattle.verdict.specs.declared.State.{State}
 use Rattle.verdict.specs.Decision.{Decision, refuses, does, effect, tableDecision}
 use Rattle.verdict.specs.State.{bucketBy, rowsIn}
@@ -43,8 +43,8 @@ use Rattle.perform.specs.declared.Step.the-variants.{Refused, Accepted}
 use Rattle.perform.specs.Steps.{TableOutcome, tableOutcome, stepOf, Actable, Acted, SoundRules}
 use Rattle.engine.specs.declared.Served.{Served}
 use Rattle.engine.specs.Served.{outcomeFrom, stateOf, Passing, settled, Settles, Sets}
-use Rattle.engine.proofs.Ready.{whole-rules, line-ranges, line-asked}
-use Rattle.engine.proofs.Settling.{refused-is, unset, setting-acted}
+use Rattle.engine.proofs.Ready.{whole-rules, line-says, line-ranges, line-asked}
+use Rattle.engine.proofs.Settling.{refused-is, setting-acted}
 
 -- ## Refusals
 
@@ -58,9 +58,8 @@ module _ (s : Settings) (n b line a : List ℕ) (w : whole s n b ≡ true) where
   said-stops k q l e h z =
       let c = bucketOf s n b in
       let now = max (s .time) (q .clock) in
-      let x = asked (length a) q in
       ap (λ (m : ℕ). refused m s n b a) h
-      ∙ sym (ap (λ (d : Decision). done s n b now (q .verb) a d) (decide-stop (fieldChecks c x) (tableChecks (capacity b) c (both now) (q .verb)) (effect c (both now) (q .verb)) (λ i. z (h ∙ i))))
+      ∙ sym (ap (λ (d : Decision). done s n b now (q .verb) a d) (decide-stop (fieldChecks (c .settings .config) (q .who) now (q .verb)) (tableChecks (capacity b) c (both now) (q .verb)) (effect c (both now) (q .verb)) (λ i. z (h ∙ i))))
       ∙ outcome-said s n b line a q w l e (read-in-range line q e)
 
   -- A line that they don't refuse is done as the table decides.
@@ -71,22 +70,21 @@ module _ (s : Settings) (n b line a : List ℕ) (w : whole s n b ≡ true) where
       let c = bucketOf s n b in
       let m = max (s .time) (q .clock) in
       rw t (sym (ap (λ (d : Decision). done s n b m (q .verb) a d)
-      (decide-go (fieldChecks c (asked (length a) q)) (tableChecks (capacity b) c (both m) (q .verb)) (effect c (both m) (q .verb)) refl (sym (rw t at h))))
+      (decide-go (fieldChecks (c .settings .config) (q .who) m (q .verb)) (tableChecks (capacity b) c (both m) (q .verb)) (effect c (both m) (q .verb)) refl (sym (rw t at h))))
       ∙ outcome-said s n b line a q w l e (read-in-range line q e))
 
-  stops : (k : ℕ) → Stops (s .time) line (length a) k → refused k s n b a ≡ outcome s n b line a
-  unfolding lineRefusal
-  stops k p = elim (either (ltb (length a) 256)) [
-    | inl t ↦ ap (λ (m : ℕ). refused m s n b a) (simp t at (p .is (bucketOf s n b .settings .config))) ∙ outcome-2 s n b line a w (ltb-true (length a) 256 t)
-    | inr t ↦ go t (readLine line) refl
-  ]
+  stops : (k : ℕ) → screened.Refused k ≡ screenedLine (settingsMean s .config) (s .time) line (length a) → refused k s n b a ≡ outcome s n b line a
+  unfolding readLine
+  stops k = go (screenedLine (settingsMean s .config) (s .time) line (length a)) (comes (settingsMean s .config) (s .time) line (length a))
     where
-      go : ltb (length a) 256 ≡ false → (o : Option Said) → readLine line ≡ o → refused k s n b a ≡ outcome s n b line a
-      go t none e = ap (λ (m : ℕ). refused m s n b a) (simp (t, e) at (p .is (bucketOf s n b .settings .config))) ∙ outcome-3 s n b line a w (ltb-false (length a) 256 t) e
-      go t (some q) e = said-stops k q (ltb-false (length a) 256 t) e (simp (t, e) at (p .is (bucketOf s n b .settings .config))) (p .not-0)
+      go : (r : Screened) → Comes (settingsMean s .config) (s .time) line (length a) r → screened.Refused k ≡ r → refused k s n b a ≡ outcome s n b line a
+      go r (short l) e = rw (ap lineRefusal e) (outcome-2 s n b line a w l)
+      go r (unread l f) e = rw (ap lineRefusal e) (outcome-3 s n b line a w l f)
+      go r (barred l q f z) e = let h = ap lineRefusal e in said-stops k (saidBy line q) l (rw f) h (λ i. z (sym h ∙ i))
+      go r (passed l q f z) e = let x : _≡_ {A = ℕ} 0 1 = cc in absurd (omega arith)
 
   pub line-stopped : (o : Screened) (k : ℕ) (r : Served) → Screens (s .time) line (length a) o → o ≡ screened.Refused k → r .number ≡ k → r .len ≡ 0 → r .settings ≡ s → outcomeFrom r n b a ≡ outcome s n b line a
-  line-stopped o k r h e x y z = refused-is r k s n b a x y z ∙ stops k (rw e at h)
+  line-stopped o k r h e x y z = refused-is r k s n b a x y z ∙ stops k (sym e ∙ h .is (settingsMean s .config))
 
 -- ## A line that passes
 
@@ -106,20 +104,20 @@ module _ (s : Settings) (n b line a : List ℕ) (v : Verb) (now : ℕ) (p : Pass
   decided : (x : Outcome) (y : TableOutcome) → x ≡ settled s now (verbMeans line v) y
       → y ≡ stepOf (stateOf s) n b a (tableDecision (capacity b) (bucketOf s n b) (both now) (verbMeans line v)) → x ≡ outcome s n b line a
   decided x y g i =
-      let q = p .passes in
+      let q = line-says s n b line a v now p in
       g ∙ ap (λ (z : TableOutcome). settled s now (verbMeans line v) z) i
       ∙ settled-done s n b a now (verbMeans line v) (tableDecision (capacity b) (bucketOf s n b) (both now) (verbMeans line v))
-      ∙ said-passes s n b line a (p .is-whole) _ now (q .room-fits) (q .says) (q .now-is) (q .passes (bucketOf s n b .settings .config))
+      ∙ said-passes s n b line a (p .is-whole) _ now (q .room-fits) (q .says) (q .now-is) (q .passes)
 
 -- An action.
 module _ (s : Settings) (n b line a : List ℕ) (x : Action) (now : ℕ) (p : Passing s n b line a (verb.Act x) now) (st : State) (e : st ≡ stateOf s) where
   pub line-actable : Actable line st n b a x now
-  line-actable = rw e (record { judgeable = asks s n b line a (verb.Act x) now p; inside = p .passes .inside; room = p .passes .room-fits })
+  line-actable = rw e (record { judgeable = asks s n b line a (verb.Act x) now p; inside = (line-says s n b line a (verb.Act x) now p) .inside; room = (line-says s n b line a (verb.Act x) now p) .room-fits })
 
   pub line-acted : (step : Step) (n′ b′ a′ : List ℕ) (r : Served) → Acted st n b a (actionMeans line x) now (tableOutcome step n′ b′ a′) → Settles s now step r → outcomeFrom r n′ b′ a′ ≡ outcome s n b line a
   line-acted step n′ b′ a′ r i g =
       decided s n b line a (verb.Act x) now p (outcomeFrom r n′ b′ a′) (tableOutcome step n′ b′ a′)
-      (g .is (actionMeans line x) n′ b′ a′ (unset s (actionMeans line x) (action-unset line x) (prefixes s n b line a (verb.Act x) now p)))
+      (g .is (actionMeans line x) n′ b′ a′ (action-unset line x) (prefixes s n b line a (verb.Act x) now p))
       ((rw e at i) .is (rulesMean (s .rules)))
 
 -- SWEEP.
@@ -128,7 +126,7 @@ module _ (s : Settings) (n b line a : List ℕ) (now : ℕ) (p : Passing s n b l
   line-rules = whole-rules s n b (p .is-whole)
 
   pub line-room : 256 ≤ length a
-  line-room = p .passes .room-fits
+  line-room = (line-says s n b line a verb.Sweep now p) .room-fits
 
   module _ (st : State) (e : st ≡ stateOf s) where
     pub line-sweeps : Asked st n b now Sweep
@@ -137,7 +135,7 @@ module _ (s : Settings) (n b line a : List ℕ) (now : ℕ) (p : Passing s n b l
     pub line-swept : (step : Step) (n′ b′ a′ : List ℕ) (r : Served) → tableOutcome step n′ b′ a′ ≡ stepOf st n b a (tableDecision (capacity b) (bucketBy st (rulesMean (s .rules)) (rowsIn st n b)) (both now) Sweep)
         → Settles s now step r → outcomeFrom r n′ b′ a′ ≡ outcome s n b line a
     line-swept step n′ b′ a′ r i g =
-        decided s n b line a verb.Sweep now p (outcomeFrom r n′ b′ a′) (tableOutcome step n′ b′ a′) (g .is Sweep n′ b′ a′ (unset s Sweep refl (prefixes s n b line a verb.Sweep now p))) (rw e at i)
+        decided s n b line a verb.Sweep now p (outcomeFrom r n′ b′ a′) (tableOutcome step n′ b′ a′) (g .is Sweep n′ b′ a′ refl (prefixes s n b line a verb.Sweep now p)) (rw e at i)
 
 pub ruleset actions = (line-actable, line-acted)
 
@@ -146,10 +144,10 @@ pub ruleset sweeps = (line-rules, line-room, line-sweeps, line-swept)
 -- A line that the screen passes, by its verb.
 module _ (s : Settings) (n b line a : List ℕ) (w : whole s n b ≡ true) (o : Screened) (h : Screens (s .time) line (length a) o) (v : Verb) (now : ℕ) (e : o ≡ screened.Passed v now) where
   pub line-passes : (u : Verb) → v ≡ u → Passing s n b line a u now
-  line-passes u f = record { is-whole = w; passes = rw f at (rw e at h) }
+  line-passes u f = record { is-whole = w; passes = rw f at (sym e ∙ h .is (settingsMean s .config)) }
 
   pub line-fits : 256 ≤ length a
-  line-fits = (line-passes v refl) .passes .room-fits
+  line-fits = (line-says s n b line a v now (line-passes v refl)) .room-fits
 
   -- DEFAULT and RULE.
   module _ (x : Setting) (f : v ≡ verb.Set x) where
@@ -161,8 +159,8 @@ module _ (s : Settings) (n b line a : List ℕ) (w : whole s n b ≡ true) (o : 
     line-settable =
         record {
           prefixes = prefixes s n b line a (verb.Set x) now p;
-          in-range = and-r (leb (p .passes .clock) latest) _ (line-ranges s n b line a (verb.Set x) now p);
-          inside = p .passes .inside;
+          in-range = and-r (leb ((line-says s n b line a (verb.Set x) now p) .clock) latest) _ (line-ranges s n b line a (verb.Set x) now p);
+          inside = (line-says s n b line a (verb.Set x) now p) .inside;
         }
 
     pub line-set : (r : Served) (a′ : List ℕ) → Sets s now (Set (settingMeans line x)) a r a′ → outcomeFrom r n b a′ ≡ outcome s n b line a

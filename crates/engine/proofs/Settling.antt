@@ -1,17 +1,17 @@
 -- The settings after a step, and DEFAULT and RULE, which leave the table as it is.
 use Prim.Native.Nat.{ℕ}
-use mathlib.Core.Path.{_≡_, refl, sym, _∙_, ap}
+use mathlib.Core.Path.{_≡_, refl, sym}
 use mathlib.Core.Bool.{true}
 use mathlib.Core.List.{List}
 use mathlib.Core.Option.{none}
 use native.Mathlib.Omega.{arith}
 use Rattle.buffers.specs.Writes.{Wrote}
-use Rattle.model.specs.Settings as model
 use Rattle.model.specs.Requests.{Setting, Verb, Set, settingOf}
 use Rattle.model.specs.Effects.{configAfter}
 use Rattle.settings.specs.declared.Settings.{Settings}
-use Rattle.settings.specs.Meaning.{settingsMean, prefixesAre}
+use Rattle.settings.specs.Meaning.{settingsMean, settingsFrom, prefixesAre}
 use Rattle.settings.specs.Changes.{withProgress}
+use Rattle.settings.proofs.Back.{means-back}
 use Rattle.table.specs.Layout.{rowsOf, capacity}
 use Rattle.table.proofs.Held.{rows-length}
 use Rattle.answers.specs.declared.Answer.the-variants as answer
@@ -22,9 +22,8 @@ use Rattle.verdict.specs.declared.Change.the-variants as change
 use Rattle.judge.specs.Premises.{Asked}
 use Rattle.judge.proofs.Sweeping.{set-done}
 use Rattle.apply.specs.Applied.{judged, Applied}
-use Rattle.outcome.specs.Outcome.{settingsFrom, refused}
-use Rattle.outcome.proofs.Back.{settings-back}
-use Rattle.configure.specs.Configured.{Configured}
+use Rattle.outcome.specs.Outcome.{refused}
+use Rattle.configure.specs.Configured.{configuredBy}
 use Rattle.perform.specs.declared.Done.{Done}
 use Rattle.perform.specs.declared.Step.{Step}
 use Rattle.perform.specs.declared.Step.the-variants.{Refused, Accepted}
@@ -38,33 +37,29 @@ use Rattle.engine.specs.Served.{outcomeFrom, Settles, Sets}
 pub refused-is : (r : Served) (k : ℕ) (s : Settings) (n b a : List ℕ) → r .number ≡ k → r .len ≡ 0 → r .settings ≡ s → outcomeFrom r n b a ≡ refused k s n b a
 refused-is r k s n b a e f g = rw (e, f, g)
 
--- The settings: what the verb set, with now, the used rows and the next number.
-settings-after : (s u : Settings) (v : Verb) (now used next : ℕ) → Configured s v u → withProgress u now used next ≡ settingsFrom (record { time = now; next = next; config = configAfter (settingsMean s .config) v }) used
-settings-after s u v now used next g =
-    sym (settings-back (withProgress u now used next) (g .prefixes))
-    ∙ ap (λ (z : model.Config). settingsFrom (record { time = now; next = next; config = z }) used) (g .config)
+-- The settings, where the verb sets nothing: now, the used rows and the next number.
+settings-after : (s : Settings) (v : Verb) (now used next : ℕ) → settingOf v ≡ none → prefixesAre (s .rules) ≡ true
+    → withProgress s now used next ≡ settingsFrom (record { time = now; next = next; config = configAfter (settingsMean s .config) v }) used
+unfolding configAfter
+settings-after s v now used next e h = rw e (sym (means-back (withProgress s now used next) h))
 
 -- ## A step
 
 module _ (s : Settings) (now : ℕ) (step : Step) where
   pub settles-refused : (k : ℕ) (r : Served) → step ≡ Refused k → r .number ≡ k → r .len ≡ 0 → r .settings ≡ s → Settles s now step r
-  settles-refused k r g x y z = record { is = λ v n b a c. rw g (refused-is r k s n b a x y z) }
+  settles-refused k r g x y z = record { is = λ v n b a c h. rw g (refused-is r k s n b a x y z) }
 
   pub settles-accepted : (m : Done) (after : Settings) → step ≡ Accepted m → after ≡ withProgress s now (m .used) (m .next) → Settles s now step (record { number = 0; len = m .len; settings = after })
-  settles-accepted m after g e = record { is = λ v n b a c. rw (g, e, settings-after s s v now (m .used) (m .next) c) }
+  settles-accepted m after g e = record { is = λ v n b a c h. rw (g, e, settings-after s v now (m .used) (m .next) c h) }
 
 pub ruleset steps = (settles-refused, settles-accepted)
 
--- A verb that sets nothing leaves the settings.
-pub unset : (s : Settings) (v : Verb) → settingOf v ≡ none → prefixesAre (s .rules) ≡ true → Configured s v s
-unfolding configAfter
-unset s v e h = record { config = rw e; prefixes = h }
-
 -- ## DEFAULT and RULE
 
-pub sets-done : (s : Settings) (now : ℕ) (v : Verb) (a a′ : List ℕ) (len : ℕ) (u after : Settings) → Wrote a 0 (textOf answer.Done) 256 a′ len → Configured s v u
-    → after ≡ withProgress u now (s .used) (s .next) → Sets s now v a (record { number = 0; len = len; settings = after }) a′
-sets-done s now v a a′ len u after w g e = record { number-is = refl; wrote = w; settings-are = e ∙ settings-after s u v now (s .used) (s .next) g }
+pub sets-done : (s : Settings) (now : ℕ) (x : Setting) (a a′ : List ℕ) (len : ℕ) (u after : Settings) → Wrote a 0 (textOf answer.Done) 256 a′ len → u ≡ configuredBy s x
+    → after ≡ withProgress u now (s .used) (s .next) → Sets s now (Set x) a (record { number = 0; len = len; settings = after }) a′
+unfolding configAfter
+sets-done s now x a a′ len u after w g e = record { number-is = refl; wrote = w; settings-are = rw (e, g) }
 
 -- They come to a step that keeps the table.
 pub setting-acted : (s : State) (n b : List ℕ) (now : ℕ) (a a′ : List ℕ) (len : ℕ) (x : Setting) → Asked s n b now (Set x) → Wrote a 0 (textOf answer.Done) 256 a′ len

@@ -12,13 +12,11 @@ use Rattle.buffers.proofs.Parts.{rest-all}
 use Rattle.text.specs.declared.Place.{Place}
 use Rattle.text.specs.declared.Value.{Value}
 use Rattle.text.specs.Numbers.{valueOf, positiveOf}
-use Rattle.text.specs.Fields.{fieldOf, partOf, Found}
+use Rattle.text.specs.Fields.{fieldOf, placeOf, partOf}
 use Rattle.text.specs.Keys.{contains}
 use Rattle.text.proofs.Scans.{next}
-use Rattle.text.proofs.Fields.{field-found}
-use Rattle.fields.specs.declared.KeyRead.the-variants.{Is, Bad}
+use Rattle.text.proofs.Fields.{found-field}
 use Rattle.fields.specs.Fields.{lettersOnce}
-use Rattle.fields.specs.Meaning.{KeyAt}
 
 -- ## Rights
 
@@ -46,18 +44,15 @@ pub ruleset once-cases = (once-twice, once-step, once-other, once-end)
 
 -- ## Keys and prefixes
 
-module _ (test : List ℕ → Bool) (s t : List ℕ) (i : ℕ) (p : Place) (b : Bool) where
-  pub part-yes : Found s i p → t ≡ partOf s p → b ≡ test t → b ≡ true → KeyAt s (pick (test (fieldOf s i)) (some (fieldOf s i)) none) (Is p)
-  part-yes f e h k =
-      let q : t ≡ fieldOf s i = field-found s i p t f e in
-      let z : test (fieldOf s i) ≡ true = sym (ap test q) ∙ sym h ∙ k in
-      record { is = rw z (ap some (sym e ∙ q)); within = record { end = f .within } }
+module _ (test : List ℕ → Bool) (s t : List ℕ) (i : ℕ) (p : Place) (b : Bool) (f : p ≡ placeOf s i) (e : t ≡ partOf s p) (h : b ≡ test t) where
+  tested : test (fieldOf s i) ≡ b
+  tested = sym (h ∙ ap test (found-field s i p f t e))
 
-  pub part-no : Found s i p → t ≡ partOf s p → b ≡ test t → b ≡ false → KeyAt s (pick (test (fieldOf s i)) (some (fieldOf s i)) none) Bad
-  part-no f e h k =
-      let q : t ≡ fieldOf s i = field-found s i p t f e in
-      let z : test (fieldOf s i) ≡ false = sym (ap test q) ∙ sym h ∙ k in
-      record { is = rw z; within = tt }
+  pub part-yes : b ≡ true → some p ≡ pick (test (fieldOf s i)) (some (placeOf s i)) none
+  part-yes k = simp (tested ∙ k) (ap some f)
+
+  pub part-no : b ≡ false → none ≡ pick (test (fieldOf s i)) (some (placeOf s i)) none
+  part-no k = simp (tested ∙ k)
 
 -- ## Periods
 

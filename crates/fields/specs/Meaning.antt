@@ -1,12 +1,10 @@
--- What the values of single fields stand for: the model's, where a key is the part of the line at its place. What the code can't read is `none`.
+-- What the values of single fields stand for in the model.
 use Prim.Native.Nat.{ℕ, _+_, _≤_}
-use mathlib.Core.Path.{_≡_}
 use mathlib.Core.Bool.{Bool, true, false}
 use mathlib.Core.List.{List}
 use mathlib.Core.Option.{Option, some, none}
 use lib.ListN.{length}
 use Rattle.text.specs.declared.Place.{Place}
-use Rattle.text.specs.Fields.{partOf}
 use Rattle.model.specs.Rows.{governance, compliance}
 use Rattle.model.specs.Settings.{days, years}
 use Rattle.model.specs.Requests as model
@@ -72,26 +70,26 @@ periodMeans (period.Years n) = some (record { count = n; unit = years })
 abbrev pub rightsMeans : Rights → model.Rights
 rightsMeans a = record { r = a .r; w = a .w; d = a .d; t = a .t; h = a .h; b = a .b; c = a .c }
 
--- ## Answers of readers: what a field says
+-- ## Answers of readers: the value, if the field has one
 
 -- a key, or a prefix
-abbrev pub keyFrom : List ℕ → KeyRead → Option (List ℕ)
-keyFrom s (key-read.Is p) = some (partOf s p)
-keyFrom s key-read.Bad = none
+abbrev pub keyFrom : KeyRead → Option Place
+keyFrom (key-read.Is p) = some p
+keyFrom key-read.Bad = none
 
 -- a version field
-abbrev pub versionFrom : VersionRead → Option (Option model.Version)
-versionFrom (version-read.Is v) = some (versionMeans v)
+abbrev pub versionFrom : VersionRead → Option Version
+versionFrom (version-read.Is v) = some v
 versionFrom version-read.Bad = none
 
 -- a mode field
-abbrev pub modeFrom : ModeRead → Option (Option ℕ)
-modeFrom (mode-read.Is m) = some (modeMeans m)
+abbrev pub modeFrom : ModeRead → Option Mode
+modeFrom (mode-read.Is m) = some m
 modeFrom mode-read.Bad = none
 
 -- a date field
-abbrev pub untilFrom : UntilRead → Option (Option ℕ)
-untilFrom (until-read.Is d) = some (untilMeans d)
+abbrev pub untilFrom : UntilRead → Option Until
+untilFrom (until-read.Is d) = some d
 untilFrom until-read.Bad = none
 
 -- ON or OFF, yes or no
@@ -100,18 +98,18 @@ flagFrom (flag-read.Is y) = some y
 flagFrom flag-read.Bad = none
 
 -- a hold field
-abbrev pub holdFrom : HoldRead → Option (Option Bool)
-holdFrom (hold-read.Is h) = some (holdMeans h)
+abbrev pub holdFrom : HoldRead → Option Hold
+holdFrom (hold-read.Is h) = some h
 holdFrom hold-read.Bad = none
 
 -- a period field
-abbrev pub periodFrom : PeriodRead → Option (Option model.Period)
-periodFrom (period-read.Is p) = some (periodMeans p)
+abbrev pub periodFrom : PeriodRead → Option Period
+periodFrom (period-read.Is p) = some p
 periodFrom period-read.Bad = none
 
 -- a rights field
-abbrev pub rightsFrom : RightsRead → Option model.Rights
-rightsFrom (rights-read.Is a) = some (rightsMeans a)
+abbrev pub rightsFrom : RightsRead → Option Rights
+rightsFrom (rights-read.Is a) = some a
 rightsFrom rights-read.Bad = none
 
 -- ## Places
@@ -119,15 +117,3 @@ rightsFrom rights-read.Bad = none
 -- the place lies within the line
 pub record Inside (s : List ℕ) (p : Place) : Type 0 where
   pub end : p .start + p .len ≤ length s
-
--- what a reader has found lies within the line
-abbrev pub KeyWithin : List ℕ → KeyRead → Type 0
-KeyWithin s (key-read.Is p) = Inside s p
-KeyWithin s key-read.Bad = Unit
-
--- ## What readers ensure: what the definition says is read, and places lie within the line
-
--- a key or prefix
-pub record KeyAt (s : List ℕ) (said : Option (List ℕ)) (r : KeyRead) : Type 0 where
-  pub is : keyFrom s r ≡ said
-  pub within : KeyWithin s r

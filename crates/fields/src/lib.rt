@@ -5,9 +5,9 @@ use text::Value;
 ghost use mathlib.Core.Path.{_≡_};
 ghost use Prim.Native.Nat.{_<_};
 ghost use Rattle.buffers.specs.Choices.{isSome, orZero, thenSome};
-ghost use Rattle.text.specs.Fields.{fieldOf, Split};
+ghost use Rattle.text.specs.Fields.{Split};
 ghost use Rattle.fields.specs.Fields.{lettersOnce, rightsIn, readRights, readKey, readPrefix, readVersion, readMode, readUntil, readSwitch, readHold, readBypass, readPeriod};
-ghost use Rattle.fields.specs.Meaning.{modeMeans, untilMeans, holdMeans, periodMeans, rightsMeans, rightsFrom, versionFrom, modeFrom, untilFrom, flagFrom, holdFrom, periodFrom, KeyAt};
+ghost use Rattle.fields.specs.Meaning.{modeMeans, untilMeans, holdMeans, periodMeans, keyFrom, rightsFrom, versionFrom, modeFrom, untilFrom, flagFrom, holdFrom, periodFrom};
 
 // A mode, `-` for missing.
 pub enum Mode {
@@ -115,7 +115,7 @@ fn letters_once(text: &[u8]) -> bool
 
 // The letters that stand in a text.
 fn rights_in(text: &[u8]) -> Rights
-    ensures { λ r. ⌜ rightsMeans r ≡ rightsIn (now (text .entry)) ⌝ }
+    ensures { λ r. ⌜ r ≡ rightsIn (now (text .entry)) ⌝ }
 {
     Rights {
         r: text::contains(text, b'r'),
@@ -148,7 +148,7 @@ pub fn read_rights(text: &[u8]) -> RightsRead
 pub fn read_key(line: &[u8], marks: &[usize], i: usize) -> KeyRead
     requires { ⌜ Split (now line) (now marks) ⌝ }
     requires { ⌜ i < 9 ⌝ }
-    ensures { λ r. ⌜ KeyAt (now (line .entry)) (readKey (fieldOf (now (line .entry)) i)) r ⌝ }
+    ensures { λ r. ⌜ keyFrom r ≡ readKey (now (line .entry)) i ⌝ }
 {
     let place = text::find_place(line, marks, i);
     if text::is_key(text::part(line, place)) {
@@ -161,7 +161,7 @@ pub fn read_key(line: &[u8], marks: &[usize], i: usize) -> KeyRead
 pub fn read_prefix(line: &[u8], marks: &[usize], i: usize) -> KeyRead
     requires { ⌜ Split (now line) (now marks) ⌝ }
     requires { ⌜ i < 9 ⌝ }
-    ensures { λ r. ⌜ KeyAt (now (line .entry)) (readPrefix (fieldOf (now (line .entry)) i)) r ⌝ }
+    ensures { λ r. ⌜ keyFrom r ≡ readPrefix (now (line .entry)) i ⌝ }
 {
     let place = text::find_place(line, marks, i);
     if text::is_prefix(text::part(line, place)) {

@@ -13,18 +13,20 @@ use Rattle.model.specs.Run.{Event, left}
 use Rattle.model.proofs.Runs.{left-as, gathered-as}
 use Rattle.model.specs.LockClause.{Kept}
 use Rattle.settings.specs.Bytes.{settingsOf}
+use Rattle.settings.specs.Meaning.{freshSettings}
 use Rattle.settings.proofs.RoundTrip.{settings-length}
 use Rattle.table.specs.Layout.{capacity}
+use Rattle.settings.specs.Meaning.{freshSettings}
 use Rattle.bucket.specs.Whole.{whole}
 use Rattle.bucket.proofs.Whole.{whole-parts}
 use Rattle.outcome.specs.Outcome.{Outcome, refused, refusalOf}
 use Rattle.outcome.proofs.Demands.{accepted-of-whole}
-use Rattle.knitpasture.specs.Bytes.{numbersFrom, ByteOutcome, byteOutcome, outcomeBytes, hubServed, FreshOutcome, freshOutcome, freshSettings, hubFresh}
+use Rattle.knitpasture.specs.Bytes.{numbersFrom, ByteOutcome, byteOutcome, outcomeBytes, hubServed, keysFit, FreshOutcome, freshOutcome, hubFresh}
 use Rattle.knitpasture.proofs.Hub.{reads-as, hub-hands-on, hub-range, hub-refused}
 use Rattle.knitpasture.proofs.Fits.{whole-fits}
 use Rattle.knitpasture.proofs.FreshBucket.{fresh-made, reads-fresh}
 use Rattle.guarantee.specs.Calls.{Lent, Call, held, freshLent, served, leaves, step, callEvent, callEvents}
-use Rattle.guarantee.specs.Bytes.{Bytes, lentOf, Sized, servedBytes, leavesBytes, UnchangedBytes, AcceptedBytes, Demand1Bytes, Demand2Bytes, WrongLengths, madeFresh, freshBytes, FreshMade, byteStep, byteEvent, byteEvents, Demand3Bytes}
+use Rattle.guarantee.specs.Bytes.{Bytes, lentOf, Sized, servedBytes, leavesBytes, UnchangedBytes, AcceptedBytes, Demand1Bytes, Demand2Bytes, WrongLengths, freshened, freshBytes, FreshMade, byteStep, byteEvent, byteEvents, Demand3Bytes}
 use Rattle.guarantee.proofs.Demands.{demand-1, demand-2, number-is}
 use Rattle.guarantee.proofs.Runs.{Whole, whole-after}
 use Rattle.guarantee.proofs.LockClause.{demand-3}
@@ -185,27 +187,27 @@ fresh-spells c b z =
     let k : length ((freshBytes b) .rows) / 8 ≡ 8 * c = omega arith in
     rw (k, r .settings-read, r .numbers-read, r .keys-are)
 
-fresh-refused : (b : Bytes) → ((c : ℕ) → Sized c b → ⊥) → madeFresh b ≡ freshOutcome 1 (b .settings) (b .rows) (b .keys)
-unfolding hubFresh
+fresh-refused : (b : Bytes) → ((c : ℕ) → Sized c b → ⊥) → freshened b ≡ freshOutcome 1 (b .settings) (b .rows) (b .keys)
+unfolding hubFresh keysFit
 fresh-refused b wrong =
     elim (either (eqb (length (b .settings)) 688)) [
-      | inl t ↦ elim (either (ltb (length (b .rows)) 64)) [
-        | inl u ↦ simp (t, u)
-        | inr u ↦ elim (either (ltb 65536 (length (b .rows)))) [
-          | inl v ↦ simp (t, u, v)
-          | inr v ↦ elim (either (eqb (length (b .rows) % 64) 0)) [
-            | inl w ↦ elim (either (eqb (length (b .keys)) (length (b .rows)))) [
-              | inl x ↦
-                  let low = ltb-false (length (b .rows)) 64 u in
-                  let high = ltb-false 65536 (length (b .rows)) v in
-                  let part = eqb-true (length (b .rows) % 64) 0 w in
-                  let alike = eqb-true (length (b .keys)) (length (b .rows)) x in
-                  absurd (wrong (length (b .rows) / 64) (record { some = omega arith; most = omega arith; settings-long = eqb-true _ 688 t; rows-long = omega arith; keys-long = omega arith }))
-              | inr x ↦ simp (t, u, v, w, x)
+      | inl t ↦ elim (either (eqb (length (b .rows)) (length (b .keys)))) [
+        | inl x ↦ elim (either (ltb (length (b .keys)) 64)) [
+          | inl u ↦ simp (t, x, u)
+          | inr u ↦ elim (either (ltb 65536 (length (b .keys)))) [
+            | inl v ↦ simp (t, x, u, v)
+            | inr v ↦ elim (either (eqb (length (b .keys) % 64) 0)) [
+              | inl w ↦
+                  let low = ltb-false (length (b .keys)) 64 u in
+                  let high = ltb-false 65536 (length (b .keys)) v in
+                  let part = eqb-true (length (b .keys) % 64) 0 w in
+                  let alike = eqb-true (length (b .rows)) (length (b .keys)) x in
+                  absurd (wrong (length (b .keys) / 64) (record { some = omega arith; most = omega arith; settings-long = eqb-true _ 688 t; rows-long = omega arith; keys-long = omega arith }))
+              | inr w ↦ simp (t, x, u, v, w)
             ]
-            | inr w ↦ simp (t, u, v, w)
           ]
         ]
+        | inr x ↦ simp (t, x)
       ]
       | inr t ↦ rw t
     ]

@@ -8,7 +8,7 @@ use lib.Dec.{lit<, lit≤}
 use lib.ListN.{getD, take, replicate}
 use Rattle.buffers.specs.Texts.{bytes}
 use Rattle.buffers.specs.Words.{number, spelled}
-use Rattle.text.specs.Fields.{fieldOf}
+use Rattle.text.specs.Fields.{fieldOf, placeOf}
 use Rattle.text.specs.Lines.{linesOf, firstLine}
 use Rattle.text.specs.Keys.{isKeyByte, isPrefix, isKey}
 use Rattle.text.specs.Numbers.{isDigit, digitMore, leadingZero, numberOf, positiveOf}
@@ -17,7 +17,7 @@ use Rattle.calendar.specs.Calendar.{leap, yearsLength, monthStart, monthLength,
 use Rattle.calendar.specs.Periods.{periodEnd, expiresAt}
 use Rattle.dates.specs.Examples.{Starred as Dates, starred as dates}
 use Rattle.dates.specs.Printing.{dateText, printDate}
-use Rattle.dates.specs.Reading.{digitOf, twoDigits, fourDigits, dayNumber, dayAt, secondOfDay, secondAt, placeOf, milliseconds, fractionOf, readDate}
+use Rattle.dates.specs.Reading.{digitOf, twoDigits, fourDigits, dayNumber, dayAt, secondOfDay, secondAt, fractionDigit, milliseconds, fractionOf, readDate}
 use Rattle.model.proofs.Examples as model
 use Rattle.model.proofs.Examples.{Starred as Locks}
 use Rattle.model.specs.Answers.{done, reply}
@@ -35,11 +35,11 @@ use Rattle.settings.specs.Bytes.{settingsOf, settingsBytes}
 use Rattle.settings.specs.Meaning.{settingsSound}
 use Rattle.bucket.specs.Whole.{whole}
 use Rattle.fields.specs.Fields.{rightsIn, readRights, readKey, readPrefix, readVersion, readMode, readUntil, readSwitch, readHold, readBypass, readPeriod}
-use Rattle.request.specs.Grammar.{nameAt, retentionAt, termsAt, putOf, copyOf, retainOf, setHoldOf, deleteOf, defaultOf, ruleOf, sweepOf, getOf, otherByWord, verbByWord, readLine}
+use Rattle.request.specs.Grammar.{nameAt, retentionAt, termsAt, putOf, copyOf, retainOf, setHoldOf, deleteOf, defaultOf, ruleOf, sweepOf, getOf, otherByWord, verbByWord, requestIn, readLine}
 use Rattle.answers.specs.Text.{fieldsText, okText, modeText, untilText, holdText, answerText}
 use Rattle.outcome.specs.Outcome.{Outcome, written, refusalOf, outcome}
 use Rattle.outcome.specs.Printed.{printed}
-use Rattle.knitpasture.specs.Bytes.{numbersFrom, numbersBytes, hubServed, hubFresh}
+use Rattle.knitpasture.specs.Bytes.{numbersFrom, numbersBytes, hubServed, keysFit, hubFresh}
 use Rattle.guarantee.specs.Calls.{Lent, Call, held, freshLent, served, step}
 use Rattle.guarantee.specs.Lists.{ended, call, lineStep}
 use Rattle.guarantee.specs.Promise.{Hub, Demand1, Demand2}
@@ -147,7 +147,7 @@ pub record Examples : Type 0 where
   pub no-first-line-only : Demand1 (firstLineOnly (lockedPut ∷ [])) withLocked hold → Demand2 (firstLineOnly (lockedPut ∷ [])) withLocked hold → ⊥
 
 pub examples : Examples
-unfolding fieldOf isKeyByte isPrefix isKey isDigit digitMore leadingZero numberOf positiveOf digits leap yearsLength monthStart monthLength validDay daysOf guessOf yearOf monthOf dateIn civilOf periodEnd expiresAt dateText printDate digitOf twoDigits fourDigits dayNumber dayAt secondOfDay secondAt placeOf milliseconds fractionOf readDate reply added removed rowsAfter setConfig configAfter locked admits halfGiven needs granted lacksRight pastDate missing namesMarker barred tooLate spends full inRange soundRow soundRules soundConfig fits sound defaultEnd blockOf isBlock whole rightsIn readRights readKey readPrefix readVersion readMode readUntil readSwitch readHold readBypass readPeriod nameAt retentionAt termsAt putOf copyOf retainOf setHoldOf deleteOf defaultOf ruleOf sweepOf getOf otherByWord verbByWord readLine fieldsText okText modeText untilText holdText refusalOf outcome number numbersFrom numbersBytes spelled settingsOf settingsBytes hubServed hubFresh settingsSound
+unfolding fieldOf placeOf isKeyByte isPrefix isKey isDigit digitMore leadingZero numberOf positiveOf digits leap yearsLength monthStart monthLength validDay daysOf guessOf yearOf monthOf dateIn civilOf periodEnd expiresAt dateText printDate digitOf twoDigits fourDigits dayNumber dayAt secondOfDay secondAt fractionDigit milliseconds fractionOf readDate reply added removed rowsAfter setConfig configAfter locked admits halfGiven needs granted lacksRight pastDate missing namesMarker barred tooLate spends full inRange soundRow soundRules soundConfig fits sound defaultEnd blockOf isBlock whole rightsIn readRights readKey readPrefix readVersion readMode readUntil readSwitch readHold readBypass readPeriod nameAt retentionAt termsAt putOf copyOf retainOf setHoldOf deleteOf defaultOf ruleOf sweepOf getOf otherByWord verbByWord requestIn readLine fieldsText okText modeText untilText holdText refusalOf outcome number numbersFrom numbersBytes spelled settingsOf settingsBytes hubServed keysFit hubFresh settingsSound
 examples =
     record {
       starred = record {

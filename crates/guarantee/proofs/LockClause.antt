@@ -7,12 +7,9 @@ use native.Mathlib.Omega.{arith}
 use lib.ListN.{length-replicate}
 use borrow.Author.Tests.{eqb-false}
 use Rattle.buffers.proofs.Tests.{either}
-use Rattle.text.specs.Keys.{isPrefix}
-use Rattle.blocks.specs.Blocks.{blockOf, isBlock}
-use Rattle.model.specs.Settings.{soundConfig, soundRules}
+use Rattle.blocks.specs.Blocks.{blockOf}
 use Rattle.model.specs.Run.{left}
 use Rattle.model.proofs.LockClause.{lock-clause}
-use Rattle.settings.specs.Meaning.{settingsSound}
 use Rattle.bucket.proofs.Whole.{fresh-whole}
 use Rattle.guarantee.specs.Calls.{Lent, Call, freshLent, served, leaves, step, isAccepted, acceptedCalls}
 use Rattle.guarantee.specs.Promise.{Demand3}
@@ -22,10 +19,9 @@ use Rattle.guarantee.proofs.Runs.{Whole, linesIn, held-left, events-lef
 -- ## Demand 3
 
 pub fresh-is-whole : (c : ℕ) → 1 ≤ c → c ≤ 1024 → Whole c (freshLent c)
-unfolding blockOf isBlock settingsSound soundConfig soundRules isPrefix
 fresh-is-whole c some most =
     record {
-      is-whole = fresh-whole ((freshLent c) .settings) c (record { means = refl; unused = refl; sound = refl }) some most;
+      is-whole = fresh-whole c some most;
       size = let e = length-replicate {A = ℕ} (64 * c) 0 in omega arith;
     }
 

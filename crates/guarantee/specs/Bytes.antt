@@ -81,18 +81,18 @@ WrongLengths b l = ((c : ℕ) → Sized c b → ⊥) → UnchangedBytes b l 1
 -- ## A fresh bucket
 
 -- What `knitpasture_fresh` returns and leaves, of bytes of any contents.
-abbrev pub madeFresh : Bytes → FreshOutcome
-madeFresh b = hubFresh (b .settings) (b .rows) (b .keys)
+abbrev pub freshened : Bytes → FreshOutcome
+freshened b = hubFresh (b .settings) (b .rows) (b .keys)
 
 abbrev pub freshBytes : Bytes → Bytes
-freshBytes b = record { settings = (madeFresh b) .settings; rows = (madeFresh b) .rows; keys = (madeFresh b) .keys }
+freshBytes b = record { settings = (freshened b) .settings; rows = (freshened b) .rows; keys = (freshened b) .keys }
 
 -- With bytes of the lengths of c rows it leaves a fresh bucket of capacity c; with any other lengths it returns 1 and every byte stays.
 pub record FreshMade (b : Bytes) : Type 0 where
-  pub returns-0 : (c : ℕ) → Sized c b → (madeFresh b) .number ≡ 0
+  pub returns-0 : (c : ℕ) → Sized c b → (freshened b) .number ≡ 0
   pub sized : (c : ℕ) → Sized c b → Sized c (freshBytes b)
   pub spells : (c : ℕ) → Sized c b → lentOf (freshBytes b) ≡ freshLent c
-  pub refuses : ((c : ℕ) → Sized c b → ⊥) → madeFresh b ≡ freshOutcome 1 (b .settings) (b .rows) (b .keys)
+  pub refuses : ((c : ℕ) → Sized c b → ⊥) → freshened b ≡ freshOutcome 1 (b .settings) (b .rows) (b .keys)
 
 -- ## A list of calls
 

@@ -11,11 +11,11 @@ use Rattle.model.specs.Requests.{numbered, Verb, termsOf}
 use Rattle.model.specs.Answers.{made}
 use Rattle.model.specs.Run.{Event, gathered}
 use Rattle.settings.specs.declared.Settings.{Settings}
+use Rattle.settings.specs.Meaning.{freshSettings}
 use Rattle.bucket.specs.Whole.{bucketOf}
 use Rattle.request.specs.Grammar.{readLine, asked}
 use Rattle.answers.specs.Text.{answerText}
 use Rattle.outcome.specs.Outcome.{Outcome, outcome}
-use Rattle.knitpasture.specs.Bytes.{freshSettings}
 
 -- The bucket as it is lent: its settings, the numbers of its rows, and their key bytes.
 pub record Lent : Type 0 where

@@ -1,27 +1,19 @@
 -- A fresh bucket over bytes: what is returned, and that the bytes read as fresh settings and zeros.
 use Prim.Native.Nat.{ℕ, _*_, _%_, _≤_}
-use mathlib.Core.Path.{_≡_, refl, sym, _∙_}
+use mathlib.Core.Path.{_≡_, sym, _∙_}
 use mathlib.Core.Bool.{true}
 use mathlib.Core.List.{List}
 use native.Mathlib.Omega.{arith}
 use lib.ListN.{length, replicate}
 use borrow.Author.Tests.{eq-eqb, le-ltb}
-use Rattle.text.specs.Keys.{isPrefix}
-use Rattle.blocks.specs.Blocks.{blockOf, isBlock}
-use Rattle.model.specs.Settings.{soundConfig, soundRules}
 use Rattle.settings.specs.Bytes.{settingsOf, settingsBytes}
-use Rattle.settings.specs.Changes.{Fresh}
-use Rattle.settings.specs.Meaning.{settingsSound}
+use Rattle.settings.specs.Meaning.{freshSettings}
 use Rattle.settings.proofs.RoundTrip.{settings-back}
 use Rattle.bucket.specs.Whole.{whole}
 use Rattle.bucket.proofs.Whole.{fresh-whole}
-use Rattle.knitpasture.specs.Bytes.{numbersFrom, freshSettings, freshOutcome, keysFit, hubFresh}
+use Rattle.knitpasture.specs.Bytes.{numbersFrom, freshOutcome, keysFit, hubFresh}
 use Rattle.knitpasture.proofs.Numbers.{zeros-read}
 use Rattle.knitpasture.proofs.Fits.{whole-fits}
-
-fresh-fresh : Fresh freshSettings
-unfolding blockOf isBlock isPrefix settingsSound soundConfig soundRules
-fresh-fresh = record { means = refl; unused = refl; sound = refl }
 
 -- Rows and keys for c rows.
 module _ (settings rows keys : List ℕ) (c : ℕ) (some : 1 ≤ c) (most : c ≤ 1024) (ls : length settings ≡ 688) (lr : length rows ≡ 64 * c) (lk : length keys ≡ 64 * c) where
@@ -42,7 +34,7 @@ module _ (settings rows keys : List ℕ) (c : ℕ) (some : 1 ≤ c) (most : c �
 
   pub reads-fresh : ReadsFresh
   reads-fresh =
-      let w = fresh-whole freshSettings c fresh-fresh some most in
+      let w = fresh-whole c some most in
       let n : 64 * c ≡ 8 * (8 * c) = omega arith in
       record {
         settings-read = rw fresh-made (settings-back freshSettings (whole-fits freshSettings _ _ w));

@@ -12,19 +12,16 @@ use borrow.Author.Tests.{eqb-false, eq-eqb, ne-eqb}
 use borrow.Rule.Slice.PartMut.{midOf}
 use Rattle.buffers.specs.Choices.{pick}
 use Rattle.buffers.specs.Moves.{movedDown}
-use Rattle.buffers.proofs.Tests.{either, and-l}
-use Rattle.model.specs.Settings as model
+use Rattle.buffers.proofs.Tests.{either}
 use Rattle.settings.specs.declared.Settings.{Settings}
 use Rattle.settings.specs.Bytes.{settingsOf, settingsBytes}
-use Rattle.settings.specs.Changes.{Fresh}
-use Rattle.settings.specs.Meaning.{settingsMean, settingsSound}
+use Rattle.settings.specs.Meaning.{freshSettings}
 use Rattle.bucket.specs.Whole.{keyOf}
-use Rattle.outcome.specs.Outcome.{Outcome, settingsFrom, refused, outcome}
-use Rattle.outcome.proofs.Back.{settings-back}
+use Rattle.outcome.specs.Outcome.{Outcome, refused, outcome}
 use Rattle.outcome.proofs.Demands.{outcome-refused}
 use Rattle.engine.specs.declared.Served.{Served}
 use Rattle.engine.specs.Served.{outcomeFrom}
-use Rattle.knitpasture.specs.Bytes.{numbersFrom, numbersBytes, ByteOutcome, byteOutcome, outcomeWords, wordsServed, spelledServed, spelledKey, freshSettings, freshOutcome}
+use Rattle.knitpasture.specs.Bytes.{numbersFrom, numbersBytes, ByteOutcome, byteOutcome, outcomeWords, wordsServed, spelledServed, spelledKey, freshOutcome}
 
 -- ## A line on rows as numbers
 
@@ -125,16 +122,6 @@ pub cleared : (b exit : List ℕ) → exit ≡ movedDown (length b) b → exit �
 unfolding movedDown
 cleared b exit e = e ∙ rw drop-length
 
--- Fresh settings are the model's, with no row used.
-pub fresh-is : (s : Settings) → Fresh s → s ≡ freshSettings
-unfolding settingsSound
-fresh-is s f =
-    sym (settings-back s (and-l _ _ (f .sound))) ∙ ap (λ (u : ℕ). settingsFrom (settingsMean s) u) (f .unused)
-    ∙ ap (λ (m : model.Settings). settingsFrom m 0) (f .means)
-
-pub fresh-bytes : (s : Settings) (b : List ℕ) → Fresh s → b ≡ settingsBytes s → b ≡ settingsBytes freshSettings
-fresh-bytes s b f e = e ∙ ap settingsBytes (fresh-is s f)
-
-pub fresh-left : (s : Settings) (settings rows keys settings′ rows′ keys′ : List ℕ) → Fresh s → settings′ ≡ settingsBytes s → rows′ ≡ replicate (length rows) 0 → keys′ ≡ replicate (length keys) 0
+pub fresh-left : (s : Settings) (settings rows keys settings′ rows′ keys′ : List ℕ) → s ≡ freshSettings → settings′ ≡ settingsBytes s → rows′ ≡ replicate (length rows) 0 → keys′ ≡ replicate (length keys) 0
     → freshOutcome 0 settings′ rows′ keys′ ≡ freshOutcome 0 (settingsBytes freshSettings) (replicate (length rows) 0) (replicate (length keys) 0)
-fresh-left s settings rows keys settings′ rows′ keys′ f e g h = rw (g, h, fresh-bytes s settings′ f e)
+fresh-left s settings rows keys settings′ rows′ keys′ f e g h = rw (g, h, e, f)

@@ -6,11 +6,10 @@ use lib.Dec.{eqb, ltb}
 use lib.ListN.{length, take, drop, replicate}
 use Rattle.buffers.specs.Choices.{pick}
 use Rattle.buffers.specs.Words.{number, spelled}
-use Rattle.model.specs.Settings.{fresh}
-use Rattle.settings.specs.declared.Settings.{Settings}
 use Rattle.settings.specs.Bytes.{settingsOf, settingsBytes}
+use Rattle.settings.specs.Meaning.{freshSettings}
 use Rattle.bucket.specs.Whole.{keyOf}
-use Rattle.outcome.specs.Outcome.{Outcome, settingsFrom, outcome}
+use Rattle.outcome.specs.Outcome.{Outcome, outcome}
 
 -- ## Numbers as bytes
 
@@ -99,10 +98,6 @@ pub record FreshOutcome : Type 0 where
 
 abbrev pub freshOutcome : ℕ → List ℕ → List ℕ → List ℕ → FreshOutcome
 freshOutcome n settings rows keys = record { number = n; settings = settings; rows = rows; keys = keys }
-
--- The model's fresh settings, no row used.
-abbrev pub freshSettings : Settings
-freshSettings = settingsFrom (fresh .settings) 0
 
 -- as many key bytes as 1 to 1024 rows have
 unfoldable pub keysFit : ℕ → Bool

@@ -10,7 +10,7 @@ use Rattle.buffers.specs.Lists.{all}
 use Rattle.calendar.specs.Calendar.{latest}
 use Rattle.model.specs.Rows.{Row, isMarker}
 use Rattle.model.specs.Settings.{Config, Bucket, hasDefault, spentNumber, fits, sound}
-use Rattle.model.specs.Requests.{Letter, reading, writing, deleting, retaining, holding, bypassing, configuring, Rights, has, Retention, Terms, Setting, DefaultRetention, LifecycleRule, Get, Verb, Put, Copy, Retain, Hold, AddMarker, DeleteVersion, Set, Sweep, Ask, Context, Request, Line, unreadable, reads, roomOf, nameOf, termsOf, retentionOf, settingOf, inRange}
+use Rattle.model.specs.Requests.{Letter, reading, writing, deleting, retaining, holding, bypassing, configuring, Rights, has, Retention, Terms, Setting, DefaultRetention, LifecycleRule, Get, Verb, Put, Copy, Retain, Hold, AddMarker, DeleteVersion, Set, Sweep, Ask, Context, Line, unreadable, reads, roomOf, nameOf, termsOf, retentionOf, settingOf, inRange}
 use Rattle.model.specs.Time.{Now, nowOf, defaultEnd}
 use Rattle.model.specs.Locks.{locked, admits}
 use Rattle.model.specs.Effects.{rowOf, added, rowsAfter}
@@ -165,12 +165,8 @@ pub record FirstHolds (xs : List Check) (n : ℕ) : Type 0 where
   pub none-before : all (λ x. not (x .holds)) before ≡ true
 
 -- The conditions that only the request's own fields decide.
-abbrev pub fieldChecks : Bucket → Request → List Check
-fieldChecks b q =
-    check 4 (halfGiven (q .verb))
-    ∷ check 5 (lacksRight (b .settings .config) (q .context .who) (q .verb))
-    ∷ check 6 (pastDate ((nowOf b (q .context)) .stamp) (q .verb))
-    ∷ []
+abbrev pub fieldChecks : Config → Rights → ℕ → Verb → List Check
+fieldChecks s who now v = check 4 (halfGiven v) ∷ check 5 (lacksRight s who v) ∷ check 6 (pastDate now v) ∷ []
 
 -- The conditions on the table and the settings.
 abbrev pub tableChecks : ℕ → Bucket → Now → Verb → List Check
@@ -183,11 +179,15 @@ tableChecks c b now v =
     ∷ check 12 (full c b now v)
     ∷ []
 
+-- The conditions on a verb whose fields are in their ranges.
+abbrev pub verbChecks : ℕ → Bucket → Now → Rights → Verb → List Check
+verbChecks c b now who v = fieldChecks (b .settings .config) who (now .stamp) v ++ tableChecks c b now v
+
 -- The conditions on what the line says.
 abbrev pub requestChecks : ℕ → Bucket → Line → List Check
 requestChecks c b (unreadable room) = check 3 true ∷ []
 requestChecks c b (reads q) =
-    check 3 (outOfRange (q .context) (q .verb)) ∷ fieldChecks b q ++ tableChecks c b (nowOf b (q .context)) (q .verb)
+    check 3 (outOfRange (q .context) (q .verb)) ∷ verbChecks c b (nowOf b (q .context)) (q .context .who) (q .verb)
 
 -- The last refusal's number.
 abbrev pub lastRefusal : ℕ

@@ -14,7 +14,7 @@ use Rattle.buffers.proofs.Tests.{either, clash, and-l, and-r}
 use Rattle.calendar.specs.Calendar.{latest}
 use Rattle.model.specs.Requests.{Verb, inRange}
 use Rattle.model.specs.Time.{nowOf}
-use Rattle.model.specs.Refusals.{Check, firstOf, fieldChecks, tableChecks}
+use Rattle.model.specs.Refusals.{Check, firstOf, verbChecks}
 use Rattle.settings.specs.declared.Settings.{Settings}
 use Rattle.table.specs.Layout.{capacity}
 use Rattle.bucket.specs.Whole.{bucketOf, whole}
@@ -83,4 +83,4 @@ module _ (s : Settings) (numbers keys line answer : List ℕ) where
       let a = asked (length answer) q in
       let now = nowOf (bucketOf s numbers keys) (asked (length answer) q .context) in
       simp (w, e, le-ltb _ _ l, r)
-      (sym (done-decide (now .stamp) (q .verb) (fieldChecks b a ++ tableChecks (capacity keys) b now (q .verb)) (effect b now (q .verb)) refl))
+      (sym (done-decide (now .stamp) (q .verb) (verbChecks (capacity keys) b now (q .who) (q .verb)) (effect b now (q .verb)) refl))

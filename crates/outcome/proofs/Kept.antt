@@ -22,13 +22,13 @@ use Rattle.model.specs.Effects.{after}
 use Rattle.model.specs.Refusals.{refusal}
 use Rattle.model.proofs.Sound.{whole as sound-whole, sound-after}
 use Rattle.settings.specs.declared.Settings.{Settings}
-use Rattle.settings.specs.Meaning.{rulesMean, settingsMean, prefixesAre}
+use Rattle.settings.specs.Meaning.{rulesMean, settingsMean, rulesFrom, settingsFrom, prefixesAre}
 use Rattle.table.specs.Layout.{keysOf, capacity}
 use Rattle.bucket.specs.Whole.{bucketOf, whole}
 use Rattle.table.proofs.Held.{read-back, keys-length}
 use Rattle.bucket.proofs.Whole.{whole-parts, sound-parts, whole-of}
 use Rattle.request.specs.Grammar.{Said, readLine, lineOf, asked}
-use Rattle.outcome.specs.Outcome.{rulesFrom, settingsFrom, accepted, refusalOf, outcome}
+use Rattle.outcome.specs.Outcome.{accepted, refusalOf, outcome}
 use Rattle.outcome.proofs.Demands.{refused-unchanged, unreadable-refused, accepted-line}
 
 rule-means : (k : List ℕ) (c n : ℕ) (us vs : List model.Rule) → length k ≤ 63 → vs ≡ us → record { prefix = keyIn (blockOf k); currentDays = c; noncurrentDays = n } ∷ vs ≡ record { prefix = k; currentDays = c; noncurrentDays = n } ∷ us

@@ -1,5 +1,4 @@
 pub mod Deciding
-pub mod Back
 pub mod Demands
 pub mod Kept
 pub mod Room

@@ -1,45 +1,19 @@
 -- What a line does to settings, buffers and answer buffer of any contents (demand 2).
 use Prim.Native.Nat.{ℕ}
-use mathlib.Core.List.{List, [], _∷_, _++_}
+use mathlib.Core.List.{List, _++_}
 use lib.Dec.{eqb}
 use lib.ListN.{length, drop}
 use Rattle.buffers.specs.Choices.{pick, thenSome}
-use Rattle.blocks.specs.Blocks.{blockOf}
-use Rattle.model.specs.Settings as model
 use Rattle.model.specs.Requests.{Request}
 use Rattle.model.specs.Effects.{after}
 use Rattle.model.specs.Refusals.{firstOf, checks}
 use Rattle.model.specs.Answers.{answerTo}
 use Rattle.settings.specs.declared.Settings.{Settings}
-use Rattle.settings.specs.declared.Rule.{Rule}
+use Rattle.settings.specs.Meaning.{settingsFrom}
 use Rattle.table.specs.Layout.{numbersOf, keysOf, capacity}
 use Rattle.bucket.specs.Whole.{bucketOf, whole}
 use Rattle.request.specs.Grammar.{readLine, asked, lineOf}
 use Rattle.answers.specs.Text.{answerText}
-
--- ## From the model's settings to those of the code
-
-abbrev pub ruleFrom : model.Rule → Rule
-ruleFrom u = record { prefix = blockOf (u .prefix); current = u .currentDays; noncurrent = u .noncurrentDays }
-
-abbrev pub rulesFrom : List model.Rule → List Rule
-rulesFrom [] = []
-rulesFrom (u ∷ us) = ruleFrom u ∷ rulesFrom us
-
--- the settings, with this count of used rows
-abbrev pub settingsFrom : model.Settings → ℕ → Settings
-settingsFrom s used =
-    record {
-      time = s .time;
-      used = used;
-      next = s .next;
-      mode = s .config .default .mode;
-      count = s .config .default .count;
-      unit = s .config .default .unit;
-      rules = rulesFrom (s .config .rules);
-    }
-
--- ## The outcome
 
 -- What a call returns and leaves.
 pub record Outcome : Type 0 where

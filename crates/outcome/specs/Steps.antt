@@ -6,10 +6,10 @@ use Rattle.model.specs.Settings as model
 use Rattle.model.specs.Requests.{Verb}
 use Rattle.model.specs.Effects.{configAfter}
 use Rattle.settings.specs.declared.Settings.{Settings}
-use Rattle.settings.specs.Meaning.{settingsMean}
+use Rattle.settings.specs.Meaning.{settingsMean, settingsFrom}
 use Rattle.table.specs.Layout.{numbersOf, keysOf, capacity}
 use Rattle.verdict.specs.Decision.{Effect, Decision, refuses, does}
-use Rattle.outcome.specs.Outcome.{settingsFrom, Outcome, refused, written}
+use Rattle.outcome.specs.Outcome.{Outcome, refused, written}
 
 -- the settings after an accepted line: now is the bucket's time
 abbrev pub settingsAfter : model.Settings → ℕ → ℕ → Verb → model.Settings

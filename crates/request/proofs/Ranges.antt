@@ -1,6 +1,6 @@
--- What a line says lies in 01's ranges.
+-- What a line says lies in 01's ranges, and its keys and prefixes lie within the line.
 use Prim.Native.Nat.{ℕ}
-use mathlib.Core.Path.{_≡_, refl, sym, ap, _∙_}
+use mathlib.Core.Path.{_≡_, refl, subst}
 use mathlib.Core.Bool.{Bool, true, false, _&&_}
 use mathlib.Core.List.{List}
 use mathlib.Core.Option.{Option, some, none}
@@ -9,58 +9,90 @@ use lib.Dec.{leb, ltb}
 use borrow.Author.Tests.{lt-ltb, le-leb}
 use Rattle.buffers.specs.Choices.{pick, thenSome}
 use Rattle.buffers.proofs.Tests.{and-i}
+use Rattle.text.specs.declared.Place.{Place}
 use Rattle.text.specs.Numbers.{numberOf, positiveOf}
+use Rattle.text.specs.Fields.{fieldOf, placeOf, partOf}
 use Rattle.text.specs.Keys.{isKey, isPrefix}
 use Rattle.text.proofs.Reading.{number-most, positive-range}
+use Rattle.text.proofs.Fields.{place-within, place-field}
 use Rattle.calendar.specs.Calendar.{latest}
 use Rattle.dates.specs.Reading.{readDate}
 use Rattle.dates.proofs.Reading.{read-most}
 use Rattle.model.specs.Settings.{days, years, isPeriod}
 use Rattle.model.specs.Rows.{bodies}
-use Rattle.model.specs.Requests.{Version, numbered, Name, Retention, Terms, Verb, AddMarker, DeleteVersion, Period, isVersion, isName, isModeField, isDateField, isRetention, isPeriodField, inRange}
+use Rattle.model.specs.Requests.{numbered, isVersion, isName, isModeField, isDateField, isRetention, isPeriodField, inRange}
+use Rattle.fields.specs.declared.Version.{Version}
+use Rattle.fields.specs.declared.Version.the-variants.{Current, Numbered}
+use Rattle.fields.specs.declared.Mode.{Mode}
+use Rattle.fields.specs.declared.Until.{Until}
+use Rattle.fields.specs.declared.Period.{Period}
 use Rattle.fields.specs.Fields.{readKey, readPrefix, readVersion, readMode, readUntil, readPeriod}
-use Rattle.request.specs.Grammar.{nameAt, retentionAt, termsAt, putOf, copyOf, retainOf, setHoldOf, deleteOf, defaultOf, ruleOf, sweepOf, getOf, otherByWord, verbByWord, Said, readLine}
+use Rattle.fields.specs.Meaning.{modeMeans, untilMeans, versionMeans, periodMeans, Inside}
+use Rattle.request.specs.declared.Name.{Name}
+use Rattle.request.specs.declared.Retention.{Retention}
+use Rattle.request.specs.declared.Terms.{Terms}
+use Rattle.request.specs.declared.Verb.{Verb}
+use Rattle.request.specs.declared.Verb.the-variants.{Act}
+use Rattle.request.specs.declared.Request.{Request}
+use Rattle.request.specs.Meaning.{nameMeans, retentionMeans, verbMeans, VerbInside}
+use Rattle.request.specs.Grammar.{nameAt, retentionAt, termsAt, putOf, copyOf, retainOf, setHoldOf, deletes, deleteOf, defaultOf, ruleOf, sweepOf, getOf, otherByWord, verbByWord, requestIn, Said, readLine}
 
--- whatever is read passes the test
-record Passes (A : Type 0) (p : A → Bool) (w : Option A) : Type 0 where
-  holds : (a : A) → w ≡ some a → p a ≡ true
+-- this holds of whatever is read
+record Passes (A : Type 0) (P : A → Type 0) (w : Option A) : Type 0 where
+  holds : (a : A) → w ≡ some a → P a
 
-module _ (A : Type 0) (p : A → Bool) where
-  pass-none : Passes A p none
+module _ (A : Type 0) (P : A → Type 0) where
+  pass-none : Passes A P none
   pass-none = record { holds = λ a e. let z : _≡_ {A = ℕ} 0 1 = cc in absurd (omega arith) }
 
-  pass-some : (a : A) → p a ≡ true → Passes A p (some a)
-  pass-some a h = record { holds = λ b e. let q : a ≡ b = cc in sym (ap p q) ∙ h }
+  pass-some : (a : A) → P a → Passes A P (some a)
+  pass-some a h = record { holds = λ b e. let q : a ≡ b = cc in subst P q h }
 
-  pass-pick : (t : Bool) (x y : Option A) → (t ≡ true → Passes A p x) → (t ≡ false → Passes A p y) → Passes A p (pick t x y)
+  pass-pick : (t : Bool) (x y : Option A) → (t ≡ true → Passes A P x) → (t ≡ false → Passes A P y) → Passes A P (pick t x y)
   pass-pick true x y f g = f refl
   pass-pick false x y f g = g refl
 
-  pass-then : (B : Type 0) (w : Option B) (f : B → Option A) → ((b : B) → w ≡ some b → Passes A p (f b)) → Passes A p (thenSome w none f)
+  pass-then : (B : Type 0) (w : Option B) (f : B → Option A) → ((b : B) → w ≡ some b → Passes A P (f b)) → Passes A P (thenSome w none f)
   pass-then B none f g = pass-none
   pass-then B (some b) f g = g b refl
 
 ruleset ways = (pass-none, pass-some, pass-pick, pass-then, refl)
 
--- ## Fields
+-- ## Keys and prefixes
+
+-- the bytes at the place pass the test, and the place lies within the line
+record Placed (test : List ℕ → Bool) (s : List ℕ) (k : Place) : Type 0 where
+  tested : test (partOf s k) ≡ true
+  inside : Inside s k
+
+module _ (s : List ℕ) (i : ℕ) where
+  placed : (test : List ℕ → Bool) → Passes Place (Placed test s) (pick (test (fieldOf s i)) (some (placeOf s i)) none)
+  placed test =
+      search (ways, there) depth 9
+    where
+      there : test (fieldOf s i) ≡ true → Placed test s (placeOf s i)
+      there h = record { tested = rw (place-field s i) h; inside = record { end = place-within s i } }
+
+  module _ (k : Place) where
+    key-in : readKey s i ≡ some k → isKey (partOf s k) ≡ true
+    unfolding readKey
+    key-in e = placed isKey .holds k e .tested
+
+    key-inside : readKey s i ≡ some k → Inside s k
+    unfolding readKey
+    key-inside e = placed isKey .holds k e .inside
+
+    prefix-in : readPrefix s i ≡ some k → isPrefix (partOf s k) ≡ true
+    unfolding readPrefix
+    prefix-in e = placed isPrefix .holds k e .tested
+
+    prefix-inside : readPrefix s i ≡ some k → Inside s k
+    unfolding readPrefix
+    prefix-inside e = placed isPrefix .holds k e .inside
+
+-- ## The other fields
 
 module _ (s : List ℕ) where
-  key-in : (k : List ℕ) → readKey s ≡ some k → isKey k ≡ true
-  unfolding readKey
-  key-in k e = (go (isKey s) refl) .holds k e
-    where
-      go : (t : Bool) → isKey s ≡ t → Passes (List ℕ) isKey (pick t (some s) none)
-      go true h = pass-some (List ℕ) isKey s h
-      go false h = pass-none (List ℕ) isKey
-
-  prefix-in : (k : List ℕ) → readPrefix s ≡ some k → isPrefix k ≡ true
-  unfolding readPrefix
-  prefix-in k e = (go (isPrefix s) refl) .holds k e
-    where
-      go : (t : Bool) → isPrefix s ≡ t → Passes (List ℕ) isPrefix (pick t (some s) none)
-      go true h = pass-some (List ℕ) isPrefix s h
-      go false h = pass-none (List ℕ) isPrefix
-
   number-in : (k n : ℕ) → numberOf k s ≡ some n → leb n k ≡ true
   number-in k n e = le-leb n k (number-most k s n e)
 
@@ -85,123 +117,155 @@ module _ (s : List ℕ) where
   years-in n e = let h = positive-range 100 s n e in rw (le-leb 1 n (h .from), le-leb n 100 (h .to))
 
 module _ (s : List ℕ) where
-  version-passes : Passes (Option Version) isVersion (readVersion s)
+  version-passes : Passes Version (λ v. isVersion (versionMeans v) ≡ true) (readVersion s)
   unfolding readVersion
   version-passes = search (ways, numbered-in) depth 9
 
-  mode-passes : Passes (Option ℕ) isModeField (readMode s)
+  mode-passes : Passes Mode (λ m. isModeField (modeMeans m) ≡ true) (readMode s)
   unfolding readMode
   mode-passes = search ways depth 9
 
-  until-passes : Passes (Option ℕ) isDateField (readUntil s)
+  until-passes : Passes Until (λ d. isDateField (untilMeans d) ≡ true) (readUntil s)
   unfolding readUntil
   until-passes = search (ways, clock-in) depth 9
 
-  period-passes : Passes (Option Period) isPeriodField (readPeriod s)
+  period-passes : Passes Period (λ p. isPeriodField (periodMeans p) ≡ true) (readPeriod s)
   unfolding readPeriod
   period-passes = search (ways, days-in, years-in) depth 12
 
-  version-in : (v : Option Version) → readVersion s ≡ some v → isVersion v ≡ true
+  version-in : (v : Version) → readVersion s ≡ some v → isVersion (versionMeans v) ≡ true
   version-in = version-passes .holds
 
-  mode-in : (m : Option ℕ) → readMode s ≡ some m → isModeField m ≡ true
+  mode-in : (m : Mode) → readMode s ≡ some m → isModeField (modeMeans m) ≡ true
   mode-in = mode-passes .holds
 
-  until-in : (d : Option ℕ) → readUntil s ≡ some d → isDateField d ≡ true
+  until-in : (d : Until) → readUntil s ≡ some d → isDateField (untilMeans d) ≡ true
   until-in = until-passes .holds
 
-  period-in : (p : Option Period) → readPeriod s ≡ some p → isPeriodField p ≡ true
+  period-in : (p : Period) → readPeriod s ≡ some p → isPeriodField (periodMeans p) ≡ true
   period-in = period-passes .holds
 
-ruleset fields = (and-i, key-in, prefix-in, version-in, mode-in, until-in, period-in, number-in, body-in, place-in)
+ruleset fields = (and-i, key-in, key-inside, prefix-in, prefix-inside, version-in, mode-in, until-in, period-in, number-in, body-in, place-in)
 
 -- ## Several fields
 
+record NameStands (s : List ℕ) (n : Name) : Type 0 where
+  range : isName (nameMeans s n) ≡ true
+  inside : Inside s (n .key)
+
 module _ (s : List ℕ) (i j : ℕ) where
-  name-passes : Passes Name isName (nameAt s i j)
+  name-passes : Passes Name (NameStands s) (nameAt s i j)
   unfolding nameAt
   name-passes = search (ways, fields) depth 12
 
-  retention-passes : Passes Retention isRetention (retentionAt s i j)
+  retention-passes : Passes Retention (λ r. isRetention (retentionMeans r) ≡ true) (retentionAt s i j)
   unfolding retentionAt
   retention-passes = search (ways, fields) depth 12
 
-  name-in : (n : Name) → nameAt s i j ≡ some n → isName n ≡ true
-  name-in = name-passes .holds
+  name-in : (n : Name) → nameAt s i j ≡ some n → isName (nameMeans s n) ≡ true
+  name-in n e = name-passes .holds n e .range
 
-  retention-in : (r : Retention) → retentionAt s i j ≡ some r → isRetention r ≡ true
+  name-inside : (n : Name) → nameAt s i j ≡ some n → Inside s (n .key)
+  name-inside n e = name-passes .holds n e .inside
+
+  retention-in : (r : Retention) → retentionAt s i j ≡ some r → isRetention (retentionMeans r) ≡ true
   retention-in = retention-passes .holds
 
 module _ (s : List ℕ) where
-  terms-passes : Passes Terms (λ t. isRetention (t .retention)) (termsAt s)
+  terms-passes : Passes Terms (λ t. isRetention (retentionMeans (t .retention)) ≡ true) (termsAt s)
   unfolding termsAt
   terms-passes = search (ways, retention-in) depth 12
 
-  terms-in : (t : Terms) → termsAt s ≡ some t → isRetention (t .retention) ≡ true
+  terms-in : (t : Terms) → termsAt s ≡ some t → isRetention (retentionMeans (t .retention)) ≡ true
   terms-in = terms-passes .holds
 
 -- ## Verbs
 
-ruleset ranges = (fields, name-in, retention-in, terms-in)
+ruleset ranges = (fields, name-in, name-inside, retention-in, terms-in)
+
+record Stands (s : List ℕ) (v : Verb) : Type 0 where
+  range : inRange (verbMeans s v) ≡ true
+  inside : VerbInside s v
 
 module _ (s : List ℕ) where
-  put-passes : Passes Verb inRange (putOf s)
+  put-passes : Passes Verb (Stands s) (putOf s)
   unfolding putOf inRange
   put-passes = search (ways, ranges) depth 16
 
-  copy-passes : Passes Verb inRange (copyOf s)
+  copy-passes : Passes Verb (Stands s) (copyOf s)
   unfolding copyOf inRange
   copy-passes = search (ways, ranges) depth 16
 
-  retain-passes : Passes Verb inRange (retainOf s)
+  retain-passes : Passes Verb (Stands s) (retainOf s)
   unfolding retainOf inRange
   retain-passes = search (ways, ranges) depth 16
 
-  set-hold-passes : Passes Verb inRange (setHoldOf s)
+  set-hold-passes : Passes Verb (Stands s) (setHoldOf s)
   unfolding setHoldOf inRange
   set-hold-passes = search (ways, ranges) depth 16
 
-  delete-passes : Passes Verb inRange (deleteOf s)
+  delete-passes : Passes Verb (Stands s) (deleteOf s)
   unfolding deleteOf inRange
   delete-passes = search (ways, ranges, by-version) depth 16
     where
-      by-version : (k : List ℕ) (y : Bool) (v : Option Version) → isKey k ≡ true → isVersion v ≡ true → inRange (thenSome v (AddMarker k y) (λ u. DeleteVersion k u y)) ≡ true
-      by-version k y none h e = h
-      by-version k y (some (numbered n)) h e = and-i (isKey k) _ h e
+      by-version : (k : Place) (y : Bool) (v : Version) → isKey (partOf s k) ≡ true → Inside s k → isVersion (versionMeans v) ≡ true → Stands s (Act (deletes k v y))
+      by-version k y Current h i e = record { range = h; inside = i }
+      by-version k y (Numbered n) h i e = record { range = and-i (isKey (partOf s k)) _ h e; inside = i }
 
-  default-passes : Passes Verb inRange (defaultOf s)
+  default-passes : Passes Verb (Stands s) (defaultOf s)
   unfolding defaultOf inRange
   default-passes = search (ways, ranges) depth 16
 
-  rule-passes : Passes Verb inRange (ruleOf s)
+  rule-passes : Passes Verb (Stands s) (ruleOf s)
   unfolding ruleOf inRange
   rule-passes = search (ways, ranges) depth 16
 
-  sweep-passes : Passes Verb inRange (sweepOf s)
+  sweep-passes : Passes Verb (Stands s) (sweepOf s)
   unfolding sweepOf inRange
   sweep-passes = search (ways, ranges) depth 16
 
-  get-passes : Passes Verb inRange (getOf s)
+  get-passes : Passes Verb (Stands s) (getOf s)
   unfolding getOf inRange
   get-passes = search (ways, ranges) depth 16
 
-  other-passes : (w : List ℕ) → Passes Verb inRange (otherByWord w s)
+  other-passes : (w : List ℕ) → Passes Verb (Stands s) (otherByWord w s)
   unfolding otherByWord
   other-passes w = search (pass-pick, pass-none, default-passes, rule-passes, sweep-passes, get-passes) depth 12
 
-  verb-passes : (w : List ℕ) → Passes Verb inRange (verbByWord w s)
+  verb-passes : (w : List ℕ) → Passes Verb (Stands s) (verbByWord w s)
   unfolding verbByWord
   verb-passes w = search (pass-pick, put-passes, copy-passes, retain-passes, set-hold-passes, delete-passes, other-passes) depth 12
 
+  verb-in : (w : List ℕ) (v : Verb) → verbByWord w s ≡ some v → Stands s v
+  verb-in w = verb-passes w .holds
+
 -- ## The line
 
-verb-in : (w s : List ℕ) (v : Verb) → verbByWord w s ≡ some v → inRange v ≡ true
-verb-in w s = verb-passes s w .holds
+-- the clock and every field of the verb lie in their ranges, and every key and prefix within the line
+pub record LineStands (s : List ℕ) (q : Request) : Type 0 where
+  pub clock : leb (q .clock) latest ≡ true
+  pub range : inRange (verbMeans s (q .verb)) ≡ true
+  pub inside : VerbInside s (q .verb)
 
--- Whatever is read lies in its range.
-pub read-in-range : (s : List ℕ) (q : Said) → readLine s ≡ some q → (leb (q .clock) latest && inRange (q .verb)) ≡ true
-unfolding readLine
-read-in-range s = line .holds
-  where
-    line : Passes Said (λ q. leb (q .clock) latest && inRange (q .verb)) (readLine s)
-    line = search (ways, and-i, clock-in, verb-in) depth 16
+module _ (s : List ℕ) where
+  request-passes : Passes Request (LineStands s) (requestIn s)
+  unfolding requestIn
+  request-passes =
+      search (ways, clock-in, whole, verb-in) depth 16
+    where
+      whole : (q : Request) → leb (q .clock) latest ≡ true → Stands s (q .verb) → LineStands s q
+      whole q h k = record { clock = h; range = k .range; inside = k .inside }
+
+  pub request-stands : (q : Request) → requestIn s ≡ some q → LineStands s q
+  request-stands = request-passes .holds
+
+  -- Whatever is read lies in its range.
+  pub read-in-range : (q : Said) → readLine s ≡ some q → (leb (q .clock) latest && inRange (q .verb)) ≡ true
+  unfolding readLine
+  read-in-range = line .holds
+    where
+      said : (q : Request) → requestIn s ≡ some q → (leb (q .clock) latest && inRange (verbMeans s (q .verb))) ≡ true
+      said q e = let k = request-stands q e in and-i (leb (q .clock) latest) _ (k .clock) (k .range)
+
+      line : Passes Said (λ q. (leb (q .clock) latest && inRange (q .verb)) ≡ true) (readLine s)
+      line = search (ways, said) depth 16

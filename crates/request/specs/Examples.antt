@@ -9,15 +9,22 @@ use lib.ListN.{replicate}
 use Rattle.buffers.specs.Choices.{pick}
 use Rattle.buffers.specs.Texts.{bytes}
 use Rattle.text.specs.Numbers.{isDigit, leadingZero, numberOf, positiveOf}
-use Rattle.text.specs.Fields.{fieldOf}
+use Rattle.text.specs.Fields.{fieldOf, placeOf}
 use Rattle.text.specs.Keys.{isKeyByte, isPrefix, isKey}
 use Rattle.calendar.specs.Calendar.{leap, yearsLength, monthStart, monthLength, validDay, daysOf}
-use Rattle.dates.specs.Reading.{digitOf, twoDigits, fourDigits, dayNumber, dayAt, secondOfDay, secondAt, placeOf, milliseconds, fractionOf, readDate}
+use Rattle.dates.specs.Reading.{digitOf, twoDigits, fourDigits, dayNumber, dayAt, secondOfDay, secondAt, fractionDigit, milliseconds, fractionOf, readDate}
 use Rattle.model.specs.Rows.{compliance}
 use Rattle.model.specs.Settings.{days}
 use Rattle.model.specs.Requests.{Rights, numbered, name, noRetention, Verb, Put, AddMarker, DeleteVersion, Set, DefaultRetention, Ask, Get}
 use Rattle.fields.specs.Fields.{rightsIn, readRights, readKey, readVersion, readMode, readUntil, readHold, readBypass, readPeriod}
-use Rattle.request.specs.Grammar.{nameAt, retentionAt, termsAt, putOf, deleteOf, defaultOf, getOf, otherByWord, verbByWord, Said, readLine}
+use Rattle.fields.specs.declared.Version.the-variants.{Current}
+use Rattle.fields.specs.declared.Mode.the-variants as mode
+use Rattle.fields.specs.declared.Until.the-variants as until
+use Rattle.fields.specs.declared.Hold.the-variants as hold
+use Rattle.request.specs.declared.Terms.{Terms}
+use Rattle.request.specs.declared.Action.the-variants.{Copy}
+use Rattle.request.specs.declared.Verb.the-variants.{Act}
+use Rattle.request.specs.Grammar.{nameAt, retentionAt, termsAt, putOf, copyOf, deleteOf, defaultOf, getOf, otherByWord, verbByWord, requestIn, Said, readLine}
 
 -- the bytes of a text in which `|` stands for a tab
 abbrev withTabs : List ℕ → List ℕ
@@ -27,6 +34,10 @@ withTabs (b ∷ s) = pick (eqb b 124) 9 b ∷ withTabs s
 -- this clock, these rights, this verb
 abbrev asks : ℕ → Rights → Verb → Option Said
 asks clock who verb = some (record { clock = clock; who = who; verb = verb })
+
+-- no mode, no date, no hold
+abbrev noTerms : Terms
+noTerms = record { retention = record { mode = mode.Missing; until = until.Missing }; hold = hold.Missing }
 
 -- what the definitions say of these lines
 pub record Examples : Type 0 where
@@ -52,6 +63,13 @@ pub record Examples : Type 0 where
   pub getCurrent : readLine (withTabs (bytes "2024-03-02T00:00:00Z|r|GET|q/7|-"))
       ≡ asks 1709337600000 (record { r = true; w = false; d = false; t = false; h = false; b = false; c = false })
       (Ask (Get (name (bytes "q/7") none)))
+  -- a COPY's source and target are the places of their fields
+  pub copyPlaces : requestIn (withTabs (bytes "2024-03-01T00:00:00Z|rw|COPY|a|-|b|-|-|-"))
+      ≡ some (record {
+        clock = 1709251200000;
+        rights = record { r = true; w = true; d = false; t = false; h = false; b = false; c = false };
+        verb = Act (Copy (record { key = record { start = 29; len = 1 }; version = Current }) (record { start = 33; len = 1 }) noTerms);
+      })
   -- can't be read
   pub versionZero : readLine (withTabs (bytes "2024-03-01T00:00:00Z|r|GET|q/7|0")) ≡ none
   pub noRights : readLine (withTabs (bytes "2024-03-01T00:00:00Z||GET|q/7|1")) ≡ none
@@ -65,7 +83,7 @@ pub record Examples : Type 0 where
 
 -- each by computing
 pub examples : Examples
-unfolding isDigit leadingZero numberOf positiveOf fieldOf isKeyByte isPrefix isKey leap yearsLength monthStart monthLength validDay daysOf digitOf twoDigits fourDigits dayNumber dayAt secondOfDay secondAt placeOf milliseconds fractionOf readDate rightsIn readRights readKey readVersion readMode readUntil readHold readBypass readPeriod nameAt retentionAt termsAt putOf deleteOf defaultOf getOf otherByWord verbByWord readLine
+unfolding isDigit leadingZero numberOf positiveOf fieldOf placeOf isKeyByte isPrefix isKey leap yearsLength monthStart monthLength validDay daysOf digitOf twoDigits fourDigits dayNumber dayAt secondOfDay secondAt fractionDigit milliseconds fractionOf readDate rightsIn readRights readKey readVersion readMode readUntil readHold readBypass readPeriod nameAt retentionAt termsAt putOf copyOf deleteOf defaultOf getOf otherByWord verbByWord requestIn readLine
 examples =
     record {
       default = refl;
@@ -75,6 +93,7 @@ examples =
       getNumbered = refl;
       deleteExpired = refl;
       getCurrent = refl;
+      copyPlaces = refl;
       versionZero = refl;
       noRights = refl;
       letterTwice = refl;

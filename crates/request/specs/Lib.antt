@@ -1,3 +1,3 @@
-pub mod Grammar
 pub mod Meaning
+pub mod Grammar
 pub mod Examples

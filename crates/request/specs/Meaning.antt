@@ -1,6 +1,5 @@
--- What the code's values stand for: the model's, where a key is the part of the line at its place. What the code can't read is `none`.
+-- What the code's values stand for: the model's, where a key is the part of the line at its place.
 use Prim.Native.Nat.{ℕ}
-use mathlib.Core.Path.{_≡_}
 use mathlib.Core.List.{List}
 use mathlib.Core.Option.{Option, some, none}
 use Rattle.text.specs.Fields.{partOf}
@@ -22,10 +21,10 @@ use Rattle.request.specs.declared.TermsRead.{TermsRead}
 use Rattle.request.specs.declared.TermsRead.the-variants as terms-read
 use Rattle.request.specs.declared.VerbRead.{VerbRead}
 use Rattle.request.specs.declared.VerbRead.the-variants as verb-read
+use Rattle.request.specs.declared.Request.{Request}
 use Rattle.request.specs.declared.LineRead.{LineRead}
 use Rattle.request.specs.declared.LineRead.the-variants as line-read
-use Rattle.fields.specs.Meaning.{modeMeans, untilMeans, holdMeans, versionMeans, periodMeans, rightsMeans, Inside}
-use Rattle.request.specs.Grammar.{Said, readLine}
+use Rattle.fields.specs.Meaning.{modeMeans, untilMeans, holdMeans, versionMeans, periodMeans, Inside}
 
 -- ## Values
 
@@ -62,32 +61,32 @@ verbMeans s (Act a) = actionMeans s a
 verbMeans s (Set a) = model.Set (settingMeans s a)
 verbMeans s Sweep = model.Sweep
 
--- ## Answers of readers: what some fields say together
+-- ## Answers of readers: the value, if the fields have one
 
 -- the fields key and version
-abbrev pub nameFrom : List ℕ → NameRead → Option model.Name
-nameFrom s (name-read.Is n) = some (nameMeans s n)
-nameFrom s name-read.Bad = none
+abbrev pub nameFrom : NameRead → Option Name
+nameFrom (name-read.Is n) = some n
+nameFrom name-read.Bad = none
 
 -- the fields mode and date
-abbrev pub retentionFrom : RetentionRead → Option model.Retention
-retentionFrom (retention-read.Is r) = some (retentionMeans r)
+abbrev pub retentionFrom : RetentionRead → Option Retention
+retentionFrom (retention-read.Is r) = some r
 retentionFrom retention-read.Bad = none
 
 -- the fields mode, date and hold
-abbrev pub termsFrom : TermsRead → Option model.Terms
-termsFrom (terms-read.Is t) = some (termsMeans t)
+abbrev pub termsFrom : TermsRead → Option Terms
+termsFrom (terms-read.Is t) = some t
 termsFrom terms-read.Bad = none
 
 -- a verb's fields
-abbrev pub verbFrom : List ℕ → VerbRead → Option model.Verb
-verbFrom s (verb-read.Is v) = some (verbMeans s v)
-verbFrom s verb-read.Bad = none
+abbrev pub verbFrom : VerbRead → Option Verb
+verbFrom (verb-read.Is v) = some v
+verbFrom verb-read.Bad = none
 
 -- a whole line
-abbrev pub saidOf : List ℕ → LineRead → Option Said
-saidOf s (line-read.Reads q) = some (record { clock = q .clock; who = rightsMeans (q .rights); verb = verbMeans s (q .verb) })
-saidOf s line-read.Unreadable = none
+abbrev pub requestFrom : LineRead → Option Request
+requestFrom (line-read.Reads q) = some q
+requestFrom line-read.Unreadable = none
 
 -- ## Places
 
@@ -111,35 +110,3 @@ abbrev pub VerbInside : List ℕ → Verb → Type 0
 VerbInside s (Act a) = ActionInside s a
 VerbInside s (Set a) = SettingInside s a
 VerbInside s Sweep = Unit
-
--- what a reader has found lies within the line: a key with its version
-abbrev pub NameWithin : List ℕ → NameRead → Type 0
-NameWithin s (name-read.Is n) = Inside s (n .key)
-NameWithin s name-read.Bad = Unit
-
--- the same of a verb
-abbrev pub VerbWithin : List ℕ → VerbRead → Type 0
-VerbWithin s (verb-read.Is v) = VerbInside s v
-VerbWithin s verb-read.Bad = Unit
-
--- the same of a line
-abbrev pub LineWithin : List ℕ → LineRead → Type 0
-LineWithin s (line-read.Reads q) = VerbInside s (q .verb)
-LineWithin s line-read.Unreadable = Unit
-
--- ## What readers ensure: what the definition says is read, and places lie within the line
-
--- a key with its version
-pub record Named (s : List ℕ) (said : Option model.Name) (r : NameRead) : Type 0 where
-  pub is : nameFrom s r ≡ said
-  pub within : NameWithin s r
-
--- a verb
-pub record Does (s : List ℕ) (said : Option model.Verb) (r : VerbRead) : Type 0 where
-  pub is : verbFrom s r ≡ said
-  pub within : VerbWithin s r
-
--- a line
-pub record Read (s : List ℕ) (r : LineRead) : Type 0 where
-  pub is : saidOf s r ≡ readLine s
-  pub within : LineWithin s r

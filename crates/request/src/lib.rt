@@ -10,10 +10,12 @@ use fields::RightsRead;
 use fields::Until;
 use fields::Version;
 use text::Place;
+ghost use mathlib.Core.Path.{_≡_};
 ghost use Prim.Native.Nat.{_≤_};
 ghost use lib.ListN.{length};
 ghost use Rattle.text.specs.Fields.{Split};
-ghost use Rattle.request.specs.Meaning.{Read};
+ghost use Rattle.request.specs.Meaning.{requestFrom};
+ghost use Rattle.request.specs.Grammar.{requestIn};
 
 // A key, by its place in the line, and a version of it.
 pub struct Name {
@@ -99,7 +101,7 @@ pub enum VerbRead {
 fn read_fields(line: &[u8], marks: &[usize]) -> LineRead
     requires { ⌜ Split (now line) (now marks) ⌝ }
     requires { ⌜ length (now line) ≤ 512 ⌝ }
-    ensures { λ r. ⌜ Read (now (line .entry)) r ⌝ }
+    ensures { λ r. ⌜ requestFrom r ≡ requestIn (now (line .entry)) ⌝ }
 {
     let DateRead::At(clock) = dates::read_date(text::field(line, marks, 0)) else {
         return LineRead::Unreadable;
@@ -119,7 +121,7 @@ fn read_fields(line: &[u8], marks: &[usize]) -> LineRead
 
 // A request line, without its line feed.
 pub fn read_line(line: &[u8]) -> LineRead
-    ensures { λ r. ⌜ Read (now (line .entry)) r ⌝ }
+    ensures { λ r. ⌜ requestFrom r ≡ requestIn (now (line .entry)) ⌝ }
 {
     if 512 < line.len() {
         return LineRead::Unreadable;

@@ -23,13 +23,13 @@ ghost use Prim.Native.Nat.{_<_};
 ghost use Rattle.text.specs.Fields.{fieldOf, Split};
 ghost use Rattle.text.specs.Numbers.{valueOf, numberOf};
 ghost use Rattle.request.specs.Grammar.{nameAt, retentionAt, termsAt, putOf, copyOf, retainOf, setHoldOf, deleteOf, defaultOf, ruleOf, sweepOf, getOf, otherByWord, verbByWord};
-ghost use Rattle.request.specs.Meaning.{retentionFrom, termsFrom, Named, Does};
+ghost use Rattle.request.specs.Meaning.{nameFrom, retentionFrom, termsFrom, verbFrom};
 
 // Key and version.
 fn read_name(line: &[u8], marks: &[usize], i: usize, j: usize) -> NameRead
     requires { ⌜ Split (now line) (now marks) ⌝ }
     requires { ⌜ (i < 9) × (j < 9) ⌝ }
-    ensures { λ r. ⌜ Named (now (line .entry)) (nameAt (now (line .entry)) i j) r ⌝ }
+    ensures { λ r. ⌜ nameFrom r ≡ nameAt (now (line .entry)) i j ⌝ }
 {
     let KeyRead::Is(key) = fields::read_key(line, marks, i) else {
         return NameRead::Bad;
@@ -81,7 +81,7 @@ fn read_terms(line: &[u8], marks: &[usize]) -> TermsRead
 // PUT key, body, length, mode, date, hold.
 fn read_put(line: &[u8], marks: &[usize]) -> VerbRead
     requires { ⌜ Split (now line) (now marks) ⌝ }
-    ensures { λ r. ⌜ Does (now (line .entry)) (putOf (now (line .entry))) r ⌝ }
+    ensures { λ r. ⌜ verbFrom r ≡ putOf (now (line .entry)) ⌝ }
 {
     if text::tabs(line, marks) != 8 {
         return VerbRead::Bad;
@@ -104,7 +104,7 @@ fn read_put(line: &[u8], marks: &[usize]) -> VerbRead
 // COPY source key, version, target key, mode, date, hold.
 fn read_copy(line: &[u8], marks: &[usize]) -> VerbRead
     requires { ⌜ Split (now line) (now marks) ⌝ }
-    ensures { λ r. ⌜ Does (now (line .entry)) (copyOf (now (line .entry))) r ⌝ }
+    ensures { λ r. ⌜ verbFrom r ≡ copyOf (now (line .entry)) ⌝ }
 {
     if text::tabs(line, marks) != 8 {
         return VerbRead::Bad;
@@ -124,7 +124,7 @@ fn read_copy(line: &[u8], marks: &[usize]) -> VerbRead
 // RETAIN key, version, mode, date, bypass.
 fn read_retain(line: &[u8], marks: &[usize]) -> VerbRead
     requires { ⌜ Split (now line) (now marks) ⌝ }
-    ensures { λ r. ⌜ Does (now (line .entry)) (retainOf (now (line .entry))) r ⌝ }
+    ensures { λ r. ⌜ verbFrom r ≡ retainOf (now (line .entry)) ⌝ }
 {
     if text::tabs(line, marks) != 7 {
         return VerbRead::Bad;
@@ -144,7 +144,7 @@ fn read_retain(line: &[u8], marks: &[usize]) -> VerbRead
 // HOLD key, version, ON or OFF.
 fn read_set_hold(line: &[u8], marks: &[usize]) -> VerbRead
     requires { ⌜ Split (now line) (now marks) ⌝ }
-    ensures { λ r. ⌜ Does (now (line .entry)) (setHoldOf (now (line .entry))) r ⌝ }
+    ensures { λ r. ⌜ verbFrom r ≡ setHoldOf (now (line .entry)) ⌝ }
 {
     if text::tabs(line, marks) != 5 {
         return VerbRead::Bad;
@@ -161,7 +161,7 @@ fn read_set_hold(line: &[u8], marks: &[usize]) -> VerbRead
 // DELETE key, version, bypass.
 fn read_delete(line: &[u8], marks: &[usize]) -> VerbRead
     requires { ⌜ Split (now line) (now marks) ⌝ }
-    ensures { λ r. ⌜ Does (now (line .entry)) (deleteOf (now (line .entry))) r ⌝ }
+    ensures { λ r. ⌜ verbFrom r ≡ deleteOf (now (line .entry)) ⌝ }
 {
     if text::tabs(line, marks) != 5 {
         return VerbRead::Bad;
@@ -184,7 +184,7 @@ fn read_delete(line: &[u8], marks: &[usize]) -> VerbRead
 // DEFAULT mode, period.
 fn read_default(line: &[u8], marks: &[usize]) -> VerbRead
     requires { ⌜ Split (now line) (now marks) ⌝ }
-    ensures { λ r. ⌜ Does (now (line .entry)) (defaultOf (now (line .entry))) r ⌝ }
+    ensures { λ r. ⌜ verbFrom r ≡ defaultOf (now (line .entry)) ⌝ }
 {
     if text::tabs(line, marks) != 4 {
         return VerbRead::Bad;
@@ -201,7 +201,7 @@ fn read_default(line: &[u8], marks: &[usize]) -> VerbRead
 // RULE number, prefix, current days, noncurrent days.
 fn read_rule(line: &[u8], marks: &[usize]) -> VerbRead
     requires { ⌜ Split (now line) (now marks) ⌝ }
-    ensures { λ r. ⌜ Does (now (line .entry)) (ruleOf (now (line .entry))) r ⌝ }
+    ensures { λ r. ⌜ verbFrom r ≡ ruleOf (now (line .entry)) ⌝ }
 {
     if text::tabs(line, marks) != 6 {
         return VerbRead::Bad;
@@ -224,7 +224,7 @@ fn read_rule(line: &[u8], marks: &[usize]) -> VerbRead
 // SWEEP.
 fn read_sweep(line: &[u8], marks: &[usize]) -> VerbRead
     requires { ⌜ Split (now line) (now marks) ⌝ }
-    ensures { λ r. ⌜ Does (now (line .entry)) (sweepOf (now (line .entry))) r ⌝ }
+    ensures { λ r. ⌜ verbFrom r ≡ sweepOf (now (line .entry)) ⌝ }
 {
     if text::tabs(line, marks) != 2 {
         return VerbRead::Bad;
@@ -235,7 +235,7 @@ fn read_sweep(line: &[u8], marks: &[usize]) -> VerbRead
 // GET key, version.
 fn read_get(line: &[u8], marks: &[usize]) -> VerbRead
     requires { ⌜ Split (now line) (now marks) ⌝ }
-    ensures { λ r. ⌜ Does (now (line .entry)) (getOf (now (line .entry))) r ⌝ }
+    ensures { λ r. ⌜ verbFrom r ≡ getOf (now (line .entry)) ⌝ }
 {
     if text::tabs(line, marks) != 4 {
         return VerbRead::Bad;
@@ -249,7 +249,7 @@ fn read_get(line: &[u8], marks: &[usize]) -> VerbRead
 // DEFAULT, RULE, SWEEP and GET by their word.
 fn read_other(word: &[u8], line: &[u8], marks: &[usize]) -> VerbRead
     requires { ⌜ Split (now line) (now marks) ⌝ }
-    ensures { λ r. ⌜ Does (now (line .entry)) (otherByWord (now (word .entry)) (now (line .entry))) r ⌝ }
+    ensures { λ r. ⌜ verbFrom r ≡ otherByWord (now (word .entry)) (now (line .entry)) ⌝ }
 {
     if text::is_word(word, b"DEFAULT") {
         return read_default(line, marks);
@@ -269,7 +269,7 @@ fn read_other(word: &[u8], line: &[u8], marks: &[usize]) -> VerbRead
 // The verb by its word.
 pub fn read_verb(word: &[u8], line: &[u8], marks: &[usize]) -> VerbRead
     requires { ⌜ Split (now line) (now marks) ⌝ }
-    ensures { λ r. ⌜ Does (now (line .entry)) (verbByWord (now (word .entry)) (now (line .entry))) r ⌝ }
+    ensures { λ r. ⌜ verbFrom r ≡ verbByWord (now (word .entry)) (now (line .entry)) ⌝ }
 {
     if text::is_word(word, b"PUT") {
         return read_put(line, marks);

@@ -1,20 +1,20 @@
 -- Refusals 2 to 6, by the definitions of the model.
-use Prim.Native.Nat.{ℕ, _≤_, max}
+use Prim.Native.Nat.{ℕ, max}
 use mathlib.Core.Path.{_≡_}
 use mathlib.Core.Bool.{Bool, true, _&&_}
-use mathlib.Core.List.{List, [], _∷_}
-use mathlib.Core.Option.{some}
-use lib.Dec.{ltb}
+use mathlib.Core.List.{List}
+use lib.Dec.{eqb, ltb}
 use Rattle.buffers.specs.Choices.{pick, thenSome, isSome}
 use Rattle.model.specs.Settings.{Config}
 use Rattle.model.specs.Requests as model
-use Rattle.model.specs.Refusals.{check, firstOf, halfGiven, lacksRight, pastDate}
+use Rattle.model.specs.Refusals.{firstOf, fieldChecks}
 use Rattle.fields.specs.declared.Rights.{Rights}
-use Rattle.fields.specs.Meaning.{modeMeans, holdMeans}
+use Rattle.fields.specs.Meaning.{modeMeans, holdMeans, rightsMeans}
 use Rattle.request.specs.declared.Terms.{Terms}
 use Rattle.request.specs.declared.Verb.{Verb}
-use Rattle.request.specs.Grammar.{readLine}
-use Rattle.request.specs.Meaning.{verbMeans, VerbInside}
+use Rattle.request.specs.declared.Request.{Request}
+use Rattle.request.specs.Grammar.{requestIn}
+use Rattle.request.specs.Meaning.{verbMeans}
 use Rattle.screen.specs.declared.Screened.{Screened}
 use Rattle.screen.specs.declared.Screened.the-variants.{Refused, Passed}
 
@@ -24,29 +24,30 @@ mayPut a t = a .w && (pick (isSome (modeMeans (t .retention .mode))) (a .t) true
 
 -- the first of 4, 5 and 6 that holds, or 0
 unfoldable pub screened : Config → model.Rights → ℕ → model.Verb → ℕ
-screened s who now v = firstOf (check 4 (halfGiven v) ∷ check 5 (lacksRight s who v) ∷ check 6 (pastDate now v) ∷ [])
+screened s who now v = firstOf (fieldChecks s who now v)
 
 -- ## A line
 
--- the first of 2 to 6 that holds, or 0
-unfoldable pub lineRefusal : Config → ℕ → List ℕ → ℕ → ℕ
-lineRefusal s time line room = pick (ltb room 256) 2 (thenSome (readLine line) 3 (λ q. screened s (q .who) (max time (q .clock)) (q .verb)))
+-- the first of 4, 5 and 6 that holds of a request, or 0
+abbrev pub requestRefusal : Config → ℕ → List ℕ → Request → ℕ
+requestRefusal s time line q = screened s (rightsMeans (q .rights)) (max time (q .clock)) (verbMeans line (q .verb))
 
--- One of them holds, whatever the settings.
-pub record Stops (time : ℕ) (line : List ℕ) (room n : ℕ) : Type 0 where
-  pub is : (s : Config) → n ≡ lineRefusal s time line room
-  pub not-0 : n ≡ 0 → ⊥
+-- a refusal, or where it is 0 the verb and its now
+abbrev pub screenedAs : ℕ → Verb → ℕ → Screened
+screenedAs n v now = pick (eqb n 0) (Passed v now) (Refused n)
 
--- None does: the line says this verb, and this is its now.
-pub record Passes (time : ℕ) (line : List ℕ) (room : ℕ) (v : Verb) (now : ℕ) : Type 0 where
-  pub room-fits : 256 ≤ room
-  pub clock : ℕ
-  pub who : model.Rights
-  pub says : readLine line ≡ some (record { clock = clock; who = who; verb = verbMeans line v })
-  pub inside : VerbInside line v
-  pub now-is : now ≡ max time clock
-  pub passes : (s : Config) → 0 ≡ screened s who now (verbMeans line v)
+-- what a line comes to by refusals 2 to 6
+unfoldable pub screenedLine : Config → ℕ → List ℕ → ℕ → Screened
+screenedLine s time line room =
+    pick (ltb room 256) (Refused 2)
+    (thenSome (requestIn line) (Refused 3) (λ q.
+    screenedAs (requestRefusal s time line q) (q .verb) (max time (q .clock))))
 
-abbrev pub Screens : ℕ → List ℕ → ℕ → Screened → Type 0
-Screens time line room (Refused n) = Stops time line room n
-Screens time line room (Passed v now) = Passes time line room v now
+-- its number in 01: the first of 2 to 6 that holds, or 0
+abbrev pub lineRefusal : Screened → ℕ
+lineRefusal (Refused n) = n
+lineRefusal (Passed v now) = 0
+
+-- the line comes to this, whatever the settings: no right depends on them
+pub record Screens (time : ℕ) (line : List ℕ) (room : ℕ) (r : Screened) : Type 0 where
+  pub is : (s : Config) → r ≡ screenedLine s time line room

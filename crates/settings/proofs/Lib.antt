@@ -2,4 +2,5 @@ pub mod Decoding
 pub mod Encoding
 pub mod Checking
 pub mod Storing
+pub mod Back
 pub mod RoundTrip

@@ -1,20 +1,13 @@
--- What the functions that make and change settings leave.
+-- Settings with a change, and the test of one rule.
 use Prim.Native.Nat.{ℕ}
-use mathlib.Core.Path.{_≡_}
-use mathlib.Core.Bool.{Bool, true, _&&_}
+use mathlib.Core.Bool.{Bool, _&&_}
 use lib.ListN.{set}
 use Rattle.blocks.specs.Blocks.{isBlock}
 use Rattle.model.specs.Settings as model
 use Rattle.model.specs.Effects.{stored}
 use Rattle.settings.specs.declared.Settings.{Settings}
 use Rattle.settings.specs.declared.Rule.{Rule}
-use Rattle.settings.specs.Meaning.{ruleMeans, rulesMean, settingsMean, prefixesAre, settingsSound}
-
--- the model's fresh settings, no row used, sound
-pub record Fresh (r : Settings) : Type 0 where
-  pub means : settingsMean r ≡ model.fresh .settings
-  pub unused : r .used ≡ 0
-  pub sound : settingsSound r ≡ true
+use Rattle.settings.specs.Meaning.{ruleMeans, ruleFrom}
 
 -- one rule by itself is sound
 abbrev pub ruleSound : Rule → Bool
@@ -30,18 +23,7 @@ abbrev pub withProgress : Settings → ℕ → ℕ → ℕ → Settings
 withProgress s time used next =
     record { time = time; used = used; next = next; mode = s .mode; count = s .count; unit = s .unit; rules = s .rules }
 
--- r stands for the stored rule, its prefix in 64 bytes
-pub record Stored (u : model.Rule) (r : Rule) : Type 0 where
-  pub means : ruleMeans r ≡ stored u
-  pub block : isBlock (r .prefix) ≡ true
-
--- r is s with the rule u stored at a place
-pub record WithRule (s : Settings) (place : ℕ) (u : model.Rule) (r : Settings) : Type 0 where
-  pub rules : rulesMean (r .rules) ≡ set (rulesMean (s .rules)) place (stored u)
-  pub prefixes : prefixesAre (s .rules) ≡ true → prefixesAre (r .rules) ≡ true
-  pub time : r .time ≡ s .time
-  pub used : r .used ≡ s .used
-  pub next : r .next ≡ s .next
-  pub mode : r .mode ≡ s .mode
-  pub count : r .count ≡ s .count
-  pub unit : r .unit ≡ s .unit
+-- another rule at a place
+abbrev pub withRule : Settings → ℕ → model.Rule → Settings
+withRule s place u =
+    record { time = s .time; used = s .used; next = s .next; mode = s .mode; count = s .count; unit = s .unit; rules = set (s .rules) place (ruleFrom (stored u)) }

@@ -7,8 +7,9 @@ ghost use lib.ListN.{length, take, drop};
 ghost use Rattle.buffers.specs.Words.{spelled};
 ghost use Rattle.buffers.specs.Writes.{Wrote};
 ghost use Rattle.model.specs.Settings.{soundDefault, soundRules};
-ghost use Rattle.settings.specs.Meaning.{rulesMean, prefixesAre, settingsSound};
-ghost use Rattle.settings.specs.Changes.{Fresh, ruleSound, withDefault, withProgress, Stored, WithRule};
+ghost use Rattle.model.specs.Effects.{stored};
+ghost use Rattle.settings.specs.Meaning.{rulesMean, ruleFrom, freshSettings, prefixesAre, settingsSound};
+ghost use Rattle.settings.specs.Changes.{ruleSound, withDefault, withProgress, withRule};
 ghost use Rattle.settings.specs.Bytes.{ruleAt, settingsOf, rulesBytes, settingsBytes};
 
 // The next version number that means spent.
@@ -140,7 +141,7 @@ pub fn encode(s: Settings, b: &mut [u8])
 
 // The settings of a bucket that no line has changed yet.
 pub fn fresh() -> Settings
-    ensures { λ r. ⌜ Fresh r ⌝ }
+    ensures { λ r. ⌜ r ≡ freshSettings ⌝ }
 {
     let rule = Rule {
         prefix: [0u8; 64],
@@ -218,7 +219,7 @@ pub fn with_default(s: Settings, mode: u64, count: u64, unit: u64) -> Settings
 // The rule as it is stored: where it has no action, all zero.
 fn stored_rule(prefix: &[u8], current: u64, noncurrent: u64) -> Rule
     requires { ⌜ length (now prefix) ≤ 63 ⌝ }
-    ensures { λ r. ⌜ Stored (record { prefix = now (prefix .entry); currentDays = current; noncurrentDays = noncurrent }) r ⌝ }
+    ensures { λ r. ⌜ r ≡ ruleFrom (stored (record { prefix = now (prefix .entry); currentDays = current; noncurrentDays = noncurrent })) ⌝ }
 {
     let mut block = [0u8; 64];
     if (current == 0) & (noncurrent == 0) {
@@ -245,7 +246,7 @@ pub fn with_rule(
     noncurrent: u64,
 ) -> Settings
     requires { ⌜ (place < 8) × (length (now prefix) ≤ 63) ⌝ }
-    ensures { λ r. ⌜ WithRule s place (record { prefix = now (prefix .entry); currentDays = current; noncurrentDays = noncurrent }) r ⌝ }
+    ensures { λ r. ⌜ r ≡ withRule s place (record { prefix = now (prefix .entry); currentDays = current; noncurrentDays = noncurrent }) ⌝ }
 {
     let rule = stored_rule(prefix, current, noncurrent);
     let mut r = s;

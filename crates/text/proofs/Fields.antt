@@ -11,7 +11,7 @@ use borrow.Author.Tests.{eq-eqb, ne-eqb, eqb-true, eqb-false}
 use Rattle.buffers.specs.Choices.{pick}
 use Rattle.buffers.proofs.Tests.{either}
 use Rattle.text.specs.declared.Place.{Place}
-use Rattle.text.specs.Fields.{onFirst, fields, fieldOf, tabAt, startOf, endOf, placeOf, partOf, Found}
+use Rattle.text.specs.Fields.{onFirst, fields, fieldOf, tabAt, startOf, endOf, placeOf, partOf}
 
 -- ## The first byte and its field
 
@@ -165,5 +165,11 @@ pub place-field : (s : List ℕ) (i : ℕ) → partOf s (placeOf s i) ≡ fieldO
 unfolding placeOf
 place-field s i = rw (← from-start s i) (first-taken (drop (startOf s i) s))
 
-pub field-found : (s : List ℕ) (i : ℕ) (p : Place) (t : List ℕ) → Found s i p → t ≡ partOf s p → t ≡ fieldOf s i
-field-found s i p t f e = e ∙ ap (λ (x : Place). partOf s x) (f .is) ∙ place-field s i
+module _ (s : List ℕ) (i : ℕ) (p : Place) (f : p ≡ placeOf s i) where
+  pub found-within : p .start + p .len ≤ length s
+  found-within = rw f (place-within s i)
+
+  pub found-field : (t : List ℕ) → t ≡ partOf s p → t ≡ fieldOf s i
+  found-field t e = e ∙ ap (λ (x : Place). partOf s x) f ∙ place-field s i
+
+pub ruleset found = (found-within, found-field)

@@ -10,9 +10,9 @@ use lib.Seq.{drop-cons, getD-set-same, getD-set-other}
 use borrow.Author.Tests.{eq-eqb, ne-eqb, ltb-true, ltb-false, eqb-true, eqb-false}
 use Rattle.buffers.proofs.Tests.{either}
 use Rattle.text.specs.declared.Place.{Place}
-use Rattle.text.specs.Fields.{fieldOf, tabsIn, startOf, endOf, marksOf, placeOf, Split, Found}
+use Rattle.text.specs.Fields.{fieldOf, tabsIn, startOf, endOf, marksOf, placeOf, Split}
 use Rattle.text.proofs.Scans.{next}
-use Rattle.text.proofs.Fields.{start-zero, end-tab, end-other, next-start, last-start, end-is, place-within}
+use Rattle.text.proofs.Fields.{start-zero, end-tab, end-other, next-start, last-start, end-is}
 
 -- ## The loop
 
@@ -204,16 +204,14 @@ module _ (s m : List ℕ) (k : Split s m) where
       pub start-before : a ≤ getD m i 0
       start-before = let e = end-marked i h in let d = end-is s i in omega arith
 
-      pub found : Found s i (record { start = a; len = getD m i 0 - a })
+      pub place-marked : _≡_ {A = Place} (record { start = a; len = getD m i 0 - a }) (placeOf s i)
       unfolding placeOf
-      found =
+      place-marked =
           let e = end-marked i h in
           let d = end-is s i in
           let l : getD m i 0 - a ≡ length (fieldOf s i) = omega arith in
-          let w : startOf s i + length (fieldOf s i) ≤ length s = place-within s i in
-          let p : _≡_ {A = Place} (record { start = a; len = getD m i 0 - a }) (placeOf s i) = rw (l, q) in
-          record { is = p; within = omega arith }
+          rw (l, q)
 
 pub ruleset starts = (start-first, start-behind, start-last)
 
-pub ruleset places = (start-before, found)
+pub ruleset places = (start-before, place-marked)

@@ -1,5 +1,5 @@
 -- The fields of a line, parted by tabs (0x09), and where they stand in it.
-use Prim.Native.Nat.{ℕ, zero, suc, _+_, _-_, _≤_}
+use Prim.Native.Nat.{ℕ, zero, suc, _+_, _-_}
 use mathlib.Core.Path.{_≡_}
 use mathlib.Core.List.{List, [], _∷_, _++_}
 use lib.Dec.{eqb}
@@ -63,8 +63,3 @@ partOf s p = take (p .len) (drop (p .start) s)
 pub record Split (s : List ℕ) (marks : List ℕ) : Type 0 where
   pub is : marks ≡ marksOf s
   pub long : length marks ≡ 10
-
--- the place of field i, which lies within the line
-pub record Found (s : List ℕ) (i : ℕ) (p : Place) : Type 0 where
-  pub is : p ≡ placeOf s i
-  pub within : p .start + p .len ≤ length s

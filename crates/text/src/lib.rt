@@ -6,7 +6,7 @@ ghost use Rattle.buffers.specs.Lists.{same, begins};
 ghost use Rattle.buffers.specs.Ranges.{Within};
 ghost use Rattle.buffers.specs.Writes.{Wrote};
 ghost use Rattle.text.specs.Numbers.{valueOf, isDigit, leadingZero, digitMore, digitsOf, numberOf, positiveOf};
-ghost use Rattle.text.specs.Fields.{tabsIn, startOf, fieldOf, partOf, Split, Found};
+ghost use Rattle.text.specs.Fields.{tabsIn, startOf, fieldOf, placeOf, partOf, Split};
 ghost use Rattle.text.specs.Lines.{feedAt};
 ghost use Rattle.text.specs.Keys.{isKeyByte, keyBytes, isPrefix, isKey, contains};
 ghost use Rattle.text.specs.Printing.{pairOf, digits};
@@ -117,7 +117,7 @@ pub fn line_length(rest: &[u8]) -> usize
 pub fn find_place(line: &[u8], marks: &[usize], i: usize) -> Place
     requires { ⌜ Split (now line) (now marks) ⌝ }
     requires { ⌜ i < 9 ⌝ }
-    ensures { λ r. ⌜ Found (now (line .entry)) i r ⌝ }
+    ensures { λ r. ⌜ r ≡ placeOf (now (line .entry)) i ⌝ }
 {
     let start = find_start(line, marks, i);
     let end = marks[i];

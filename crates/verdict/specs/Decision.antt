@@ -1,13 +1,13 @@
 -- What the definitions decide of a request on a bucket: the first refusal that holds, or the rows and the answer that the line leaves.
 use Prim.Native.Nat.{ℕ}
-use mathlib.Core.List.{List, [], _∷_, _++_}
+use mathlib.Core.List.{List, [], _∷_}
 use Rattle.buffers.specs.Choices.{pick}
 use Rattle.model.specs.Rows.{Row}
 use Rattle.model.specs.Settings.{Bucket}
 use Rattle.model.specs.Requests.{Verb, Request}
 use Rattle.model.specs.Time.{Now, nowOf}
 use Rattle.model.specs.Effects.{added, rowsAfter}
-use Rattle.model.specs.Refusals.{Check, fieldChecks, tableChecks}
+use Rattle.model.specs.Refusals.{Check, tableChecks, verbChecks}
 use Rattle.model.specs.Answers.{reply}
 use Rattle.answers.specs.Text.{answerText}
 
@@ -35,4 +35,4 @@ tableDecision c b now v = decide (tableChecks c b now v) (effect b now v)
 
 -- By refusals 4 to 12.
 abbrev pub decision : ℕ → Bucket → Request → Decision
-decision c b q = decide (fieldChecks b q ++ tableChecks c b (nowOf b (q .context)) (q .verb)) (effect b (nowOf b (q .context)) (q .verb))
+decision c b q = decide (verbChecks c b (nowOf b (q .context)) (q .context .who) (q .verb)) (effect b (nowOf b (q .context)) (q .verb))

@@ -1,5 +1,6 @@
 -- `read_key` meets its contract.
 use Rattle.fields.proofs.Readers.{part-yes, part-no}
+use Rattle.text.proofs.Fields.{found}
 use Rattle.text.specs.Keys.{isKey}
 use Rattle.fields.specs.Fields.{readKey}
 use borrow.Author.Needs.{needs}
@@ -12,7 +13,7 @@ read-key-spec =
     tie.close
     (tie.spec
     (λ c κs. search needs)
-    (λ c κs. search needs)
+    (λ c κs. search (needs, found))
     (λ c κs. search needs)
     (λ c. search (needs, part-yes isKey))
     (λ c. search (needs, part-no isKey)))

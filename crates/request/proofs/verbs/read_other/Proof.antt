@@ -1,5 +1,5 @@
 -- `read_other` meets its contract.
-use Rattle.request.proofs.Answers.{words}
+use Rattle.buffers.proofs.Choices.{tests}
 use Rattle.request.specs.Grammar.{otherByWord}
 use borrow.Author.Needs.{needs}
 use Rattle.request.proofs.verbs.read_other.Statement.{statement}
@@ -13,17 +13,17 @@ read-other-spec =
     (λ c. search needs)
     (λ c κs. search needs)
     (λ c κs. search needs)
-    (λ c. search words depth 16)
+    (λ c. search tests depth 16)
     (λ c. search needs)
     (λ c κs. search needs)
     (λ c κs. search needs)
-    (λ c. search words depth 16)
+    (λ c. search tests depth 16)
     (λ c. search needs)
     (λ c κs. search needs)
     (λ c κs. search needs)
-    (λ c. search words depth 16)
+    (λ c. search tests depth 16)
     (λ c. search needs)
     (λ c κs. search needs)
     (λ c κs. search needs)
-    (λ c. search words depth 16)
-    (λ c. search words depth 16))
+    (λ c. search tests depth 16)
+    (λ c. search tests depth 16))

@@ -1,5 +1,5 @@
 -- `read_verb` meets its contract.
-use Rattle.request.proofs.Answers.{words}
+use Rattle.buffers.proofs.Choices.{tests}
 use Rattle.request.specs.Grammar.{verbByWord}
 use borrow.Author.Needs.{needs}
 use Rattle.request.proofs.verbs.read_verb.Statement.{statement}
@@ -13,22 +13,22 @@ read-verb-spec =
     (λ c. search needs)
     (λ c κs. search needs)
     (λ c κs. search needs)
-    (λ c. search words depth 16)
+    (λ c. search tests depth 16)
     (λ c. search needs)
     (λ c κs. search needs)
     (λ c κs. search needs)
-    (λ c. search words depth 16)
+    (λ c. search tests depth 16)
     (λ c. search needs)
     (λ c κs. search needs)
     (λ c κs. search needs)
-    (λ c. search words depth 16)
+    (λ c. search tests depth 16)
     (λ c. search needs)
     (λ c κs. search needs)
     (λ c κs. search needs)
-    (λ c. search words depth 16)
+    (λ c. search tests depth 16)
     (λ c. search needs)
     (λ c κs. search needs)
     (λ c κs. search needs)
-    (λ c. search words depth 16)
+    (λ c. search tests depth 16)
     (λ c κs. search needs)
-    (λ c. search words depth 16))
+    (λ c. search tests depth 16))
