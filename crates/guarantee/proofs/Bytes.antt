@@ -25,7 +25,8 @@ use Rattle.knitpasture.specs.Bytes.{numbersFrom, ByteOutcome, byteOutcome, outc
 use Rattle.knitpasture.proofs.Hub.{reads-as, hub-hands-on, hub-range, hub-refused}
 use Rattle.knitpasture.proofs.Fits.{whole-fits}
 use Rattle.knitpasture.proofs.FreshBucket.{fresh-made, reads-fresh}
-use Rattle.guarantee.specs.Calls.{Lent, Call, held, freshLent, served, leaves, step, callEvent, callEvents}
+use Rattle.outcome.specs.Calls.{Lent, leaves}
+use Rattle.guarantee.specs.Calls.{Call, held, freshLent, served, step, callEvent, callEvents}
 use Rattle.guarantee.specs.Bytes.{Bytes, lentOf, Sized, servedBytes, leavesBytes, UnchangedBytes, AcceptedBytes, Demand1Bytes, Demand2Bytes, WrongLengths, freshened, freshBytes, FreshMade, byteStep, byteEvent, byteEvents, Demand3Bytes}
 use Rattle.guarantee.proofs.Demands.{demand-1, demand-2, number-is}
 use Rattle.guarantee.proofs.Runs.{Whole, whole-after}

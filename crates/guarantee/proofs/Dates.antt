@@ -25,7 +25,8 @@ use Rattle.answers.specs.Text.{answerText}
 use Rattle.request.specs.Grammar.{Said, readLine}
 use Rattle.outcome.specs.Outcome.{written}
 use Rattle.outcome.proofs.Demands.{accepted-of-whole}
-use Rattle.guarantee.specs.Calls.{Lent, Call, held, served}
+use Rattle.outcome.specs.Calls.{Lent}
+use Rattle.guarantee.specs.Calls.{Call, held, served}
 use Rattle.guarantee.specs.Promise.{DateReadsBack}
 use Rattle.guarantee.proofs.Demands.{accepts, number-is}
 

@@ -15,7 +15,8 @@ use Rattle.model.specs.Refusals.{Check, check, firstOf}
 use Rattle.request.specs.Grammar.{Said, readLine, asked}
 use Rattle.outcome.specs.Outcome.{refused, accepted, refusalOf}
 use Rattle.outcome.proofs.Demands.{refusal-range, refusal-first, refused-unchanged, unreadable-refused, accepted-line, outcome-number}
-use Rattle.guarantee.specs.Calls.{Lent, Call, served}
+use Rattle.outcome.specs.Calls.{Lent}
+use Rattle.guarantee.specs.Calls.{Call, served}
 use Rattle.guarantee.specs.Promise.{Hub, conditions, Unchanged, Accepted, Demand1, Demand2}
 
 -- ## The first condition that holds

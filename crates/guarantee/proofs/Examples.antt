@@ -40,7 +40,8 @@ use Rattle.answers.specs.Text.{fieldsText, okText, modeText, untilText, holdTex
 use Rattle.outcome.specs.Outcome.{Outcome, written, refusalOf, outcome}
 use Rattle.outcome.specs.Printed.{printed}
 use Rattle.knitpasture.specs.Bytes.{numbersFrom, numbersBytes, hubServed, keysFit, hubFresh}
-use Rattle.guarantee.specs.Calls.{Lent, Call, held, freshLent, served, step}
+use Rattle.outcome.specs.Calls.{Lent}
+use Rattle.guarantee.specs.Calls.{Call, held, freshLent, served, step}
 use Rattle.guarantee.specs.Lists.{ended, call, lineStep}
 use Rattle.guarantee.specs.Promise.{Hub, Demand1, Demand2}
 use Rattle.guarantee.specs.Bytes.{Bytes, lentOf, servedBytes, freshBytes, byteStep, byteEvents}

@@ -16,8 +16,8 @@ use Rattle.engine.specs.Served.{outcomeFrom}
 use Rattle.outcome.specs.Outcome.{Outcome, outcome}
 use Rattle.outcome.proofs.Demands.{unsound-refused}
 use Rattle.outcome.proofs.Kept.{outcome-whole}
-use Rattle.guarantee.specs.Calls.{leaves}
-use Rattle.guarantee.specs.Lists.{Ended, lent, ended, call, servedLines, Serving}
+use Rattle.outcome.specs.Calls.{lent, leaves}
+use Rattle.guarantee.specs.Lists.{Ended, ended, call, servedLines, Serving}
 use Rattle.guarantee.proofs.Demands.{unchanged}
 
 -- ## The loop over the lines

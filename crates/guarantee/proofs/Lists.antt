@@ -5,7 +5,8 @@ use mathlib.Core.List.{List, [], _∷_}
 use Rattle.text.specs.Lines.{linesOf}
 use Rattle.model.specs.Run.{left}
 use Rattle.model.specs.LockClause.{Kept}
-use Rattle.guarantee.specs.Calls.{Lent, held, freshLent, served, leaves, step, callEvents}
+use Rattle.outcome.specs.Calls.{Lent, leaves}
+use Rattle.guarantee.specs.Calls.{held, freshLent, served, step, callEvents}
 use Rattle.guarantee.specs.Lists.{call, servedLines, callsOf}
 use Rattle.guarantee.proofs.LockClause.{demand-3}
 

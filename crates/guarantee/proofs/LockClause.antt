@@ -11,7 +11,8 @@ use Rattle.blocks.specs.Blocks.{blockOf}
 use Rattle.model.specs.Run.{left}
 use Rattle.model.proofs.LockClause.{lock-clause}
 use Rattle.bucket.proofs.Whole.{fresh-whole}
-use Rattle.guarantee.specs.Calls.{Lent, Call, freshLent, served, leaves, step, isAccepted, acceptedCalls}
+use Rattle.outcome.specs.Calls.{Lent, leaves}
+use Rattle.guarantee.specs.Calls.{Call, freshLent, served, step, isAccepted, acceptedCalls}
 use Rattle.guarantee.specs.Promise.{Demand3}
 use Rattle.guarantee.proofs.Demands.{unchanged, number-is}
 use Rattle.guarantee.proofs.Runs.{Whole, linesIn, held-left, events-left}

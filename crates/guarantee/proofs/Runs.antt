@@ -20,7 +20,8 @@ use Rattle.bucket.specs.Whole.{whole}
 use Rattle.request.specs.Grammar.{lineOf, asked}
 use Rattle.outcome.specs.Outcome.{refusalOf}
 use Rattle.outcome.proofs.Kept.{model-refusal, accepted-bucket, accepted-capacity, outcome-whole}
-use Rattle.guarantee.specs.Calls.{Lent, Call, held, served, leaves, step, callEvent, callEvents, answersNumber}
+use Rattle.outcome.specs.Calls.{Lent, leaves}
+use Rattle.guarantee.specs.Calls.{Call, held, served, step, callEvent, callEvents, answersNumber}
 use Rattle.guarantee.specs.Promise.{Accepted}
 use Rattle.guarantee.proofs.Demands.{accepts, unchanged, number-is}
 use Rattle.guarantee.proofs.Answering.{answered-is}

@@ -15,7 +15,8 @@ use Rattle.settings.specs.Bytes.{settingsOf, settingsBytes}
 use Rattle.request.specs.Grammar.{Said, readLine, asked}
 use Rattle.outcome.specs.Outcome.{Outcome, accepted}
 use Rattle.knitpasture.specs.Bytes.{numbersFrom, numbersBytes, ByteOutcome, byteOutcome, hubServed, FreshOutcome, freshOutcome, hubFresh}
-use Rattle.guarantee.specs.Calls.{Lent, Call, held, freshLent, leaves, answersNumber}
+use Rattle.outcome.specs.Calls.{Lent, leaves}
+use Rattle.guarantee.specs.Calls.{Call, held, freshLent, answersNumber}
 use Rattle.guarantee.specs.Promise.{conditions}
 
 -- The bucket as bytes: settings, rows and keys.

@@ -10,18 +10,12 @@ use Rattle.model.specs.Settings.{Bucket}
 use Rattle.model.specs.Requests.{numbered, Verb, termsOf}
 use Rattle.model.specs.Answers.{made}
 use Rattle.model.specs.Run.{Event, gathered}
-use Rattle.settings.specs.declared.Settings.{Settings}
 use Rattle.settings.specs.Meaning.{freshSettings}
 use Rattle.bucket.specs.Whole.{bucketOf}
 use Rattle.request.specs.Grammar.{readLine, asked}
 use Rattle.answers.specs.Text.{answerText}
 use Rattle.outcome.specs.Outcome.{Outcome, outcome}
-
--- The bucket as it is lent: its settings, the numbers of its rows, and their key bytes.
-pub record Lent : Type 0 where
-  pub settings : Settings
-  pub numbers : List ℕ
-  pub keys : List ℕ
+use Rattle.outcome.specs.Calls.{Lent, leaves}
 
 -- A call: a line's bytes and an answer buffer, each of any contents and length.
 pub record Call : Type 0 where
@@ -41,10 +35,6 @@ freshLent c = record { settings = freshSettings; numbers = replicate (8 * c) 0; 
 -- What a call returns and leaves, which the contract of the engine's `serve` equates with what the code does.
 abbrev pub served : Lent → Call → Outcome
 served s l = outcome (s .settings) (s .numbers) (s .keys) (l .line) (l .answer)
-
--- What a call leaves of the bucket.
-abbrev pub leaves : Outcome → Lent
-leaves o = record { settings = o .settings; numbers = o .numbers; keys = o .keys }
 
 -- The bucket after a call.
 abbrev pub step : Lent → Call → Lent

@@ -8,15 +8,13 @@ use Rattle.text.specs.Lines.{linesOf}
 use Rattle.model.specs.Run.{left, gathered}
 use Rattle.settings.specs.declared.Settings.{Settings}
 use Rattle.bucket.specs.Whole.{whole}
-use Rattle.guarantee.specs.Calls.{Lent, Call, served, leaves}
+use Rattle.outcome.specs.Calls.{Lent, lent, leaves}
+use Rattle.guarantee.specs.Calls.{Call, served}
 
 -- What a list of lines leaves.
 pub record Ended : Type 0 where
   pub bucket : Lent
   pub answer : List ℕ
-
-abbrev pub lent : Settings → List ℕ → List ℕ → Lent
-lent s numbers keys = record { settings = s; numbers = numbers; keys = keys }
 
 abbrev pub ended : Lent → List ℕ → Ended
 ended s answer = record { bucket = s; answer = answer }

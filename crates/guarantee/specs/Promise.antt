@@ -19,7 +19,8 @@ use Rattle.table.specs.Layout.{capacity}
 use Rattle.bucket.specs.Whole.{whole}
 use Rattle.request.specs.Grammar.{Said, readLine, lineOf, asked}
 use Rattle.outcome.specs.Outcome.{Outcome, refused, accepted}
-use Rattle.guarantee.specs.Calls.{Lent, Call, held, freshLent, served, step, callEvents}
+use Rattle.outcome.specs.Calls.{Lent}
+use Rattle.guarantee.specs.Calls.{Call, held, freshLent, served, step, callEvents}
 
 -- What a hub returns and leaves, on any bucket as it is lent and for any call. The engine is `served`.
 abbrev pub Hub : Type 0

@@ -4,7 +4,8 @@ ghost use mathlib.Core.Path.{_≡_};
 ghost use mathlib.Core.Bool.{true};
 ghost use Rattle.text.specs.Lines.{linesOf};
 ghost use Rattle.bucket.specs.Whole.{whole};
-ghost use Rattle.guarantee.specs.Lists.{lent, ended, servedLines};
+ghost use Rattle.outcome.specs.Calls.{lent};
+ghost use Rattle.guarantee.specs.Lists.{ended, servedLines};
 
 // Serves each line of a text on a bucket that is whole.
 fn serve_each(

@@ -2,7 +2,8 @@
 use Prim.Native.Nat.{_+_, _-_}
 use lib.ListN.{length}
 use Rattle.text.specs.Lines.{linesOf}
-use Rattle.guarantee.specs.Lists.{lent, servedLines, Serving}
+use Rattle.outcome.specs.Calls.{lent}
+use Rattle.guarantee.specs.Lists.{servedLines, Serving}
 use Rattle.guarantee.proofs.Lines.{serving}
 use borrow.Author.Needs.{needs}
 use Rattle.guarantee.proofs.serve_each.Statement.{statement}
