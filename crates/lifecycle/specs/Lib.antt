@@ -3,3 +3,4 @@ pub mod Flat
 pub mod Fates
 pub mod Days
 pub mod Judging
+pub mod Examples
