@@ -14,14 +14,14 @@ struct bucket {
     uint8_t keys[CAPACITY * KNITPASTURE_KEY_BYTES];
 };
 
-/* Closes a file whatever it holds, and passes on whether all went well before. */
+/* Closes a file, and says whether all went well with it. */
 static int closed(int file, int well) {
     return close(file) == 0 && well;
 }
 
-/* Has what was written to a folder or a file reach the disk. */
-static int synced(const char *path) {
-    int file = open(path, O_RDONLY);
+/* Has the names in a folder reach the disk. */
+static int synced(const char *folder) {
+    int file = open(folder, O_RDONLY);
     return file >= 0 && closed(file, fsync(file) == 0);
 }
 

@@ -22,7 +22,7 @@ unfoldable pub numbersBytes : List ℕ → List ℕ
 numbersBytes [] = []
 numbersBytes (n ∷ ns) = spelled 8 n ++ numbersBytes ns
 
--- Settings of 688 bytes, and rows that spell whole numbers, at most those of 1024 rows, give the one; other lengths the other. Whether rows and keys fit one c is told where they are used.
+-- The settings are 688 bytes, and the rows whole numbers, at most those of 1024 rows; else a length is wrong. Whether rows and keys fit one c the outcome tells.
 abbrev pub spelling : {A : Type 0} → List ℕ → List ℕ → A → A → A
 spelling settings rows served wrong =
     pick (eqb (length settings) 688)

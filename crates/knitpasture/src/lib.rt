@@ -55,7 +55,7 @@ fn few_numbers() -> [u64; 512]
 }
 
 // Room for the numbers of the largest table.
-fn no_numbers() -> [u64; 8192]
+fn many_numbers() -> [u64; 8192]
     ensures { λ r. ⌜ length r ≡ 8192 ⌝ }
 {
     [0u64; 8192]
@@ -133,7 +133,7 @@ pub extern "C" fn knitpasture_serve(
         let mut few = few_numbers();
         return serve_spelled(settings, rows, keys, line, answer, &mut few[0..n]);
     }
-    let mut numbers = no_numbers();
+    let mut numbers = many_numbers();
     serve_spelled(settings, rows, keys, line, answer, &mut numbers[0..n])
 }
 
@@ -163,7 +163,7 @@ pub extern "C" fn knitpasture_key(settings: &[u8], rows: &[u8], keys: &[u8], at:
         return 0;
     }
     let n = rows.len() / 8;
-    let mut numbers = no_numbers();
+    let mut numbers = many_numbers();
     key_length(settings, rows, keys, at, &mut numbers[0..n])
 }
 

@@ -60,6 +60,10 @@ fn main() -> ExitCode {
         println!("numbers that never came: {:?}", tally.missing());
         return ExitCode::FAILURE;
     }
+    if !tally.idle().is_empty() || tally.keys == 0 {
+        println!("entries that served no line: {:?}; {} keys", tally.idle(), tally.keys);
+        return ExitCode::FAILURE;
+    }
     println!("no difference");
     ExitCode::SUCCESS
 }

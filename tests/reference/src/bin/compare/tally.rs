@@ -37,6 +37,16 @@ impl Tally {
         (0..NUMBERS).filter(|&number| self.counts.iter().all(|row| row[number] == 0)).collect()
     }
 
+    /// The entries that never served a line.
+    pub fn idle(&self) -> Vec<&str> {
+        ENTRIES
+            .iter()
+            .zip(&self.entries)
+            .filter(|(_, &count)| count == 0)
+            .map(|((name, _), _)| *name)
+            .collect()
+    }
+
     pub fn print(&self) {
         println!("{} lists, {} lines", self.lists, self.lines);
         for ((name, _), count) in ENTRIES.iter().zip(&self.entries) {
