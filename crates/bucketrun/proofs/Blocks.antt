@@ -1,5 +1,5 @@
 -- Laws of reading: what stands in the input before, between and after blocks.
-use Prim.Native.Nat.{ℕ, suc, _+_, _*_, _-_, _≤_, _<_, min}
+use Prim.Native.Nat.{ℕ, zero, suc, _+_, _*_, _-_, _≤_, _<_, min}
 use mathlib.Core.Path.{_≡_, refl, sym, _∙_, ap}
 use mathlib.Core.Bool.{Bool, true, false, not}
 use mathlib.Core.Logic.{inl, inr}
@@ -8,7 +8,7 @@ use native.Mathlib.Omega.{arith}
 use native.Mathlib.Numerals.{add-one}
 use lib.Dec.{ltb}
 use lib.ListN.{length, take, drop, set, replicate, length-append, length-take, length-drop, length-replicate, length-set, take-append-drop}
-use lib.Seq.{length-take-le, take-take, take-all, take-at, take-add, take-append-le, take-suc-set}
+use lib.Seq.{length-take-le, take-take, take-all, take-at, take-add, take-append-le, take-suc-set, take-set-le}
 use borrow.Author.Tests.{ltb-true, ltb-false}
 use borrow.Rule.Slice.PartMut.{midOf, putMid, take-put, same-len-mid}
 use Rattle.buffers.specs.Ranges.{Within, Span}
@@ -22,21 +22,53 @@ use Rattle.bucket.specs.Whole.{whole}
 use Rattle.bucket.proofs.Whole.{fresh-whole}
 use Rattle.outcome.specs.Calls.{Lent, lent}
 use Rattle.bucketrun.specs.declared.Block.{Block}
+use Rattle.bucketrun.specs.declared.Came.{Came}
 use Rattle.bucketrun.specs.declared.Rest.{Rest}
-use Rattle.bucketrun.specs.Program.{leftBy, endOf, endedLines, begunLine, Waiting, waiting, afterBlock, afterBlocks, joined}
-use Rattle.bucketrun.specs.Course.{Servable, Through, ServedAll, CameBehind, Begun, TookBlock, Ending, EndsIn, Startable, BetweenBlocks, Ran}
-use Rattle.bucketrun.proofs.Lines.{end-most, rest-none, none-take, end-last, line-last}
+use Rattle.bucketrun.specs.Program.{leftBy, endOf, endedLines, begunLine, Waiting, waiting, afterBlock, afterBlocks, closed, joined}
+use Rattle.bucketrun.specs.Course.{Servable, Through, ServedAll, CameBehind, Begun, TookBlock, Startable, BetweenBlocks, Ran}
+use Rattle.bucketrun.proofs.Lines.{end-most, rest-none, none-take, closed-some, closed-lines}
 use Rattle.bucketrun.proofs.Cutting.{blocks-left}
 
 -- ## Reading and keeping
 
-pub came-behind : (input : List ℕ) (kept : ℕ) (ys : List ℕ) (k : ℕ) → kept < length input → length ys ≡ length (midOf kept (length input - kept) input) → k ≤ length (take (length (putMid kept (length input - kept) input ys) - kept) (drop kept (putMid kept (length input - kept) input ys)))
-    → CameBehind input kept (putMid kept (length input - kept) input ys) (kept + k)
-came-behind input kept ys k h l m =
-    let e = same-len-mid kept (length input - kept) input ys l in
-    let t = length-take (length (putMid kept (length input - kept) input ys) - kept) (drop kept (putMid kept (length input - kept) input ys)) in
-    let d = length-drop kept (putMid kept (length input - kept) input ys) in
-    record { span = record { from = omega arith; to = omega arith }; stays = take-put kept (length input - kept) input ys (omega arith) }
+nonzero : (n : ℕ) → (n ≡ 0 → ⊥) → 0 < n
+nonzero zero q = absurd (q refl)
+nonzero (suc n) q = omega arith
+
+module _ (input : List ℕ) (kept : ℕ) (ys : List ℕ) (h : kept < length input) (l : length ys ≡ length (midOf kept (length input - kept) input)) where
+  filled-long : length (putMid kept (length input - kept) input ys) ≡ length input
+  filled-long = same-len-mid kept (length input - kept) input ys l
+
+  filled-stays : take kept (putMid kept (length input - kept) input ys) ≡ take kept input
+  filled-stays = take-put kept (length input - kept) input ys (omega arith)
+
+  pub came-more : (k : ℕ) → k ≤ length (take (length (putMid kept (length input - kept) input ys) - kept) (drop kept (putMid kept (length input - kept) input ys)))
+      → CameBehind input kept (putMid kept (length input - kept) input ys) (record { end = kept + k; over = false })
+  came-more k m =
+      let e = filled-long in
+      let t = length-take (length (putMid kept (length input - kept) input ys) - kept) (drop kept (putMid kept (length input - kept) input ys)) in
+      let d = length-drop kept (putMid kept (length input - kept) input ys) in
+      record { span = record { from = omega arith; to = omega arith }; stays = filled-stays; ends = λ x. absurd (clash false x refl) }
+
+  pub came-none : kept ≡ 0 → CameBehind input kept (putMid kept (length input - kept) input ys) (record { end = 0; over = true })
+  came-none e =
+      record { span = record { from = omega arith; to = omega arith }; stays = filled-stays; ends = λ x. sym (ap (λ (k : ℕ). closed (take k input)) e) }
+
+  pub came-end : (kept ≡ 0 → ⊥) → CameBehind input kept (set (putMid kept (length input - kept) input ys) kept 10) (record { end = kept + 1; over = true })
+  came-end q =
+      let e = filled-long in
+      let t = length-take-le kept input (omega arith) in
+      let n = nonzero kept q in
+      record {
+        span = record { from = omega arith; to = omega arith };
+        stays = take-set-le kept (putMid kept (length input - kept) input ys) kept 10 (omega arith) ∙ filled-stays;
+        ends =
+            λ x. rw add-one (take-suc-set (putMid kept (length input - kept) input ys) kept 10 (omega arith))
+            ∙ ap (λ (u : List ℕ). u ++ 10 ∷ []) filled-stays
+            ∙ sym (closed-some (take kept input) (omega arith));
+      }
+
+pub ruleset read-cases = (came-more, came-none, came-end)
 
 kept-moved : (input : List ℕ) (from to : ℕ) (ys : List ℕ) → ys ≡ movedDown from (midOf 0 (to - 0) input) → putMid 0 (to - 0) input ys ≡ movedDown from (take to input) ++ drop to input
 kept-moved input from to ys e = let z : to - 0 ≡ to = omega arith in rw (e, z)
@@ -87,35 +119,6 @@ module _ (h : Lent) (input : List ℕ) (end : ℕ) (l : end ≤ length input) (r
           ap (λ (x : Lent). waiting x (take k input′)) (block-served .through .leads ∙ ap (λ (j : ℕ). leftBy h (linesOf (take j (take end input)))) a)
           ∙ ap (waiting (leftBy h (endedLines (take end input)))) (kept-begun input end input′ k l f)
 
--- ## The end of the input
-
--- A line feed is put behind the line that has begun.
-fed : (input : List ℕ) (kept : ℕ) → kept < length input → take (kept + 1) (set input kept 10) ≡ take kept input ++ 10 ∷ []
-fed input kept h = rw add-one (take-suc-set input kept 10 h)
-
-pub feed-inside : (input : List ℕ) (kept : ℕ) → Ending input kept → kept + 1 ≤ length (set input kept 10)
-feed-inside input kept a = rw length-set (omega (arith, a .room))
-
-pub rest-none-kept : (s : Settings) (n b : List ℕ) (input : List ℕ) (kept : ℕ) → kept ≡ 0 → EndsIn true (lent s n b) (take kept input) n b
-rest-none-kept s n b input kept e = record { settings = s; is = λ x. rw e }
-
-pub rest-served : (h : Lent) (input : List ℕ) (kept : ℕ) (r : Block) (n′ b′ : List ℕ) → Ending input kept → (kept ≡ 0 → ⊥) → ServedAll h (midOf 0 (kept + 1 - 0) (set input kept 10)) r n′ b′ → EndsIn (r .told) h (take kept input) n′ b′
-rest-served h input kept r n′ b′ a q d =
-    let z : kept + 1 - 0 ≡ kept + 1 = omega arith in
-    let t : midOf 0 (kept + 1 - 0) (set input kept 10) ≡ take kept input ++ 10 ∷ [] = rw z (fed input kept (a .room)) in
-    let e : ServedAll h (take kept input ++ 10 ∷ []) r n′ b′ = rw t at d in
-    let l = length-take-le kept input (omega (arith, a .room)) in
-    record {
-      settings = r .settings;
-      is =
-          λ x. e .through .leads
-          ∙ ap (λ (j : ℕ). leftBy h (linesOf (take j (take kept input ++ 10 ∷ [])))) (e .all x ∙ end-last (take kept input))
-          ∙ ap (λ (t : List ℕ). leftBy h (linesOf t)) (take-all (length (take kept input ++ 10 ∷ [])) (take kept input ++ 10 ∷ []) (omega arith))
-          ∙ ap (leftBy h) (line-last (take kept input) (a .no-feed) (omega arith));
-    }
-
-pub ruleset rest-cases = (rest-none-kept, rest-served)
-
 -- ## The run
 
 -- A bucket of zeros is fresh.
@@ -163,41 +166,39 @@ module _ (h : Lent) (input₀ n₀ b₀ out₀ : List ℕ) (s : Settings) (input
   pub read-room : kept < length input
   read-room = omega (arith, g .few, g .input-long)
 
-  module _ (filled : List ℕ) (end : ℕ) (c : CameBehind input kept filled end) (lf : length filled ≡ length input) where
-    -- The text up to `end` is what was kept, and what came.
-    came : take end filled ≡ take kept input ++ take (end - kept) (drop kept filled)
-    came =
-        let z : end ≡ kept + (end - kept) = omega (arith, c .span .from) in
-        ap (λ (j : ℕ). take j filled) z ∙ take-add kept (end - kept) filled ∙ ap (λ (t : List ℕ). t ++ take (end - kept) (drop kept filled)) (c .stays)
-
-    pub end-ending : Ending filled kept
-    end-ending = record { room = omega (arith, read-room); no-feed = ap (λ (t : List ℕ). contains t 10) (c .stays) ∙ g .no-feed }
-
-    pub run-ends : (told : Bool) (n′ b′ : List ℕ) → EndsIn told (lent s n b) (take kept filled) n′ b′ → Ran told h n′ b′
-    run-ends told n′ b′ d =
+  module _ (filled : List ℕ) (a : Came) (c : CameBehind input kept filled a) (r : Rest) (input′ n′ b′ : List ℕ) (d : TookBlock (lent s n b) (take (a .end) filled) r n′ b′ input′) where
+    pub run-ends : a .over ≡ true → Ran (r .told) h n′ b′
+    run-ends e =
         record {
           blocks = g .blocks;
-          settings = d .settings;
+          settings = r .settings;
           is =
-              λ x. d .is x ∙ ap (λ (t : List ℕ). leftBy (lent s n b) (linesOf t)) (c .stays)
+              λ t. ap (λ (w : Waiting). w .bucket) (d .takes t)
+              ∙ ap (leftBy (lent s n b)) (ap endedLines (c .ends e) ∙ closed-lines (take kept input) (g .no-feed))
               ∙ ap (λ (w : Waiting). leftBy (w .bucket) (linesOf (w .begun))) (g .leads)
               ∙ blocks-left h [] (g .blocks);
         }
 
-    pub next-block : (r : Rest) (input′ n′ b′ out′ : List ℕ) → TookBlock (lent s n b) (take end filled) r n′ b′ input′ → not (r .told) ≡ false
+    -- The text up to its end is what was kept, and what came.
+    came : take (a .end) filled ≡ take kept input ++ take (a .end - kept) (drop kept filled)
+    came =
+        let z : a .end ≡ kept + (a .end - kept) = omega (arith, c .span .from) in
+        ap (λ (j : ℕ). take j filled) z ∙ take-add kept (a .end - kept) filled ∙ ap (λ (t : List ℕ). t ++ take (a .end - kept) (drop kept filled)) (c .stays)
+
+    pub next-block : (out′ : List ℕ) → not (r .told) ≡ false → length filled ≡ length input
         → length input′ ≡ length filled → length n′ ≡ length n → length b′ ≡ length b → length out′ ≡ length out
         → BetweenBlocks h input₀ n₀ b₀ out₀ (r .settings) input′ n′ b′ out′ (r .kept)
-    next-block r input′ n′ b′ out′ d t li ln lb lo =
-        let a : waiting (lent (r .settings) n′ b′) (take (r .kept) input′) ≡ afterBlock (waiting (lent s n b) []) (take end filled) = d .takes (was-told (r .told) t) in
+    next-block out′ t lf li ln lb lo =
+        let q : waiting (lent (r .settings) n′ b′) (take (r .kept) input′) ≡ afterBlock (waiting (lent s n b) []) (take (a .end) filled) = d .takes (was-told (r .told) t) in
         record {
-          blocks = g .blocks ++ take (end - kept) (drop kept filled) ∷ [];
+          blocks = g .blocks ++ take (a .end - kept) (drop kept filled) ∷ [];
           leads =
-              a ∙ ap (afterBlock (waiting (lent s n b) [])) came
-              ∙ ap (λ (w : Waiting). afterBlock w (take (end - kept) (drop kept filled))) (g .leads)
-              ∙ sym (after-more (waiting h []) (g .blocks) (take (end - kept) (drop kept filled)));
+              q ∙ ap (afterBlock (waiting (lent s n b) [])) came
+              ∙ ap (λ (w : Waiting). afterBlock w (take (a .end - kept) (drop kept filled))) (g .leads)
+              ∙ sym (after-more (waiting h []) (g .blocks) (take (a .end - kept) (drop kept filled)));
           servable = record { is-whole = d .is-whole; long = lo ∙ g .servable .long };
           few = d .few;
-          no-feed = ap (λ (w : Waiting). contains (w .begun) 10) a ∙ none-take 513 (drop (endOf (take end filled)) (take end filled)) (rest-none (take end filled));
+          no-feed = ap (λ (w : Waiting). contains (w .begun) 10) q ∙ none-take 513 (drop (endOf (take (a .end) filled)) (take (a .end) filled)) (rest-none (take (a .end) filled));
           input-long = li ∙ lf ∙ g .input-long;
           input-same = li ∙ lf ∙ g .input-same;
           numbers-same = ln ∙ g .numbers-same;

@@ -7,13 +7,13 @@ use mathlib.Core.List.{List, [], _∷_, _++_, append-nil}
 use native.Mathlib.Omega.{arith}
 use lib.Dec.{eqb}
 use lib.ListN.{length, take, drop, length-append}
-use lib.Seq.{take-append-add, drop-append-add}
+use lib.Seq.{take-length, take-append-add, drop-append-add}
 use Rattle.buffers.proofs.Tests.{either, clash, or-none}
 use Rattle.text.specs.Fields.{onFirst}
 use Rattle.text.specs.Lines.{linesOf, feedAt}
 use Rattle.text.specs.Keys.{contains}
 use Rattle.text.proofs.Lines.{lines-next}
-use Rattle.bucketrun.specs.Program.{endOf, endedLines}
+use Rattle.bucketrun.specs.Program.{endOf, endedLines, closed}
 
 -- ## Texts without a line feed
 
@@ -172,10 +172,21 @@ some-last (b ∷ s) =
       | inr t ↦ rw t (some-last s)
     ]
 
-pub end-last : (s : List ℕ) → endOf (s ++ 10 ∷ []) ≡ length (s ++ 10 ∷ [])
+end-last : (s : List ℕ) → endOf (s ++ 10 ∷ []) ≡ length (s ++ 10 ∷ [])
 end-last [] = refl
 end-last (b ∷ s) = rw (some-last (b ∷ s)) (ap suc (end-last s))
 
 -- A line feed ends it.
-pub line-last : (s : List ℕ) → contains s 10 ≡ false → 0 < length s → linesOf (s ++ 10 ∷ []) ≡ linesOf s
+line-last : (s : List ℕ) → contains s 10 ≡ false → 0 < length s → linesOf (s ++ 10 ∷ []) ≡ linesOf s
 line-last s e h = lines-begun s (10 ∷ []) e h ∙ sym (lines-begun s [] e h) ∙ ap linesOf (append-nil s)
+
+pub closed-some : (s : List ℕ) → 0 < length s → closed s ≡ s ++ 10 ∷ []
+closed-some [] h = absurd (omega arith)
+closed-some (b ∷ s) h = refl
+
+pub closed-lines : (s : List ℕ) → contains s 10 ≡ false → endedLines (closed s) ≡ linesOf s
+closed-lines [] e = refl
+closed-lines (b ∷ s) e =
+    ap (λ (k : ℕ). linesOf (take k (b ∷ s ++ 10 ∷ []))) (end-last (b ∷ s))
+    ∙ ap linesOf (take-length (b ∷ s ++ 10 ∷ []))
+    ∙ line-last (b ∷ s) e (omega arith)

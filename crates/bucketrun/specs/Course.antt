@@ -14,8 +14,9 @@ use Rattle.bucket.specs.Whole.{whole}
 use Rattle.outcome.specs.Calls.{Lent, lent}
 use Rattle.bucketrun.specs.declared.Course.{Course as After}
 use Rattle.bucketrun.specs.declared.Block.{Block}
+use Rattle.bucketrun.specs.declared.Came.{Came}
 use Rattle.bucketrun.specs.declared.Rest.{Rest}
-use Rattle.bucketrun.specs.Program.{leftBy, printedBy, endOf, Waiting, waiting, afterBlock, afterBlocks, joined}
+use Rattle.bucketrun.specs.Program.{leftBy, printedBy, endOf, Waiting, waiting, afterBlock, afterBlocks, closed, joined}
 
 -- ## The lines of a block
 
@@ -63,10 +64,11 @@ pub record BetweenParts (h : Lent) (block numbers₀ keys₀ out₀ : List ℕ) 
 
 -- ## The blocks
 
--- Bytes came behind the first `kept`, which stay.
-pub record CameBehind (input : List ℕ) (kept : ℕ) (exit : List ℕ) (r : ℕ) : Type 0 where
-  pub span : Span kept r (length input)
+-- Bytes came behind the first `kept`, which stay; at the input's end a line feed did, if any are kept.
+pub record CameBehind (input : List ℕ) (kept : ℕ) (exit : List ℕ) (r : Came) : Type 0 where
+  pub span : Span kept (r .end) (length input)
   pub stays : take kept exit ≡ take kept input
+  pub ends : r .over ≡ true → take (r .end) exit ≡ closed (take kept input)
 
 -- The bytes between two places are at the front, and 513 of them, or all, are kept.
 pub record Begun (input : List ℕ) (from to : ℕ) (exit : List ℕ) (r : ℕ) : Type 0 where
@@ -78,16 +80,6 @@ pub record TookBlock (h : Lent) (block : List ℕ) (r : Rest) (numbers keys inpu
   pub is-whole : whole (r .settings) numbers keys ≡ true
   pub few : r .kept ≤ 513
   pub takes : r .told ≡ true → waiting (lent (r .settings) numbers keys) (take (r .kept) input′) ≡ afterBlock (waiting h []) block
-
--- A line feed may be put behind the line that has begun.
-pub record Ending (input : List ℕ) (kept : ℕ) : Type 0 where
-  pub room : kept < length input
-  pub no-feed : contains (take kept input) 10 ≡ false
-
--- Where all output is written, the bucket is what the last line leaves, if there is one.
-pub record EndsIn (told : Bool) (h : Lent) (begun numbers keys : List ℕ) : Type 0 where
-  pub settings : Settings
-  pub is : told ≡ true → lent settings numbers keys ≡ leftBy h (linesOf begun)
 
 -- A run may start.
 pub record Startable (s : Settings) (input numbers keys out : List ℕ) : Type 0 where

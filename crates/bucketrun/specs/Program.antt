@@ -60,6 +60,11 @@ abbrev pub afterBlocks : Waiting → List (List ℕ) → Waiting
 afterBlocks w [] = w
 afterBlocks w (x ∷ xs) = afterBlocks (afterBlock w x) xs
 
+-- at the input's end a line feed ends the line that has begun, if there is one
+abbrev pub closed : List ℕ → List ℕ
+closed [] = []
+closed (b ∷ s) = b ∷ s ++ 10 ∷ []
+
 -- What blocks print as they are read; at the input's end what is kept is a line.
 abbrev pub printedBlocks : Waiting → List (List ℕ) → List ℕ
 printedBlocks w [] = printedBy (w .bucket) (linesOf (w .begun))

@@ -12,7 +12,7 @@ ghost use Rattle.buffers.specs.Ranges.{Span};
 ghost use Rattle.buffers.specs.Writes.{Wrote};
 ghost use Rattle.outcome.specs.Calls.{lent};
 ghost use Rattle.outcome.specs.Printed.{printed};
-ghost use Rattle.bucketrun.specs.Course.{Servable, ServedSome, ServedAll, CameBehind, Begun, TookBlock, Ending, EndsIn, Startable, Ran};
+ghost use Rattle.bucketrun.specs.Course.{Servable, ServedSome, ServedAll, CameBehind, Begun, TookBlock, Startable, Ran};
 
 // The length of the answer buffer; no more output than that waits when a line comes.
 const ROOM: usize = 65536;
@@ -32,6 +32,12 @@ pub struct Block {
     pub settings: Settings,
     pub served: usize,
     pub told: bool,
+}
+
+// After a read: the place behind the bytes that are there, and whether the input has ended.
+pub struct Came {
+    pub end: usize,
+    pub over: bool,
 }
 
 // Before the next block: the settings, how many bytes at the input's front are kept, and whether all output is written.
@@ -117,13 +123,27 @@ fn serve_all(block: &[u8], s: Settings, rows: &mut [u64], keys: &mut [u8], out: 
     }
 }
 
-// Reads behind the bytes that are kept, and returns the place after what came; at the input's end nothing comes.
-fn read_behind(input: &mut [u8], kept: usize) -> usize
+// Reads behind the bytes that are kept; at the input's end nothing comes, and a line feed ends what is kept, if that is anything.
+fn read_behind(input: &mut [u8], kept: usize) -> Came
     requires { ⌜ kept < length (now input) ⌝ }
     ensures { λ r. ⌜ CameBehind (now (input .entry)) kept (now (input .exit)) r ⌝ }
 {
     let got = libc::read(STDIN_FILENO, &mut input[kept..]);
-    kept + io::count(got, &input[kept..])
+    let count = io::count(got, &input[kept..]);
+    if count > 0 {
+        return Came {
+            end: kept + count,
+            over: false,
+        };
+    }
+    if kept == 0 {
+        return Came { end: 0, over: true };
+    }
+    input[kept] = b'\n';
+    Came {
+        end: kept + 1,
+        over: true,
+    }
 }
 
 // Moves the bytes from `from` to `to` to the front, and returns how many of them a line needs.
@@ -162,28 +182,6 @@ fn serve_block(
     }
 }
 
-// At the input's end a line feed ends the line that has begun, if there is one. Returns whether all output is written.
-fn serve_rest(
-    s: Settings,
-    input: &mut [u8],
-    rows: &mut [u64],
-    keys: &mut [u8],
-    out: &mut [u8],
-    kept: usize,
-) -> bool
-    requires { ⌜ Servable s (now rows) (now keys) (now out) ⌝ }
-    requires { ⌜ Ending (now input) kept ⌝ }
-    ensures { λ r. ⌜ EndsIn r (lent s (now (rows .entry)) (now (keys .entry))) (take kept (now (input .entry))) (now (rows .exit)) (now (keys .exit)) ⌝ }
-{
-    if kept == 0 {
-        return true;
-    }
-    input[kept] = b'\n';
-    let end = kept + 1;
-    let r = serve_all(&input[0..end], s, rows, keys, out);
-    r.told
-}
-
 // Serves the input block by block, and returns whether all output is written.
 // Nothing says that the input ends, and a proved loop has to: it counts down from a number that no run uses up.
 fn run(s: Settings, input: &mut [u8], rows: &mut [u64], keys: &mut [u8], out: &mut [u8]) -> bool
@@ -194,11 +192,11 @@ fn run(s: Settings, input: &mut [u8], rows: &mut [u64], keys: &mut [u8], out: &m
     let mut kept = 0;
     let mut turns = u64::MAX;
     while turns > 0 {
-        let end = read_behind(input, kept);
-        if end == kept {
-            return serve_rest(after, input, rows, keys, out, kept);
+        let came = read_behind(input, kept);
+        let rest = serve_block(input, came.end, after, rows, keys, out);
+        if came.over {
+            return rest.told;
         }
-        let rest = serve_block(input, end, after, rows, keys, out);
         if !rest.told {
             return false;
         }

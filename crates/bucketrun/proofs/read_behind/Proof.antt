@@ -1,5 +1,5 @@
 -- `read_behind` meets its contract.
-use Rattle.bucketrun.proofs.Blocks.{came-behind}
+use Rattle.bucketrun.proofs.Blocks.{read-cases}
 use borrow.Author.Needs.{needs}
 use Rattle.bucketrun.proofs.read_behind.Statement.{statement}
 use Rattle.bucketrun.proofs.read_behind.Tie as tie
@@ -18,4 +18,10 @@ read-behind-spec =
     (λ c κs. search needs)
     (λ c. search needs)
     (λ c. search needs)
-    (λ c. search (needs, came-behind)))
+    (λ c. search (needs, read-cases))
+    (λ c. search needs)
+    (λ c. search (needs, read-cases))
+    (λ c. search needs)
+    (λ c. search needs)
+    (λ c. search needs)
+    (λ c. search (needs, read-cases)))

@@ -1,7 +1,7 @@
 -- `run` meets its contract.
 use Rattle.outcome.specs.Calls.{lent}
 use Rattle.bucketrun.specs.Course.{BetweenBlocks}
-use Rattle.bucketrun.proofs.Blocks.{first-block, read-room, end-ending, run-ends, next-block, run-stopped}
+use Rattle.bucketrun.proofs.Blocks.{first-block, read-room, run-ends, next-block, run-stopped}
 use borrow.Author.Needs.{needs}
 use Rattle.bucketrun.proofs.run.Statement.{statement}
 use Rattle.bucketrun.proofs.run.Tie as tie
@@ -21,13 +21,12 @@ run-spec =
     μ-loop
     (λ c. search (needs, first-block))
     (λ c κs. search (needs, read-room))
-    (λ c κs. search (needs, end-ending))
+    (λ c κs. search needs)
     (λ c. search needs)
     (λ c. search needs)
     (λ c. search needs)
     (λ c. search needs)
     (λ c. search (needs, run-ends))
-    (λ c κs. search needs)
     (λ c. search needs)
     (λ c. search needs)
     (λ c. search needs)
