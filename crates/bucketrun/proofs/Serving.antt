@@ -152,19 +152,24 @@ module _ (s : Settings) (n b line out n′ b′ p : List ℕ) (at : ℕ) (r : Se
 
 -- ## Between two lines
 
-pub first-line : (s : Settings) (n b out block : List ℕ) → Servable s n b out → BetweenLines (lent s n b) block n b out s n b out 0 0
-first-line s n b out block a =
+pub first-line : (s : Settings) (n b out block : List ℕ) (from : ℕ) → from ≤ length block → Servable s n b out → BetweenLines (lent s n b) block from n b out s n b out 0 from
+first-line s n b out block from l a =
+    let z : from - from ≡ 0 = omega arith in
     record {
-      through = through-none (lent s n b) block s n b (a .is-whole);
-      prints = record { next = refl; holds = refl; long = refl; most = omega arith };
-      inside = omega arith;
+      through = rw z (through-none (lent s n b) (drop from block) s n b (a .is-whole));
+      prints = rw z (record { next = refl; holds = refl; long = refl; most = omega arith });
+      span = record { from = omega arith; to = l };
       long = a .long;
       numbers-same = refl;
       keys-same = refl;
       out-same = refl;
     }
 
-module _ (h : Lent) (block n₀ b₀ out₀ : List ℕ) (s : Settings) (n b out : List ℕ) (at i : ℕ) (g : BetweenLines h block n₀ b₀ out₀ s n b out at i) where
+module _ (h : Lent) (block : List ℕ) (from : ℕ) (n₀ b₀ out₀ : List ℕ) (s : Settings) (n b out : List ℕ) (at i : ℕ) (g : BetweenLines h block from n₀ b₀ out₀ s n b out at i) where
+  -- The bytes that are not served yet.
+  left-is : drop i block ≡ drop (i - from) (drop from block)
+  left-is = let z : i ≡ from + (i - from) = omega (arith, g .span .from) in ap (λ (j : ℕ). drop j block) z ∙ sym (drop-drop (i - from) from block)
+
   pub line-room : at ≤ 65536 → at + 65536 ≤ length out
   line-room m = omega (arith, g .long)
 
@@ -192,26 +197,31 @@ module _ (h : Lent) (block n₀ b₀ out₀ : List ℕ) (s : Settings) (n b out 
           cut = rw f (end-first (drop i block) (rw (← f) inside));
         }
 
+    next-through : Through (lent s n b) (drop (i - from) (drop from block)) (suc k) (r .settings) n′ b′
+    next-through = rw left-is at line-through
+
     line-prints : (out′ : List ℕ) (j : ℕ) → Wrote (putMid at 65536 out p) at (printed (r .number) (take (r .len) (drop at (putMid at 65536 out p)))) 65536 out′ j
-        → Wrote out₀ 0 (printedBy h (linesOf (take (i + suc k) block))) 131072 out′ j
+        → Wrote out₀ 0 (printedBy h (linesOf (take (i - from + suc k) (drop from block)))) 131072 out′ j
     line-prints out′ j v =
         let w = line-wrote s n b (take k (drop i block)) out n′ b′ p at r m (g .long) q lp len-most out′ j v in
-        let x = wrote-both out₀ 0 (printedBy h (linesOf (take i block))) 131072 out at (printedOf (servedLine (lent s n b) (take k (drop i block)))) 65536 out′ j (omega arith) (g .prints) w in
-        let e : printedBy h (linesOf (take i block)) ++ printedOf (servedLine (lent s n b) (take k (drop i block))) ≡ printedBy h (linesOf (take (i + suc k) block)) =
-        ap (λ (t : List ℕ). printedBy h (linesOf (take i block)) ++ t) (sym (append-nil (printedOf (servedLine (lent s n b) (take k (drop i block))))))
-        ∙ sym (ap (λ (ls : List (List ℕ)). printedBy h (linesOf (take i block)) ++ printedBy (lent s n b) ls) line-is)
-        ∙ sym (printed-both h block i (suc k) s n b (g .through) (r .settings) n′ b′ line-through) in
+        let x = wrote-both out₀ 0 (printedBy h (linesOf (take (i - from) (drop from block)))) 131072 out at (printedOf (servedLine (lent s n b) (take k (drop i block)))) 65536 out′ j (omega arith) (g .prints) w in
+        let e : printedBy h (linesOf (take (i - from) (drop from block))) ++ printedOf (servedLine (lent s n b) (take k (drop i block))) ≡ printedBy h (linesOf (take (i - from + suc k) (drop from block))) =
+        ap (λ (t : List ℕ). printedBy h (linesOf (take (i - from) (drop from block))) ++ t) (sym (append-nil (printedOf (servedLine (lent s n b) (take k (drop i block))))))
+        ∙ sym (ap (λ (ls : List (List ℕ)). printedBy h (linesOf (take (i - from) (drop from block))) ++ printedBy (lent s n b) ls) line-is)
+        ∙ ap (λ (u : List ℕ). printedBy h (linesOf (take (i - from) (drop from block))) ++ printedBy (lent s n b) (linesOf (take (suc k) u))) left-is
+        ∙ sym (printed-both h (drop from block) (i - from) (suc k) s n b (g .through) (r .settings) n′ b′ next-through) in
         record { next = x .next ∙ ap (λ (t : List ℕ). 0 + length t) e; holds = x .holds ∙ ap (placed out₀ 0) e; long = x .long; most = omega (arith, w .most) }
 
     line-next : (out′ : List ℕ) (j : ℕ) → Wrote (putMid at 65536 out p) at (printed (r .number) (take (r .len) (drop at (putMid at 65536 out p)))) 65536 out′ j
-        → length n′ ≡ length n → length b′ ≡ length b → BetweenLines h block n₀ b₀ out₀ (r .settings) n′ b′ out′ j (i + suc k)
+        → length n′ ≡ length n → length b′ ≡ length b → BetweenLines h block from n₀ b₀ out₀ (r .settings) n′ b′ out′ j (i + k + 1)
     line-next out′ j v ln lb =
+        let u : i + k + 1 - from ≡ i - from + suc k = omega (arith, g .span .from) in
         let x = line-prints out′ j v in
         let lo : length out′ ≡ length out = x .long ∙ sym (g .out-same) in
         record {
-          through = through-both h block i (suc k) s n b (g .through) (r .settings) n′ b′ line-through;
-          prints = x;
-          inside = omega arith;
+          through = rw u (through-both h (drop from block) (i - from) (suc k) s n b (g .through) (r .settings) n′ b′ next-through);
+          prints = rw u x;
+          span = record { from = omega (arith, g .span .from); to = omega arith };
           long = lo ∙ g .long;
           numbers-same = ln ∙ g .numbers-same;
           keys-same = lb ∙ g .keys-same;
@@ -222,25 +232,25 @@ module _ (h : Lent) (block n₀ b₀ out₀ : List ℕ) (s : Settings) (n b out 
   pub next-line : (k : ℕ) (r : Served) (n′ b′ p : List ℕ) → at ≤ 65536 → outcomeFrom r n′ b′ p ≡ outcome s n b (take (i + k - i) (drop i block)) (midOf at (at + 65536 - at) out)
       → length p ≡ length (midOf at (at + 65536 - at) out) → (out′ : List ℕ) (j : ℕ) → Within k (feedAt (take (length block - i) (drop i block))) (length (take (length block - i) (drop i block))) → i + k < length block
       → Wrote (putMid at (at + 65536 - at) out p) at (printed (r .number) (take (r .len) (drop at (putMid at (at + 65536 - at) out p)))) 65536 out′ j → length n′ ≡ length n → length b′ ≡ length b
-      → BetweenLines h block n₀ b₀ out₀ (r .settings) n′ b′ out′ j (i + k + 1)
+      → BetweenLines h block from n₀ b₀ out₀ (r .settings) n′ b′ out′ j (i + k + 1)
   next-line k r n′ b′ p m q lp out′ j e z v ln lb =
       let f : k ≡ feedAt (drop i block) = rw (rest-all i block) at (e .is) in
       let d : i + k - i ≡ k = omega arith in
       let c : at + 65536 - at ≡ 65536 = omega arith in
-      let u : i + k + 1 ≡ i + suc k = omega arith in
-      rw u (line-next k r n′ b′ p m (rw (d, c) at q) (lp ∙ ap length (room-part out at) ∙ room-wide out at m (g .long)) f z out′ j (rw c at v) ln lb)
+      line-next k r n′ b′ p m (rw (d, c) at q) (lp ∙ ap length (room-part out at) ∙ room-wide out at m (g .long)) f z out′ j (rw c at v) ln lb
 
   -- No line feed is left.
   pub lines-done : (k : ℕ) → Within k (feedAt (take (length block - i) (drop i block))) (length (take (length block - i) (drop i block))) → length block ≤ i + k
-      → ServedSome h block out₀ (record { settings = s; at = at; served = i }) n b out
+      → ServedSome h block from out₀ (record { settings = s; at = at; served = i }) n b out
   lines-done k e q =
-      let f : k ≡ feedAt (drop i block) = rw (rest-all i block) at (e .is) in
-      let x : k ≤ length (drop i block) = rw (rest-all i block) at (e .most) in
-      record { through = g .through; prints = g .prints; all = λ y. through-all h block i s n b (g .through) (omega arith) (omega arith) }
+      let f : k ≡ feedAt (drop (i - from) (drop from block)) = rw left-is at (rw (rest-all i block) at (e .is)) in
+      let x : k ≤ length (drop (i - from) (drop from block)) = rw left-is at (rw (rest-all i block) at (e .most)) in
+      let l = length-drop from block in
+      record { span = g .span; through = g .through; prints = g .prints; all = λ y. through-all h (drop from block) (i - from) s n b (g .through) (omega (arith, g .span .from)) (omega arith) }
 
   -- An answer might not fit.
-  pub lines-stopped : 65536 < at → ServedSome h block out₀ (record { settings = s; at = at; served = i }) n b out
-  lines-stopped q = record { through = g .through; prints = g .prints; all = λ y. absurd (omega (arith, q, y)) }
+  pub lines-stopped : 65536 < at → ServedSome h block from out₀ (record { settings = s; at = at; served = i }) n b out
+  lines-stopped q = record { span = g .span; through = g .through; prints = g .prints; all = λ y. absurd (omega (arith, q, y)) }
 
 -- ## Between two parts
 
@@ -263,30 +273,27 @@ module _ (h : Lent) (block n₀ b₀ out₀ : List ℕ) (s : Settings) (n b out 
   pub part-servable : Servable s n b out
   part-servable = record { is-whole = g .through .is-whole; long = g .long }
 
-  module _ (r : After) (n′ b′ out′ : List ℕ) (d : ServedSome (lent s n b) (take (length block - i) (drop i block)) out r n′ b′ out′) where
-    rest-served : ServedSome (lent s n b) (drop i block) out r n′ b′ out′
-    rest-served = rw (rest-all i block) at d
-
-    pub part-inside : i + r .served ≤ length block
-    part-inside = let x = rest-served .through .inside in let l = length-drop i block in omega (arith, g .inside)
+  module _ (r : After) (n′ b′ out′ : List ℕ) (d : ServedSome (lent s n b) block i out r n′ b′ out′) where
+    on : i + (r .served - i) ≡ r .served
+    on = omega (arith, d .span .from)
 
     pub part-written : r .at ≤ length out′
     part-written = omega (arith, d .prints .most, d .prints .long, g .long)
 
-    part-through : Through h block (i + r .served) (r .settings) n′ b′
-    part-through = through-both h block i (r .served) s n b (g .through) (r .settings) n′ b′ (rest-served .through)
+    part-through : Through h block (r .served) (r .settings) n′ b′
+    part-through = rw on at (through-both h block i (r .served - i) s n b (g .through) (r .settings) n′ b′ (d .through))
 
     -- Where output waits, a line was served.
-    pub part-less : 65536 < r .at → length block - (i + r .served) < length block - i
+    pub part-less : 65536 < r .at → length block - r .served < length block - i
     part-less q =
-        let x = some-served (lent s n b) (drop i block) (r .served) (omega (arith, rest-served .prints .next)) in
-        omega (arith, part-inside)
+        let x = some-served (lent s n b) (drop i block) (r .served - i) (omega (arith, d .prints .next)) in
+        omega (arith, d .span .to)
 
-    pub part-next : length n′ ≡ length n → length b′ ≡ length b → length out′ ≡ length out → BetweenParts h block n₀ b₀ out₀ (r .settings) n′ b′ out′ (i + r .served)
+    pub part-next : length n′ ≡ length n → length b′ ≡ length b → length out′ ≡ length out → BetweenParts h block n₀ b₀ out₀ (r .settings) n′ b′ out′ (r .served)
     part-next ln lb lo =
         record {
           through = part-through;
-          inside = part-inside;
+          inside = omega (arith, d .span .to);
           long = lo ∙ g .long;
           numbers-same = ln ∙ g .numbers-same;
           keys-same = lb ∙ g .keys-same;
@@ -294,12 +301,12 @@ module _ (h : Lent) (block n₀ b₀ out₀ : List ℕ) (s : Settings) (n b out 
         }
 
     -- Nobody takes the output.
-    pub parts-stopped : ServedAll h block (record { settings = r .settings; served = i + r .served; told = false }) n′ b′
+    pub parts-stopped : ServedAll h block (record { settings = r .settings; served = r .served; told = false }) n′ b′
     parts-stopped = record { through = part-through; all = λ x. absurd (clash false x refl) }
 
-    pub parts-done : r .at ≤ 65536 → ServedAll h block (record { settings = r .settings; served = i + r .served; told = true }) n′ b′
+    pub parts-done : r .at ≤ 65536 → ServedAll h block (record { settings = r .settings; served = r .served; told = true }) n′ b′
     parts-done q =
         let t = length-take-le i block (g .inside) in
         let e = end-append (take i block) (drop i block) (g .through .cut ∙ sym t) in
-        let x = rest-served .all q in
-        record { through = part-through; all = λ y. omega (arith, ap endOf (take-append-drop i block)) }
+        let x = d .all q in
+        record { through = part-through; all = λ y. omega (arith, on, ap endOf (take-append-drop i block)) }

@@ -32,17 +32,18 @@ pub record Through (h : Lent) (block : List ℕ) (i : ℕ) (s : Settings) (numbe
   pub inside : i ≤ length block
   pub cut : endOf (take i block) ≡ i
 
--- Some lines are served, and what they print stands at the output's start; where there is room for more, they are all that a line feed ends.
-pub record ServedSome (h : Lent) (block out : List ℕ) (r : After) (numbers keys out′ : List ℕ) : Type 0 where
-  pub through : Through h block (r .served) (r .settings) numbers keys
-  pub prints : Wrote out 0 (printedBy h (linesOf (take (r .served) block))) 131072 out′ (r .at)
-  pub all : r .at ≤ 65536 → r .served ≡ endOf block
+-- Some lines from a place on are served, and what they print stands at the output's start; where there is room for more, they are all that a line feed ends.
+pub record ServedSome (h : Lent) (block : List ℕ) (from : ℕ) (out : List ℕ) (r : After) (numbers keys out′ : List ℕ) : Type 0 where
+  pub span : Span from (r .served) (length block)
+  pub through : Through h (drop from block) (r .served - from) (r .settings) numbers keys
+  pub prints : Wrote out 0 (printedBy h (linesOf (take (r .served - from) (drop from block)))) 131072 out′ (r .at)
+  pub all : r .at ≤ 65536 → r .served - from ≡ endOf (drop from block)
 
 -- Between two of them; the lists with ₀ are those that came.
-pub record BetweenLines (h : Lent) (block numbers₀ keys₀ out₀ : List ℕ) (s : Settings) (numbers keys out : List ℕ) (at i : ℕ) : Type 0 where
-  pub through : Through h block i s numbers keys
-  pub prints : Wrote out₀ 0 (printedBy h (linesOf (take i block))) 131072 out at
-  pub inside : i ≤ length block
+pub record BetweenLines (h : Lent) (block : List ℕ) (from : ℕ) (numbers₀ keys₀ out₀ : List ℕ) (s : Settings) (numbers keys out : List ℕ) (at i : ℕ) : Type 0 where
+  pub through : Through h (drop from block) (i - from) s numbers keys
+  pub prints : Wrote out₀ 0 (printedBy h (linesOf (take (i - from) (drop from block)))) 131072 out at
+  pub span : Span from i (length block)
   pub long : length out ≡ 131072
   pub numbers-same : length numbers ≡ length numbers₀
   pub keys-same : length keys ≡ length keys₀

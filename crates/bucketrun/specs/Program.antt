@@ -1,9 +1,10 @@
 -- 01, program `bucketrun`: what lines print, and what input prints that is read block by block.
 use Prim.Native.Nat.{ℕ, suc}
-use mathlib.Core.Path.{_≡_}
+use mathlib.Core.Path.{_≡_, refl}
 use mathlib.Core.List.{List, [], _∷_, _++_}
 use lib.ListN.{take, drop, replicate}
 use Rattle.buffers.specs.Choices.{pick}
+use Rattle.buffers.specs.Texts.{bytes}
 use Rattle.text.specs.Lines.{linesOf}
 use Rattle.text.specs.Keys.{contains}
 use Rattle.outcome.specs.Outcome.{Outcome, outcome}
@@ -77,3 +78,7 @@ joined (x ∷ xs) = x ++ joined xs
 -- However the input is cut into blocks, it prints what its lines print.
 abbrev pub CutAnywhere : Type 0
 CutAnywhere = (h : Lent) (blocks : List (List ℕ)) → printedBlocks (waiting h []) blocks ≡ printedBy h (linesOf (joined blocks))
+
+-- `x`, then `y`, two line feeds and `z`: the lines `xy` and the empty one have ended, and `z` has begun.
+pub cut-inside : (h : Lent) → afterBlocks (waiting h []) (bytes "x" ∷ bytes "y\n\nz" ∷ []) ≡ waiting (leftBy h (bytes "xy" ∷ [] ∷ [])) (bytes "z")
+cut-inside h = refl

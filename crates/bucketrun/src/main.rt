@@ -20,7 +20,7 @@ const ROOM: usize = 65536;
 // A line of more bytes than this is read as this many: it is refusal 3 whatever it holds.
 const LONGEST: usize = 513;
 
-// After lines of a block: the settings, how many bytes of output wait, and how many of the block are served.
+// After lines of a block: the settings, how many bytes of output wait, and the place behind the lines.
 pub struct Course {
     pub settings: Settings,
     pub at: usize,
@@ -61,20 +61,22 @@ fn print(out: &mut [u8], at: usize, number: u64, len: usize) -> usize
     buffers::copy_in(out, after_number, b"\n")
 }
 
-// Serves lines that end in the block, until none is left or an answer might not fit behind the output that waits.
+// Serves lines of the block from a place on, until none is left that a line feed ends or an answer might not fit behind the output that waits.
 fn serve_some(
     block: &[u8],
+    from: usize,
     s: Settings,
     rows: &mut [u64],
     keys: &mut [u8],
     out: &mut [u8],
 ) -> Course
+    requires { ⌜ from ≤ length (now block) ⌝ }
     requires { ⌜ Servable s (now rows) (now keys) (now out) ⌝ }
-    ensures { λ r. ⌜ ServedSome (lent s (now (rows .entry)) (now (keys .entry))) (now (block .entry)) (now (out .entry)) r (now (rows .exit)) (now (keys .exit)) (now (out .exit)) ⌝ }
+    ensures { λ r. ⌜ ServedSome (lent s (now (rows .entry)) (now (keys .entry))) (now (block .entry)) from (now (out .entry)) r (now (rows .exit)) (now (keys .exit)) (now (out .exit)) ⌝ }
 {
     let mut after = s;
     let mut at = 0;
-    let mut i = 0;
+    let mut i = from;
     while at <= ROOM {
         let end = i + text::line_length(&block[i..]);
         if block.len() <= end {
@@ -102,9 +104,9 @@ fn serve_all(block: &[u8], s: Settings, rows: &mut [u64], keys: &mut [u8], out: 
     let mut after = s;
     let mut i = 0;
     loop {
-        let r = serve_some(&block[i..], after, rows, keys, out);
+        let r = serve_some(block, i, after, rows, keys, out);
         after = r.settings;
-        i += r.served;
+        i = r.served;
         let at = r.at;
         if !io::write_all(STDOUT_FILENO, &out[0..at]) {
             return Block {

@@ -3,7 +3,7 @@ use Prim.Native.Nat.{_-_}
 use lib.ListN.{length}
 use Rattle.outcome.specs.Calls.{lent}
 use Rattle.bucketrun.specs.Course.{BetweenParts}
-use Rattle.bucketrun.proofs.Serving.{first-part, part-servable, part-inside, part-written, part-less, part-next, parts-stopped, parts-done}
+use Rattle.bucketrun.proofs.Serving.{first-part, part-servable, part-written, part-less, part-next, parts-stopped, parts-done}
 use borrow.Author.Needs.{needs}
 use Rattle.bucketrun.proofs.serve_all.Statement.{statement}
 use Rattle.bucketrun.proofs.serve_all.Tie as tie
@@ -21,11 +21,7 @@ serve-all-spec =
     Inv-loop
     μ-loop
     (λ c. search (needs, first-part))
-    (λ c. search needs)
-    (λ c. search needs)
-    (λ c. search needs)
     (λ c κs. search (needs, part-servable))
-    (λ c. search needs)
     (λ c. search needs)
     (λ c. search needs)
     (λ c. search (needs, part-written))

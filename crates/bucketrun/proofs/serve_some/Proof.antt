@@ -9,10 +9,10 @@ use Rattle.bucketrun.proofs.serve_some.Statement.{statement}
 use Rattle.bucketrun.proofs.serve_some.Tie as tie
 
 abbrev Inv-loop : tie.InvT-loop
-Inv-loop block rows₀ keys₀ out₀ after₀ at₀ i₀ rows keys out after at i = BetweenLines (lent after₀ rows₀ keys₀) block rows₀ keys₀ out₀ after rows keys out at i
+Inv-loop block from rows₀ keys₀ out₀ after₀ at₀ i₀ rows keys out after at i = BetweenLines (lent after₀ rows₀ keys₀) block from rows₀ keys₀ out₀ after rows keys out at i
 
 abbrev μ-loop : tie.MeasureT-loop
-μ-loop block rows₀ keys₀ out₀ after₀ at₀ i₀ rows keys out after at i = length block + 1 - i
+μ-loop block from rows₀ keys₀ out₀ after₀ at₀ i₀ rows keys out after at i = length block + 1 - i
 
 pub serve-some-spec : {M : Type 1} → statement M
 serve-some-spec =
