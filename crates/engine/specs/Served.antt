@@ -14,7 +14,7 @@ use Rattle.request.specs.declared.Verb as request
 use Rattle.screen.specs.Screen.{Passes}
 use Rattle.answers.specs.declared.Answer.the-variants.{Done}
 use Rattle.answers.specs.Meaning.{textOf}
-use Rattle.verdict.specs.declared.State.{State}
+use Rattle.locks.specs.declared.State.{State}
 use Rattle.outcome.specs.Outcome.{settingsFrom, Outcome, refused}
 use Rattle.configure.specs.Configured.{Configured}
 use Rattle.perform.specs.declared.Step.{Step}

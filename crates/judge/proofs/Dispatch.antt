@@ -13,8 +13,8 @@ use Rattle.request.specs.declared.Action.{Action}
 use Rattle.request.specs.declared.Action.the-variants as action
 use Rattle.fields.specs.Meaning.{Inside}
 use Rattle.request.specs.Meaning.{actionMeans, ActionInside}
-use Rattle.verdict.specs.declared.State.{State}
-use Rattle.verdict.specs.declared.Verdict.{Verdict}
+use Rattle.locks.specs.declared.State.{State}
+use Rattle.judge.specs.declared.Verdict.{Verdict}
 use Rattle.judge.specs.Premises.{Asked, JudgesBy, JudgesOn}
 
 -- ## What is asked

@@ -1,3 +1,4 @@
 pub mod Outcome
+pub mod Decision
 pub mod Steps
 pub mod Printed

@@ -12,5 +12,4 @@ judge-get-spec =
     (λ c. search needs)
     (λ c. search needs)
     (λ c us fs. search (needs, data-ways))
-    (λ c us fs. search (needs, data-ways))
     (λ c us fs. search (needs, data-ways)))

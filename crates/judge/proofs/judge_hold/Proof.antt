@@ -11,7 +11,6 @@ judge-hold-spec =
     (λ c κs. search needs)
     (λ c. search needs)
     (λ c. search needs)
-    (λ c us fs. search (needs, data-ways))
-    (λ c us fs. search (needs, data-ways))
     (λ c κs. search needs)
+    (λ c us fs. search (needs, data-ways))
     (λ c us fs. search (needs, data-ways)))
