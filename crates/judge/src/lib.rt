@@ -214,7 +214,7 @@ fn judge_retain(
     bypass: bool,
     instant: u64,
 ) -> Verdict
-    requires { ⌜ Asked s (now rows) (now keys) instant (model.Retain (nameMeans (now line) name) (retentionMeans retention) «bypass») ⌝ }
+    requires { ⌜ Ready s (now rows) (now keys) ⌝ }
     requires { ⌜ Inside (now line) (name .key) ⌝ }
     ensures { λ r. ⌜ JudgesOn s (now (rows .entry)) (now (keys .entry)) (now (line .entry)) instant (model.Retain (nameMeans (now (line .entry)) name) (retentionMeans retention) «bypass») r ⌝ }
 {
@@ -232,19 +232,11 @@ fn judge_retain(
     }
 }
 
-// HOLD, at every instant alike: `instant` stands for the contract, which is of the line's now.
-fn judge_hold(
-    rows: &[u64],
-    keys: &[u8],
-    line: &[u8],
-    s: State,
-    name: Name,
-    on: bool,
-    instant: u64,
-) -> Verdict
-    requires { ⌜ Asked s (now rows) (now keys) instant (model.Hold (nameMeans (now line) name) «on») ⌝ }
+// HOLD, at every instant alike.
+fn judge_hold(rows: &[u64], keys: &[u8], line: &[u8], s: State, name: Name, on: bool) -> Verdict
+    requires { ⌜ Ready s (now rows) (now keys) ⌝ }
     requires { ⌜ Inside (now line) (name .key) ⌝ }
-    ensures { λ r. ⌜ JudgesOn s (now (rows .entry)) (now (keys .entry)) (now (line .entry)) instant (model.Hold (nameMeans (now (line .entry)) name) «on») r ⌝ }
+    ensures { λ r. ⌜ ((instant : ℕ) → JudgesOn s (now (rows .entry)) (now (keys .entry)) (now (line .entry)) instant (model.Hold (nameMeans (now (line .entry)) name) «on») r) ⌝ }
 {
     match lookup::data_named(rows, keys, line, s, name) {
         Named::Refused(refusal) => Verdict::Refused(refusal),
@@ -256,10 +248,10 @@ fn judge_hold(
 }
 
 // GET, at every instant alike.
-fn judge_get(rows: &[u64], keys: &[u8], line: &[u8], s: State, name: Name, instant: u64) -> Verdict
-    requires { ⌜ Asked s (now rows) (now keys) instant (model.Ask (model.Get (nameMeans (now line) name))) ⌝ }
+fn judge_get(rows: &[u64], keys: &[u8], line: &[u8], s: State, name: Name) -> Verdict
+    requires { ⌜ Ready s (now rows) (now keys) ⌝ }
     requires { ⌜ Inside (now line) (name .key) ⌝ }
-    ensures { λ r. ⌜ JudgesOn s (now (rows .entry)) (now (keys .entry)) (now (line .entry)) instant (model.Ask (model.Get (nameMeans (now (line .entry)) name))) r ⌝ }
+    ensures { λ r. ⌜ ((instant : ℕ) → JudgesOn s (now (rows .entry)) (now (keys .entry)) (now (line .entry)) instant (model.Ask (model.Get (nameMeans (now (line .entry)) name))) r) ⌝ }
 {
     match lookup::data_named(rows, keys, line, s, name) {
         Named::Refused(refusal) => Verdict::Refused(refusal),
@@ -314,7 +306,7 @@ fn judge_delete(
     bypass: bool,
     instant: u64,
 ) -> Verdict
-    requires { ⌜ Asked s (now rows) (now keys) instant (model.DeleteVersion (partOf (now line) key) (model.numbered version) «bypass») ⌝ }
+    requires { ⌜ Ready s (now rows) (now keys) ⌝ }
     requires { ⌜ Inside (now line) key ⌝ }
     ensures { λ r. ⌜ JudgesOn s (now (rows .entry)) (now (keys .entry)) (now (line .entry)) instant (model.DeleteVersion (partOf (now (line .entry)) key) (model.numbered version) «bypass») r ⌝ }
 {
@@ -396,11 +388,11 @@ pub fn judge(
         Action::Retain(name, retention, bypass) => {
             judge_retain(rows, keys, line, s, name, retention, bypass, instant)
         }
-        Action::SetHold(name, on) => judge_hold(rows, keys, line, s, name, on, instant),
+        Action::SetHold(name, on) => judge_hold(rows, keys, line, s, name, on),
         Action::AddMarker(key, bypass) => judge_marker(rows, keys, line, s, key, bypass, instant),
         Action::DeleteVersion(key, version, bypass) => {
             judge_delete(rows, keys, line, s, key, version, bypass, instant)
         }
-        Action::Get(name) => judge_get(rows, keys, line, s, name, instant),
+        Action::Get(name) => judge_get(rows, keys, line, s, name),
     }
 }
