@@ -16,9 +16,9 @@ use Rattle.table.specs.Changes.{insertAt, removeAt}
 use Rattle.table.proofs.Held.{rows-length, row-at}
 use Rattle.table.proofs.Changes.{insert-length, remove-length}
 use Rattle.search.specs.Places as places
-use Rattle.verdict.specs.declared.Change.{Change}
-use Rattle.verdict.specs.declared.Change.the-variants.{Keep, Insert, InsertSame, Rewrite, Remove}
-use Rattle.verdict.specs.Meaning.{Judged, keyHere, Changeable}
+use Rattle.judge.specs.declared.Change.{Change}
+use Rattle.judge.specs.declared.Change.the-variants.{Keep, Insert, Rewrite, Remove}
+use Rattle.judge.specs.Meaning.{Judged, keyHere, Changeable}
 use Rattle.apply.specs.Applied.{judged, Applicable, Applied}
 
 -- The key of a used row, read from the list of the rows.
@@ -60,25 +60,6 @@ module _ (line : List ℕ) (next instant : ℕ) (fates n b : List ℕ) (u : ℕ)
           next-is = refl;
         })
 
-  module _ (i : ℕ) (m : Numbers) (q : v ≡ InsertSame i m) where
-    same-can : Changeable j (capacity b) (rowsOf n b u) (InsertSame i m)
-    same-can = rw q at (h .can)
-
-    pub same-ready : Insertable n b u i
-    same-ready = record { held = h .held; within = omega (arith, long, same-can .0); free = omega (arith, long, same-can .1) }
-
-    pub same-below : i < u
-    same-below = omega (arith, long, same-can .0)
-
-    pub inserted-same : (n' b' : List ℕ) → Holds (capacity b) (insertAt i (rowFrom m (keyAt b i)) (rowsOf n b u)) n' b' → Applied j (capacity b) (rowsOf n b u) v n' b' (record { used = u + 1; next = next + 1 })
-    inserted-same n' b' d =
-        let k : keyHere (rowsOf n b u) i ≡ keyAt b i = key-here n b u i (omega (arith, long, same-can .0)) in
-        rw q (record {
-          held = rw k d;
-          used-is = let l = insert-length i (rowFrom m (keyHere (rowsOf n b u) i)) (rowsOf n b u) (omega (arith, same-can .0)) in omega (arith, long);
-          next-is = refl;
-        })
-
   module _ (i : ℕ) (m : Numbers) (q : v ≡ Rewrite i m) where
     rewrite-can : i < length (rowsOf n b u)
     rewrite-can = rw q at (h .can)
@@ -112,4 +93,4 @@ module _ (line : List ℕ) (next instant : ℕ) (fates n b : List ℕ) (u : ℕ)
   pub kept : v ≡ Keep → Applied j (capacity b) (rowsOf n b u) v n b (record { used = u; next = next })
   kept q = rw q (record { held = h .held; used-is = sym long; next-is = omega arith })
 
-pub ruleset applying = (insert-within, insert-ready, insert-key, inserted, same-ready, same-below, inserted-same, rewrite-ready, rewritten, remove-ready, remove-some, removed, kept)
+pub ruleset applying = (insert-within, insert-ready, insert-key, inserted, rewrite-ready, rewritten, remove-ready, remove-some, removed, kept)

@@ -11,10 +11,10 @@ use Rattle.table.specs.Layout.{rowsOf, capacity, Holds}
 use Rattle.table.proofs.Held.{rows-length}
 use Rattle.lifecycle.specs.Fates.{fatesIn}
 use Rattle.lifecycle.proofs.Fates.{fates-length}
-use Rattle.sweep.specs.Passes as passes
-use Rattle.verdict.specs.declared.Change.{Change}
-use Rattle.verdict.specs.declared.Change.the-variants.{Sweep}
-use Rattle.verdict.specs.Meaning.{Judged, Changeable}
+use Rattle.apply.specs.Passes as passes
+use Rattle.judge.specs.declared.Change.{Change}
+use Rattle.judge.specs.declared.Change.the-variants.{Sweep}
+use Rattle.judge.specs.Meaning.{Judged, Changeable}
 use Rattle.apply.specs.Applied.{judged, Applicable, Applied}
 use mir.Val.{Fits}
 use mir.Syntax.{w64}

@@ -6,8 +6,8 @@ use lib.ListN.{length}
 use Rattle.model.specs.Rows.{Row}
 use Rattle.model.specs.Settings.{spentNumber}
 use Rattle.table.specs.Layout.{rowsOf, capacity, Holds}
-use Rattle.verdict.specs.declared.Change.{Change}
-use Rattle.verdict.specs.Meaning.{Judged, changeMeans, changeTakes, Changeable}
+use Rattle.judge.specs.declared.Change.{Change}
+use Rattle.judge.specs.Meaning.{Judged, changeMeans, changeTakes, Changeable}
 use Rattle.apply.specs.declared.Progress.{Progress}
 
 -- what is judged, beside the change

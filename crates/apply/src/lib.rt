@@ -1,5 +1,7 @@
 // A judged change carried out on the lent table. The definitions are in specs/.
-use verdict::Change;
+mod sweep;
+
+use judge::Change;
 ghost use Rattle.table.specs.Layout.{rowsOf, capacity};
 ghost use Rattle.apply.specs.Applied.{judged, Applicable, Applied};
 
@@ -27,13 +29,6 @@ pub fn apply_change(
         Change::Keep => Progress { used, next },
         Change::Insert(at, n, key) => {
             table::insert_row(rows, keys, used, at, n, text::part(line, key));
-            Progress {
-                used: used + 1,
-                next: next + 1,
-            }
-        }
-        Change::InsertSame(at, n) => {
-            table::insert_same_key(rows, keys, used, at, n);
             Progress {
                 used: used + 1,
                 next: next + 1,

@@ -21,7 +21,7 @@ use Rattle.request.specs.declared.Verb.{Verb}
 use Rattle.request.specs.Meaning.{verbMeans}
 use Rattle.request.proofs.Ranges.{read-in-range}
 use Rattle.screen.proofs.Lines.{Passes, line-passed}
-use Rattle.verdict.specs.State.{Ready}
+use Rattle.judge.specs.State.{Ready}
 use Rattle.judge.specs.Premises.{Asked}
 use Rattle.perform.specs.Steps.{SoundRules}
 use Rattle.engine.specs.Served.{stateOf, Passing}

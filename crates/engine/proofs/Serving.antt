@@ -29,9 +29,9 @@ use Rattle.screen.specs.declared.Screened.{Screened}
 use Rattle.screen.specs.declared.Screened.the-variants as screened
 use Rattle.screen.specs.Screen.{screened as fieldRefusal, screenedLine, Screens, lineRefusal}
 use Rattle.screen.proofs.Lines.{Comes, short, unread, barred, passed, comes}
-use Rattle.verdict.specs.declared.State.{State}
-use Rattle.verdict.specs.Decision.{Decision, refuses, does, effect, tableDecision}
-use Rattle.verdict.specs.State.{bucketBy, rowsIn}
+use Rattle.locks.specs.declared.State.{State}
+use Rattle.outcome.specs.Decision.{Decision, refuses, does, effect, tableDecision}
+use Rattle.judge.specs.State.{bucketBy, rowsIn}
 use Rattle.judge.specs.Premises.{both, Asked}
 use Rattle.outcome.specs.Outcome.{Outcome, refused, outcome}
 use Rattle.outcome.specs.Steps.{done}

@@ -16,9 +16,9 @@ use Rattle.table.specs.Layout.{rowsOf, capacity}
 use Rattle.table.proofs.Held.{rows-length}
 use Rattle.answers.specs.declared.Answer.the-variants as answer
 use Rattle.answers.specs.Meaning.{textOf}
-use Rattle.verdict.specs.declared.State.{State}
-use Rattle.verdict.specs.declared.Verdict.the-variants as verdict
-use Rattle.verdict.specs.declared.Change.the-variants as change
+use Rattle.locks.specs.declared.State.{State}
+use Rattle.judge.specs.declared.Verdict.the-variants as verdict
+use Rattle.judge.specs.declared.Change.the-variants as change
 use Rattle.judge.specs.Premises.{Asked}
 use Rattle.judge.proofs.Sweeping.{set-done}
 use Rattle.apply.specs.Applied.{judged, Applied}

@@ -16,7 +16,7 @@ use Rattle.screen.specs.declared.Screened.the-variants.{Passed}
 use Rattle.screen.specs.Screen.{screenedLine}
 use Rattle.answers.specs.declared.Answer.the-variants.{Done}
 use Rattle.answers.specs.Meaning.{textOf}
-use Rattle.verdict.specs.declared.State.{State}
+use Rattle.locks.specs.declared.State.{State}
 use Rattle.outcome.specs.Outcome.{Outcome, refused}
 use Rattle.perform.specs.declared.Step.{Step}
 use Rattle.perform.specs.declared.Step.the-variants.{Refused, Accepted}

@@ -1,12 +1,12 @@
 // The engine: a line is read, screened, set or carried out, and answered. The definitions are in outcome.
 use answers::Answer;
+use locks::State;
 use perform::Step;
 use request::Action;
 use request::Setting;
 use request::Verb;
 use screen::Screened;
 use settings::Settings;
-use verdict::State;
 ghost use mathlib.Core.Path.{_≡_};
 ghost use mathlib.Core.Bool.{true};
 ghost use Prim.Native.Nat.{_≤_};

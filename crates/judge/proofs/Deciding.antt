@@ -1,6 +1,6 @@
 -- The six conditions on the table decide: the first that holds refuses, and where none does the plan is carried out.
 use Prim.Native.Nat.{ℕ, _+_, _≤_, _<_}
-use mathlib.Core.Path.{_≡_, sym, subst, _∙_}
+use mathlib.Core.Path.{_≡_, sym, _∙_}
 use mathlib.Core.Bool.{true, false}
 use mathlib.Core.List.{List}
 use mathlib.Core.Option.{some, none}
@@ -23,15 +23,14 @@ use Rattle.table.specs.Places.{rowFrom}
 use Rattle.table.proofs.Held.{rows-length}
 use Rattle.answers.specs.Text.{answerText}
 use Rattle.answers.specs.Meaning.{textOf}
-use Rattle.verdict.specs.declared.Plan.{Plan}
-use Rattle.verdict.specs.declared.Verdict.the-variants.{Refused, Accepted}
-use Rattle.verdict.specs.declared.Looked.{Looked}
-use Rattle.verdict.specs.declared.Looked.the-variants.{Present}
-use Rattle.verdict.specs.Decision.{tableDecision}
-use Rattle.verdict.specs.declared.State.{State}
-use Rattle.verdict.specs.State.{bucketBy, rowsIn, Ready}
-use Rattle.verdict.specs.Meaning.{Judged, keyHere, changeMeans, changeTakes, Feasible, Judges}
-use Rattle.judge.specs.Premises.{both, Looks}
+use Rattle.judge.specs.declared.Plan.{Plan}
+use Rattle.judge.specs.declared.Verdict.the-variants.{Refused, Accepted}
+use Rattle.outcome.specs.Decision.{tableDecision}
+use Rattle.locks.specs.declared.State.{State}
+use Rattle.judge.specs.State.{bucketBy, rowsIn, Ready}
+use Rattle.judge.specs.Meaning.{Judged, keyHere, changeMeans, changeTakes, Feasible, Judges}
+use Rattle.judge.specs.Premises.{both}
+use Rattle.judge.proofs.Looking.{StandsData}
 
 -- ## The decision
 
@@ -125,13 +124,9 @@ module _ (xs : List Row) (v : Verb) (n : Name) (named : nameOf v ≡ some n) whe
     unfolding barred
     named-bars t = rw (named, e)
 
--- What a look found.
-pub looked : (xs : List Row) (m : Name) (r q : Looked) → Looks xs m r → r ≡ q → Looks xs m q
-looked xs m r q h t = subst (λ (l : Looked). Looks xs m l) t h
-
 -- A row of a ready table that is no marker is sound as data.
-pub data-sound : (s : State) (numbers keys : List ℕ) (m : Name) (i : ℕ) (n : Numbers) → Ready s numbers keys → Looks (rowsIn s numbers keys) m (Present i n)
-    → (n .kind ≡ 2 → ⊥) → soundData (rowFrom n (keyHere (rowsIn s numbers keys) i)) ≡ true
-data-sound s numbers keys m i n ready h k =
+pub data-sound : (s : State) (numbers keys : List ℕ) (m : Name) (i : ℕ) (n : Numbers) → Ready s numbers keys → StandsData (rowsIn s numbers keys) m i n
+    → soundData (rowFrom n (keyHere (rowsIn s numbers keys) i)) ≡ true
+data-sound s numbers keys m i n ready h =
     let x = rowFrom n (keyHere (rowsIn s numbers keys) i) in
-    (row-data (s .next) (s .time) x (all-first (soundRow (s .next) (s .time)) _ (rowsIn s numbers keys) x (ready .rows-sound) (h .0)) (ne-eqb (n .kind) 2 k)) .1
+    (row-data (s .next) (s .time) x (all-first (soundRow (s .next) (s .time)) _ (rowsIn s numbers keys) x (ready .rows-sound) (h .at .is-named)) (ne-eqb (n .kind) 2 (h .no-marker))) .1

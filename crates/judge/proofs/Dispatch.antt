@@ -13,8 +13,8 @@ use Rattle.request.specs.declared.Action.{Action}
 use Rattle.request.specs.declared.Action.the-variants as action
 use Rattle.fields.specs.Meaning.{Inside}
 use Rattle.request.specs.Meaning.{actionMeans, ActionInside}
-use Rattle.verdict.specs.declared.State.{State}
-use Rattle.verdict.specs.declared.Verdict.{Verdict}
+use Rattle.locks.specs.declared.State.{State}
+use Rattle.judge.specs.declared.Verdict.{Verdict}
 use Rattle.judge.specs.Premises.{Asked, JudgesBy, JudgesOn}
 
 -- ## What is asked
@@ -54,6 +54,9 @@ module _ (s : State) (numbers keys line : List ℕ) (now : ℕ) (rules : List Ru
   pub judged-as : (u : Action) → v ≡ u → JudgesOn s numbers keys line now (actionMeans line u) r → JudgesBy s numbers keys line now rules fates (actionMeans line v) r
   judged-as u e h = rw e (h rules fates)
 
+  pub judged-always : (u : Action) → v ≡ u → ((t : ℕ) → JudgesOn s numbers keys line t (actionMeans line u) r) → JudgesBy s numbers keys line now rules fates (actionMeans line v) r
+  judged-always u e h = rw e (h now rules fates)
+
 pub ruleset action-ways = (
   refl,
   asked-as,
@@ -66,4 +69,5 @@ pub ruleset action-ways = (
   delete-inside,
   get-inside,
   judged-as,
+  judged-always,
 )

@@ -1,59 +1,31 @@
 -- The parts that several verbs share: where a new row goes, the default's count, and rows with another lock.
 use Prim.Native.Nat.{ℕ, _≤_}
-use mathlib.Core.Path.{_≡_, refl, sym, ap, _∙_}
+use mathlib.Core.Path.{_≡_, sym, ap, _∙_}
 use mathlib.Core.Logic.{inl, inr}
 use mathlib.Core.Bool.{Bool, true, false, _&&_}
 use mathlib.Core.List.{List}
-use mathlib.Core.Option.{Option, some, none}
+use mathlib.Core.Option.{Option}
 use native.Mathlib.Omega.{arith}
 use lib.Dec.{eqb, leb}
 use borrow.Author.Tests.{eqb-true, leb-true}
-use Rattle.buffers.specs.Choices.{thenSome, orZero}
+use Rattle.buffers.specs.Choices.{orZero}
 use Rattle.buffers.specs.Ranges.{Within}
 use Rattle.buffers.proofs.Tests.{and-l, and-r, or-one}
-use Rattle.model.specs.Rows.{Row, isMode, ordered}
+use Rattle.model.specs.Rows.{isMode}
 use Rattle.model.specs.Settings.{days, years}
-use Rattle.model.specs.Requests.{Version, numbered, name, Verb}
-use Rattle.model.specs.Effects.{rowOf, setRetention, setHold, holdNumber}
+use Rattle.model.specs.Requests.{Verb}
+use Rattle.model.specs.Effects.{setRetention, setHold, holdNumber}
 use Rattle.table.specs.declared.Numbers.{Numbers}
-use Rattle.table.specs.Layout.{numbersOfRow, rowsOf}
-use Rattle.table.specs.Places.{rowFrom, numbersIn}
+use Rattle.table.specs.Layout.{rowsOf}
+use Rattle.table.specs.Places.{rowFrom}
 use Rattle.search.specs.declared.Found.{Found}
 use Rattle.search.specs.declared.Found.the-variants.{At, Place}
-use Rattle.search.specs.Places.{nthRow, keyPlace, currentIn, rowFound, placeFound}
-use Rattle.search.proofs.Named.{current-place, current-row, version-row}
-use Rattle.search.proofs.Positions.{row-below, current-used, current-free}
-use Rattle.verdict.specs.declared.State.{State}
-use Rattle.verdict.specs.declared.Looked.{Looked}
-use Rattle.verdict.specs.declared.Looked.the-variants.{Absent, Present}
-use Rattle.verdict.specs.State.{rowsIn, Ready}
-use Rattle.verdict.specs.Meaning.{foundBy, lookedAt, lookedBy}
-use Rattle.verdict.proofs.Looking.{ready-searchable}
-use Rattle.judge.specs.Premises.{Asked, Looks}
-
--- ## The row that a name in the line names
-
-module _ (xs : List Row) (k : List ℕ) (v : Option Version) (o : ordered xs ≡ true) where
-  named-found : (w : Option Version) → rowFound xs (foundBy xs k w) ≡ rowOf xs (name k w)
-  named-found none = current-row k xs o
-  named-found (some (numbered n)) = version-row k n xs o
-
-  row-found : (f : Found) → foundBy xs k v ≡ f → rowOf xs (name k v) ≡ rowFound xs f
-  row-found f e = sym (named-found v) ∙ ap (rowFound xs) e
-
-  looks-at : (i : ℕ) (x : Option Row) → rowOf xs (name k v) ≡ x → nthRow xs i ≡ x → Looks xs (name k v) (thenSome x Absent (λ y. Present i (numbersIn (numbersOfRow y))))
-  looks-at i none e q = e
-  looks-at i (some y) e q = (rw q e, rw q, row-below xs i y q)
-
-  looks-found : (f : Found) → foundBy xs k v ≡ f → Looks xs (name k v) (lookedAt xs f)
-  looks-found (At i) e = looks-at i (nthRow xs i) (row-found (At i) e) refl
-  looks-found (Place i) e = row-found (Place i) e
-
-pub looks-as : (s : State) (n b key k : List ℕ) (v : Option Version) (r : Looked) → Ready s n b → key ≡ k → r ≡ lookedBy (rowsIn s n b) (name key v) → Looks (rowsIn s n b) (name k v) r
-unfolding lookedBy
-looks-as s n b key k v r h e l =
-    let q : r ≡ lookedAt (rowsIn s n b) (foundBy (rowsIn s n b) k v) = rw e at l in
-    rw q (looks-found (rowsIn s n b) k v (h .in-order) (foundBy (rowsIn s n b) k v) refl)
+use Rattle.search.specs.Places.{keyPlace, currentIn, placeFound}
+use Rattle.search.proofs.Named.{current-place}
+use Rattle.search.proofs.Positions.{current-used, current-free}
+use Rattle.locks.specs.declared.State.{State}
+use Rattle.judge.proofs.Looking.{ready-searchable}
+use Rattle.judge.specs.Premises.{Asked}
 
 -- ## Where a new row goes
 
@@ -97,4 +69,4 @@ module _ (n : Numbers) (k : List ℕ) where
       ≡ setHold (holdNumber on) (rowFrom n k)
   held-off on e = rw e
 
-pub ruleset leaf-ways = (looks-as, ready-searchable, place-at, place-free, retained, held-on, held-off)
+pub ruleset leaf-ways = (ready-searchable, place-at, place-free, retained, held-on, held-off)

@@ -1,3 +1,4 @@
+pub mod Looking
 pub mod Deciding
 pub mod Leaves
 pub mod Naming

@@ -24,30 +24,51 @@ use Rattle.table.specs.Layout.{capacity}
 use Rattle.table.specs.Places.{rowFrom}
 use Rattle.search.proofs.Named.{change-named, remove-named}
 use Rattle.answers.specs.declared.Answer.the-variants.{Done, Removed, RemovedMarker, Got}
-use Rattle.verdict.specs.declared.State.{State}
-use Rattle.verdict.specs.declared.Verdict.the-variants.{Refused, Accepted}
-use Rattle.verdict.specs.declared.Change.the-variants.{Keep, Rewrite, Remove}
-use Rattle.verdict.specs.declared.Looked.{Looked}
-use Rattle.verdict.specs.declared.Looked.the-variants.{Absent, Present}
-use Rattle.verdict.specs.State.{bucketBy, rowsIn, Ready}
-use Rattle.verdict.specs.Meaning.{keyHere}
-use Rattle.judge.specs.Premises.{both, Asked, Looks, JudgesBy}
-use Rattle.judge.proofs.Deciding.{Open, refuse-7, refuse-8, refuse-9, stay-done, absent, present, marker-named, no-marker-named, named-bars, looked, data-sound}
+use Rattle.locks.specs.declared.State.{State}
+use Rattle.judge.specs.declared.Verdict.the-variants.{Refused, Accepted}
+use Rattle.judge.specs.declared.Change.the-variants.{Keep, Rewrite, Remove}
+use Rattle.judge.specs.declared.Named.{Named}
+use Rattle.judge.specs.declared.Named.the-variants as named
+use Rattle.judge.specs.State.{bucketBy, rowsIn, Ready}
+use Rattle.judge.specs.Meaning.{keyHere}
+use Rattle.judge.specs.Named.{rowNamed, butMarker, dataNamed}
+use Rattle.judge.specs.Premises.{both, JudgesBy}
+use Rattle.judge.proofs.Looking.{Stands, StandsData, lacks, stands, stands-data}
+use Rattle.judge.proofs.Deciding.{Open, refuse-7, refuse-8, refuse-9, stay-done, absent, present, marker-named, no-marker-named, named-bars, data-sound}
 
 -- ## The row is not there, or it is a marker
 
-module _ (s : State) (numbers keys line : List ℕ) (now : ℕ) (v : Verb) (m : Name) (r : Looked)
-    (named : nameOf v ≡ some m) (looks : Looks (rowsIn s numbers keys) m r) (rules : List Rule) (fates : List ℕ) where
-  pub not-there : r ≡ Absent → JudgesBy s numbers keys line now rules fates v (Refused 7)
-  not-there t =
-      refuse-7 _ (capacity keys) (bucketBy s rules (rowsIn s numbers keys)) (both now) v
-      (absent (rowsIn s numbers keys) v m named (looked (rowsIn s numbers keys) m r Absent looks t))
+module _ (s : State) (numbers keys line : List ℕ) (now : ℕ) (v : Verb) (m : Name) (r : Named) (k : ℕ) (there : r ≡ named.Refused k)
+    (is-name : nameOf v ≡ some m) (ready : Ready s numbers keys) (rules : List Rule) (fates : List ℕ) where
+  pub no-row : r ≡ rowNamed (rowsIn s numbers keys) m → JudgesBy s numbers keys line now rules fates v (Refused k)
+  no-row e =
+      let l = lacks (rowsIn s numbers keys) m (ready .in-order) k (sym e ∙ there) in
+      rw (l .seven)
+      (refuse-7 _ (capacity keys) (bucketBy s rules (rowsIn s numbers keys)) (both now) v (absent (rowsIn s numbers keys) v m is-name (l .no-row)))
 
-  pub is-marker : (i : ℕ) (n : Numbers) → r ≡ Present i n → removesVersion v ≡ false → n .kind ≡ 2 → JudgesBy s numbers keys line now rules fates v (Refused 8)
-  is-marker i n t a e =
-      let there = (looked (rowsIn s numbers keys) m r (Present i n) looks t) .0 in
+  is-marker : removesVersion v ≡ false → (i : ℕ) (n : Numbers) → rowNamed (rowsIn s numbers keys) m ≡ named.Row i n → n .kind ≡ 2 → JudgesBy s numbers keys line now rules fates v (Refused 8)
+  is-marker a i n e h =
+      let at = stands (rowsIn s numbers keys) m (ready .in-order) i n e in
       refuse-8 _ (capacity keys) (bucketBy s rules (rowsIn s numbers keys)) (both now) v
-      (present (rowsIn s numbers keys) v m named _ there) (marker-named (rowsIn s numbers keys) v m named _ there a e)
+      (present (rowsIn s numbers keys) v m is-name _ (at .is-named)) (marker-named (rowsIn s numbers keys) v m is-name _ (at .is-named) a h)
+
+-- What is named is no data.
+pub no-data : (s : State) (numbers keys line : List ℕ) (now : ℕ) (v : Verb) (m : Name) (r : Named) (k : ℕ) → r ≡ named.Refused k → nameOf v ≡ some m
+    → removesVersion v ≡ false → Ready s numbers keys → (rules : List Rule) (fates : List ℕ) → r ≡ dataNamed (rowsIn s numbers keys) m
+    → JudgesBy s numbers keys line now rules fates v (Refused k)
+unfolding dataNamed
+no-data s numbers keys line now v m r k there is-name a ready rules fates e = go (rowNamed (rowsIn s numbers keys) m) refl (sym e ∙ there)
+  where
+    go : (q : Named) → rowNamed (rowsIn s numbers keys) m ≡ q → butMarker q ≡ named.Refused k → JudgesBy s numbers keys line now rules fates v (Refused k)
+    go (named.Refused l) f g = no-row s numbers keys line now v m (rowNamed (rowsIn s numbers keys) m) k (f ∙ g) is-name ready rules fates refl
+    go (named.Row i n) f g =
+        elim (either (eqb (n .kind) 2)) [
+          | inl h ↦
+              let d : named.Refused 8 ≡ named.Refused k = rw h at g in
+              let q : k ≡ 8 = cc in
+              rw q (is-marker s numbers keys line now v m r k there is-name ready rules fates a i n f (eqb-true (n .kind) 2 h))
+          | inr h ↦ let d : named.Row i n ≡ named.Refused k = rw h at g in let z : _≡_ {A = ℕ} 0 1 = cc in absurd (omega arith)
+        ]
 
 -- ## RETAIN, HOLD and GET
 
@@ -61,91 +82,92 @@ date-most m d e =
     ]
 
 -- The date that GET shows is an instant.
-shown-date : (s : State) (numbers keys : List ℕ) (m : Name) (i : ℕ) (n : Numbers) → Ready s numbers keys → Looks (rowsIn s numbers keys) m (Present i n)
-    → (n .kind ≡ 2 → ⊥) → n .until ≤ latest
-shown-date s numbers keys m i n ready h k =
-    let d = data-sound s numbers keys m i n ready h k in
+shown-date : (s : State) (numbers keys : List ℕ) (m : Name) (i : ℕ) (n : Numbers) → Ready s numbers keys → StandsData (rowsIn s numbers keys) m i n → n .until ≤ latest
+shown-date s numbers keys m i n ready h =
+    let d = data-sound s numbers keys m i n ready h in
     date-most (n .mode) (n .until) (and-l _ _ (and-r (leb (n .size) largestSize) _ (and-r (ltb (n .body) bodies) _ d)))
 
 -- The row that is named is there, and it is no marker.
 module _ (s : State) (numbers keys : List ℕ) (now : ℕ) (rules : List Rule) (v : Verb) (m : Name) (i : ℕ) (n : Numbers)
-    (named : nameOf v ≡ some m) (at : Looks (rowsIn s numbers keys) m (Present i n)) (stays : removesVersion v ≡ false) (data-row : n .kind ≡ 2 → ⊥) where
+    (is-name : nameOf v ≡ some m) (h : StandsData (rowsIn s numbers keys) m i n) (stays : removesVersion v ≡ false) where
   data-open : bars v now (rowFrom n (keyHere (rowsIn s numbers keys) i)) ≡ false → tooLate (bucketBy s rules (rowsIn s numbers keys) .settings .config) now v ≡ false
       → Open (bucketBy s rules (rowsIn s numbers keys)) (both now) v
   data-open b t =
       record {
-        there = present (rowsIn s numbers keys) v m named _ (at .0);
-        no-marker = no-marker-named (rowsIn s numbers keys) v m named _ (at .0) stays data-row;
-        unbarred = named-bars (rowsIn s numbers keys) v m named _ (at .0) now ∙ b;
+        there = present (rowsIn s numbers keys) v m is-name _ (h .at .is-named);
+        no-marker = no-marker-named (rowsIn s numbers keys) v m is-name _ (h .at .is-named) stays (h .no-marker);
+        unbarred = named-bars (rowsIn s numbers keys) v m is-name _ (h .at .is-named) now ∙ b;
         in-time = t;
       }
 
-module _ (s : State) (numbers keys line : List ℕ) (now : ℕ) (m : Name) (i : ℕ) (n : Numbers) (r : Looked)
-    (looks : Looks (rowsIn s numbers keys) m r) (there : r ≡ Present i n) (data-row : n .kind ≡ 2 → ⊥) (rules : List Rule) (fates : List ℕ) where
-  at : Looks (rowsIn s numbers keys) m (Present i n)
-  at = looked (rowsIn s numbers keys) m r (Present i n) looks there
+module _ (s : State) (numbers keys line : List ℕ) (now : ℕ) (m : Name) (i : ℕ) (n : Numbers) (r : Named)
+    (there : r ≡ named.Row i n) (found : r ≡ dataNamed (rowsIn s numbers keys) m) (ready : Ready s numbers keys) (rules : List Rule) (fates : List ℕ) where
+  standing : StandsData (rowsIn s numbers keys) m i n
+  standing = stands-data (rowsIn s numbers keys) m (ready .in-order) i n (sym found ∙ there)
+
+  at : Stands (rowsIn s numbers keys) m i n
+  at = standing .at
 
   module _ (q : Retention) (y a : Bool) (admitted : (l : List ℕ) → a ≡ admits now y (rowFrom n l) q) where
     pub retain-barred : a ≡ false → JudgesBy s numbers keys line now rules fates (Retain m q y) (Refused 9)
     retain-barred e =
         refuse-9 _ (capacity keys) (bucketBy s rules (rowsIn s numbers keys)) (both now) (Retain m q y)
-        (present (rowsIn s numbers keys) (Retain m q y) m refl _ (at .0))
-        (no-marker-named (rowsIn s numbers keys) (Retain m q y) m refl _ (at .0) refl data-row)
-        (named-bars (rowsIn s numbers keys) (Retain m q y) m refl _ (at .0) now ∙ ap not (sym (admitted (keyHere (rowsIn s numbers keys) i)) ∙ e))
+        (present (rowsIn s numbers keys) (Retain m q y) m refl _ (at .is-named))
+        (no-marker-named (rowsIn s numbers keys) (Retain m q y) m refl _ (at .is-named) refl (standing .no-marker))
+        (named-bars (rowsIn s numbers keys) (Retain m q y) m refl _ (at .is-named) now ∙ ap not (sym (admitted (keyHere (rowsIn s numbers keys) i)) ∙ e))
 
-    pub retain-done : (n′ : Numbers) → Asked s numbers keys now (Retain m q y) → a ≡ true
+    pub retain-done : (n′ : Numbers) → a ≡ true
         → ((l : List ℕ) → rowFrom n′ l ≡ setRetention (orZero (q .mode)) (orZero (q .date)) (rowFrom n l))
         → JudgesBy s numbers keys line now rules fates (Retain m q y) (Accepted (record { change = Rewrite i n′; answer = Done }))
     unfolding added rowsAfter reply tooLate
-    retain-done n′ asked e new =
-        stay-done _ s numbers keys rules now (Retain m q y) (record { change = Rewrite i n′; answer = Done }) (asked .ready)
-        (data-open s numbers keys now rules (Retain m q y) m i n refl at refl data-row (ap not (sym (admitted (keyHere (rowsIn s numbers keys) i)) ∙ e)) refl)
+    retain-done n′ e new =
+        stay-done _ s numbers keys rules now (Retain m q y) (record { change = Rewrite i n′; answer = Done }) ready
+        (data-open s numbers keys now rules (Retain m q y) m i n refl standing refl (ap not (sym (admitted (keyHere (rowsIn s numbers keys) i)) ∙ e)) refl)
         refl
         (rw (new (keyHere (rowsIn s numbers keys) i))
-        (sym (change-named (rowsIn s numbers keys) m i _ (asked .ready .in-order) (at .0) (at .1) (setRetention (orZero (q .mode)) (orZero (q .date))))))
-        refl refl (at .2, tt)
+        (sym (change-named (rowsIn s numbers keys) m i _ (ready .in-order) (at .is-named) (at .is-there) (setRetention (orZero (q .mode)) (orZero (q .date))))))
+        refl refl (at .below, tt)
 
-  pub hold-done : (on : Bool) (n′ : Numbers) → Asked s numbers keys now (Hold m on) → ((l : List ℕ) → rowFrom n′ l ≡ setHold (holdNumber on) (rowFrom n l))
+  pub hold-done : (on : Bool) (n′ : Numbers) → ((l : List ℕ) → rowFrom n′ l ≡ setHold (holdNumber on) (rowFrom n l))
       → JudgesBy s numbers keys line now rules fates (Hold m on) (Accepted (record { change = Rewrite i n′; answer = Done }))
   unfolding added rowsAfter reply tooLate
-  hold-done on n′ asked new =
-      stay-done _ s numbers keys rules now (Hold m on) (record { change = Rewrite i n′; answer = Done }) (asked .ready)
-      (data-open s numbers keys now rules (Hold m on) m i n refl at refl data-row refl refl) refl
+  hold-done on n′ new =
+      stay-done _ s numbers keys rules now (Hold m on) (record { change = Rewrite i n′; answer = Done }) ready
+      (data-open s numbers keys now rules (Hold m on) m i n refl standing refl refl refl) refl
       (rw (new (keyHere (rowsIn s numbers keys) i))
-      (sym (change-named (rowsIn s numbers keys) m i _ (asked .ready .in-order) (at .0) (at .1) (setHold (holdNumber on)))))
-      refl refl (at .2, tt)
+      (sym (change-named (rowsIn s numbers keys) m i _ (ready .in-order) (at .is-named) (at .is-there) (setHold (holdNumber on)))))
+      refl refl (at .below, tt)
 
-  pub get-done : Asked s numbers keys now (Ask (Get m))
-      → JudgesBy s numbers keys line now rules fates (Ask (Get m))
+  pub get-done : JudgesBy s numbers keys line now rules fates (Ask (Get m))
       (Accepted (record {
         change = Keep;
         answer = Got (record { version = n .number; body = n .body; size = n .size; mode = n .mode; until = n .until; hold = n .hold });
       }))
   unfolding added rowsAfter reply tooLate
-  get-done asked =
+  get-done =
       stay-done _ s numbers keys rules now (Ask (Get m))
-      (record { change = Keep; answer = Got (record { version = n .number; body = n .body; size = n .size; mode = n .mode; until = n .until; hold = n .hold }) }) (asked .ready)
-      (data-open s numbers keys now rules (Ask (Get m)) m i n refl at refl data-row refl refl) refl refl refl (rw (at .0))
-      (tt, shown-date s numbers keys m i n (asked .ready) at data-row)
+      (record { change = Keep; answer = Got (record { version = n .number; body = n .body; size = n .size; mode = n .mode; until = n .until; hold = n .hold }) }) ready
+      (data-open s numbers keys now rules (Ask (Get m)) m i n refl standing refl refl refl) refl refl refl (rw (at .is-named))
+      (tt, shown-date s numbers keys m i n ready standing)
 
-pub ruleset data-ways = (refl, not-there, is-marker, retain-barred, retain-done, hold-done, get-done)
+pub ruleset data-ways = (refl, no-data, retain-barred, retain-done, hold-done, get-done)
 
 -- ## DELETE with a number
 
-module _ (s : State) (numbers keys line : List ℕ) (now : ℕ) (k : List ℕ) (v : ℕ) (y a : Bool) (i : ℕ) (n : Numbers) (r : Looked)
-    (looks : Looks (rowsIn s numbers keys) (name k (some (numbered v))) r) (there : r ≡ Present i n)
+module _ (s : State) (numbers keys line : List ℕ) (now : ℕ) (k : List ℕ) (v : ℕ) (y a : Bool) (i : ℕ) (n : Numbers) (r : Named)
+    (there : r ≡ named.Row i n) (found : r ≡ rowNamed (rowsIn s numbers keys) (name k (some (numbered v)))) (ready : Ready s numbers keys)
     (lock : (l : List ℕ) → a ≡ locked now y (rowFrom n l)) (rules : List Rule) (fates : List ℕ) where
-  version-at : Looks (rowsIn s numbers keys) (name k (some (numbered v))) (Present i n)
-  version-at = looked (rowsIn s numbers keys) (name k (some (numbered v))) r (Present i n) looks there
+  version-at : Stands (rowsIn s numbers keys) (name k (some (numbered v))) i n
+  version-at = stands (rowsIn s numbers keys) (name k (some (numbered v))) (ready .in-order) i n (sym found ∙ there)
 
   version-open : a ≡ false → Open (bucketBy s rules (rowsIn s numbers keys)) (both now) (DeleteVersion k (numbered v) y)
   unfolding namesMarker tooLate
   version-open e =
       record {
-        there = present (rowsIn s numbers keys) (DeleteVersion k (numbered v) y) (name k (some (numbered v))) refl _ (version-at .0);
+        there = present (rowsIn s numbers keys) (DeleteVersion k (numbered v) y) (name k (some (numbered v))) refl _ (version-at .is-named);
         no-marker = refl;
         unbarred =
-            named-bars (rowsIn s numbers keys) (DeleteVersion k (numbered v) y) (name k (some (numbered v))) refl _ (version-at .0) now
+            named-bars (rowsIn s numbers keys) (DeleteVersion k (numbered v) y) (name k (some (numbered v))) refl _ (version-at .is-named) now
             ∙ sym (lock (keyHere (rowsIn s numbers keys) i)) ∙ e;
         in-time = refl;
       }
@@ -154,25 +176,25 @@ module _ (s : State) (numbers keys line : List ℕ) (now : ℕ) (k : List ℕ) (
   unfolding namesMarker
   delete-locked e =
       refuse-9 _ (capacity keys) (bucketBy s rules (rowsIn s numbers keys)) (both now) (DeleteVersion k (numbered v) y)
-      (present (rowsIn s numbers keys) (DeleteVersion k (numbered v) y) (name k (some (numbered v))) refl _ (version-at .0)) refl
-      (named-bars (rowsIn s numbers keys) (DeleteVersion k (numbered v) y) (name k (some (numbered v))) refl _ (version-at .0) now
+      (present (rowsIn s numbers keys) (DeleteVersion k (numbered v) y) (name k (some (numbered v))) refl _ (version-at .is-named)) refl
+      (named-bars (rowsIn s numbers keys) (DeleteVersion k (numbered v) y) (name k (some (numbered v))) refl _ (version-at .is-named) now
       ∙ sym (lock (keyHere (rowsIn s numbers keys) i)) ∙ e)
 
-  module _ (e : a ≡ false) (asked : Asked s numbers keys now (DeleteVersion k (numbered v) y)) where
+  module _ (e : a ≡ false) where
     pub delete-marker : n .kind ≡ 2
         → JudgesBy s numbers keys line now rules fates (DeleteVersion k (numbered v) y) (Accepted (record { change = Remove i; answer = RemovedMarker v }))
     unfolding added rowsAfter reply
     delete-marker h =
-        stay-done _ s numbers keys rules now (DeleteVersion k (numbered v) y) (record { change = Remove i; answer = RemovedMarker v }) (asked .ready) (version-open e) refl
-        (sym (remove-named (rowsIn s numbers keys) (name k (some (numbered v))) i _ (asked .ready .in-order) (version-at .0) (version-at .1)))
-        refl (simp (version-at .0, eq-eqb (n .kind) 2 h)) (version-at .2, tt)
+        stay-done _ s numbers keys rules now (DeleteVersion k (numbered v) y) (record { change = Remove i; answer = RemovedMarker v }) ready (version-open e) refl
+        (sym (remove-named (rowsIn s numbers keys) (name k (some (numbered v))) i _ (ready .in-order) (version-at .is-named) (version-at .is-there)))
+        refl (simp (version-at .is-named, eq-eqb (n .kind) 2 h)) (version-at .below, tt)
 
     pub delete-data : (n .kind ≡ 2 → ⊥)
         → JudgesBy s numbers keys line now rules fates (DeleteVersion k (numbered v) y) (Accepted (record { change = Remove i; answer = Removed v }))
     unfolding added rowsAfter reply
     delete-data h =
-        stay-done _ s numbers keys rules now (DeleteVersion k (numbered v) y) (record { change = Remove i; answer = Removed v }) (asked .ready) (version-open e) refl
-        (sym (remove-named (rowsIn s numbers keys) (name k (some (numbered v))) i _ (asked .ready .in-order) (version-at .0) (version-at .1)))
-        refl (simp (version-at .0, ne-eqb (n .kind) 2 h)) (version-at .2, tt)
+        stay-done _ s numbers keys rules now (DeleteVersion k (numbered v) y) (record { change = Remove i; answer = Removed v }) ready (version-open e) refl
+        (sym (remove-named (rowsIn s numbers keys) (name k (some (numbered v))) i _ (ready .in-order) (version-at .is-named) (version-at .is-there)))
+        refl (simp (version-at .is-named, ne-eqb (n .kind) 2 h)) (version-at .below, tt)
 
-pub ruleset delete-ways = (refl, not-there, delete-locked, delete-marker, delete-data)
+pub ruleset delete-ways = (refl, no-row, delete-locked, delete-marker, delete-data)

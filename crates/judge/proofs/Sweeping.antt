@@ -34,10 +34,10 @@ use Rattle.lifecycle.specs.Fates.{fatesIn}
 use Rattle.lifecycle.specs.Judging.{Judgeable, JudgedRows}
 use Rattle.lifecycle.proofs.Fates.{fates-after, after-long}
 use Rattle.answers.specs.declared.Answer.the-variants.{Done, Swept}
-use Rattle.verdict.specs.declared.State.{State}
-use Rattle.verdict.specs.declared.Verdict.the-variants.{Refused, Accepted}
-use Rattle.verdict.specs.declared.Change.the-variants as change
-use Rattle.verdict.specs.State.{bucketBy, rowsIn}
+use Rattle.locks.specs.declared.State.{State}
+use Rattle.judge.specs.declared.Verdict.the-variants.{Refused, Accepted}
+use Rattle.judge.specs.declared.Change.the-variants as change
+use Rattle.judge.specs.State.{bucketBy, rowsIn}
 use Rattle.judge.specs.Premises.{both, Asked, Sweepable, JudgesBy}
 use Rattle.judge.proofs.Deciding.{Open, refuse-11, refuse-12, accept, stay-done}
 

@@ -1,1 +1,4 @@
+pub mod State
+pub mod Meaning
+pub mod Named
 pub mod Premises

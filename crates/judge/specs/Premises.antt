@@ -1,28 +1,23 @@
 -- What is asked of a request that is judged, and what its verdict is.
-use Prim.Native.Nat.{ℕ, _≤_, _<_}
+use Prim.Native.Nat.{ℕ, _≤_}
 use mathlib.Core.Path.{_≡_}
 use mathlib.Core.Bool.{true}
 use mathlib.Core.List.{List}
-use mathlib.Core.Option.{some, none}
+use lib.Dec.{eqb, ltb}
 use lib.ListN.{length}
+use Rattle.buffers.specs.Choices.{pick}
 use Rattle.calendar.specs.Calendar.{latest}
-use Rattle.model.specs.Rows.{Row}
-use Rattle.model.specs.Settings.{Rule, soundRules}
-use Rattle.model.specs.Requests.{Name, Verb, inRange}
-use Rattle.model.specs.Effects.{rowOf}
+use Rattle.model.specs.Settings.{Rule, spentNumber, soundRules}
+use Rattle.model.specs.Requests.{Verb, inRange}
 use Rattle.model.specs.Time.{Now}
 use Rattle.settings.specs.declared.Rule as settings
 use Rattle.settings.specs.Meaning.{rulesMean, prefixesAre}
 use Rattle.table.specs.Layout.{capacity}
-use Rattle.table.specs.Places.{rowFrom}
-use Rattle.search.specs.Places.{nthRow}
-use Rattle.verdict.specs.declared.State.{State}
-use Rattle.verdict.specs.declared.Looked.{Looked}
-use Rattle.verdict.specs.declared.Looked.the-variants.{Absent, Present}
-use Rattle.verdict.specs.declared.Verdict.{Verdict}
-use Rattle.verdict.specs.Decision.{tableDecision}
-use Rattle.verdict.specs.State.{bucketBy, rowsIn, Ready}
-use Rattle.verdict.specs.Meaning.{keyHere, Judges}
+use Rattle.locks.specs.declared.State.{State}
+use Rattle.judge.specs.declared.Verdict.{Verdict}
+use Rattle.outcome.specs.Decision.{tableDecision}
+use Rattle.judge.specs.State.{bucketBy, rowsIn, Ready}
+use Rattle.judge.specs.Meaning.{Judges}
 
 -- the now of a line, for judging and for stamping alike
 abbrev pub both : ℕ → Now
@@ -35,10 +30,9 @@ pub record Asked (s : State) (numbers keys : List ℕ) (now : ℕ) (v : Verb) : 
   pub since : s .time ≤ now
   pub in-range : inRange v ≡ true
 
--- A row that was looked for is not there; or it stands at a position, with these numbers and its key.
-abbrev pub Looks : List Row → Name → Looked → Type 0
-Looks xs n Absent = rowOf xs n ≡ none
-Looks xs n (Present i m) = (rowOf xs n ≡ some (rowFrom m (keyHere xs i))) × (nthRow xs i ≡ some (rowFrom m (keyHere xs i))) × (i < length xs)
+-- The refusal of a line that adds a row: 11 where the version numbers are spent, 12 where no row is free, else 0.
+unfoldable pub rowRefusal : ℕ → ℕ → ℕ → ℕ
+rowRefusal c used next = pick (eqb next spentNumber) 11 (pick (ltb used c) 0 12)
 
 -- The rules of a sweep are sound, and there is room for a fate of each used row.
 pub record Sweepable (s : State) (rules : List settings.Rule) (fates : List ℕ) : Type 0 where

@@ -1,8 +1,12 @@
-// A request judged on the table, with shared borrows only: refusals 7 to 12, or the plan of what the line does. The definitions are in verdict.
+// A request judged on the table, with shared borrows only: refusals 7 to 12, or the plan of what the line does. The definitions are in specs/.
+mod lookup;
+
 use answers::Answer;
 use answers::Shown;
 use fields::Hold;
 use fields::Version;
+use locks::NewLock;
+use locks::State;
 use request::Action;
 use request::Name;
 use request::Retention;
@@ -11,12 +15,6 @@ use search::Found;
 use settings::Rule;
 use table::Numbers;
 use text::Place;
-use verdict::Change;
-use verdict::Looked;
-use verdict::NewLock;
-use verdict::Plan;
-use verdict::State;
-use verdict::Verdict;
 ghost use mathlib.Core.Path.{_≡_};
 ghost use mathlib.Core.List.{List};
 ghost use Prim.Native.Nat.{ℕ};
@@ -27,23 +25,40 @@ ghost use Rattle.text.specs.Fields.{partOf};
 ghost use Rattle.model.specs.Sweep.{marker};
 ghost use Rattle.model.specs.Effects.{newHold, holdNumber, setRetention, setHold};
 ghost use Rattle.settings.specs.Meaning.{rulesMean};
+ghost use Rattle.table.specs.Layout.{capacity};
 ghost use Rattle.table.specs.Places.{rowFrom};
 ghost use Rattle.search.specs.Places.{keyPlace};
 ghost use Rattle.fields.specs.Meaning.{modeMeans, untilMeans, holdMeans, Inside};
 ghost use Rattle.request.specs.Meaning.{nameMeans, retentionMeans, termsMeans, actionMeans, ActionInside};
 ghost use Rattle.lifecycle.specs.Fates.{fatesAfter};
-ghost use Rattle.verdict.specs.State.{rowsIn, Ready};
-ghost use Rattle.judge.specs.Premises.{Asked, Looks, Sweepable, JudgesBy, JudgesOn};
+ghost use Rattle.judge.specs.State.{rowsIn, Ready};
+ghost use Rattle.judge.specs.Premises.{Asked, rowRefusal, Sweepable, JudgesBy, JudgesOn};
 
-// The row that a name in the line names.
-fn look_up(rows: &[u64], keys: &[u8], line: &[u8], s: State, name: Name) -> Looked
-    requires { ⌜ Ready s (now rows) (now keys) ⌝ }
-    requires { ⌜ Inside (now line) (name .key) ⌝ }
-    ensures { λ r. ⌜ Looks (rowsIn s (now (rows .entry)) (now (keys .entry))) (nameMeans (now (line .entry)) name) r ⌝ }
-{
-    let key = name.key;
-    let version = name.version;
-    verdict::look(rows, keys, s, text::part(line, key), version)
+// How an accepted line changes the table.
+pub enum Change {
+    Keep,
+    // position, numbers, the key's place in the line
+    Insert(usize, Numbers, Place),
+    Rewrite(usize, Numbers),
+    Remove(usize),
+    // rows removed, markers added
+    Sweep(usize, usize),
+}
+
+pub struct Plan {
+    pub change: Change,
+    pub answer: Answer,
+}
+
+pub enum Verdict {
+    Refused(u64),
+    Accepted(Plan),
+}
+
+// The row that a line names: its position and its numbers, or the refusal.
+enum Named {
+    Refused(u64),
+    Row(usize, Numbers),
 }
 
 // Where a new version of the key goes.
@@ -57,6 +72,19 @@ fn place_for(rows: &[u64], keys: &[u8], s: State, key: &[u8]) -> usize
         Found::At(i) => i,
         Found::Place(i) => i,
     }
+}
+
+// The refusal of a line that adds a row: 11 where the version numbers are spent, 12 where no row is free, else 0.
+fn row_refusal(keys: &[u8], s: State) -> u64
+    ensures { λ r. ⌜ r ≡ rowRefusal (capacity (now (keys .entry))) (s .used) (s .next) ⌝ }
+{
+    if s.next == settings::SPENT {
+        return 11;
+    }
+    if keys.len() / 64 <= s.used {
+        return 12;
+    }
+    0
 }
 
 // The hold of a new row: 1 for ON, 0 for OFF; `-` is OFF.
@@ -129,14 +157,12 @@ fn judge_new(
 {
     let retention = terms.retention;
     let hold = terms.hold;
-    let NewLock::Lock(mode, until) = verdict::new_lock(s, retention, instant) else {
+    let NewLock::Lock(mode, until) = locks::new_lock(s, retention, instant) else {
         return Verdict::Refused(10);
     };
-    if s.next == settings::SPENT {
-        return Verdict::Refused(11);
-    }
-    if keys.len() / 64 <= s.used {
-        return Verdict::Refused(12);
+    let refusal = row_refusal(keys, s);
+    if refusal != 0 {
+        return Verdict::Refused(refusal);
     }
     let at = place_for(rows, keys, s, text::part(line, key));
     let n = Numbers {
@@ -171,13 +197,10 @@ fn judge_copy(
     requires { ⌜ Inside (now line) key ⌝ }
     ensures { λ r. ⌜ JudgesOn s (now (rows .entry)) (now (keys .entry)) (now (line .entry)) instant (model.Copy (nameMeans (now (line .entry)) source) (partOf (now (line .entry)) key) (termsMeans terms)) r ⌝ }
 {
-    let Looked::Present(_, n) = look_up(rows, keys, line, s, source) else {
-        return Verdict::Refused(7);
-    };
-    if n.kind == 2 {
-        return Verdict::Refused(8);
+    match lookup::data_named(rows, keys, line, s, source) {
+        Named::Refused(refusal) => Verdict::Refused(refusal),
+        Named::Row(_, n) => judge_new(rows, keys, line, s, key, n.body, n.size, terms, instant),
     }
-    judge_new(rows, keys, line, s, key, n.body, n.size, terms, instant)
 }
 
 // RETAIN, by its rule.
@@ -191,75 +214,59 @@ fn judge_retain(
     bypass: bool,
     instant: u64,
 ) -> Verdict
-    requires { ⌜ Asked s (now rows) (now keys) instant (model.Retain (nameMeans (now line) name) (retentionMeans retention) «bypass») ⌝ }
+    requires { ⌜ Ready s (now rows) (now keys) ⌝ }
     requires { ⌜ Inside (now line) (name .key) ⌝ }
     ensures { λ r. ⌜ JudgesOn s (now (rows .entry)) (now (keys .entry)) (now (line .entry)) instant (model.Retain (nameMeans (now (line .entry)) name) (retentionMeans retention) «bypass») r ⌝ }
 {
-    let Looked::Present(i, n) = look_up(rows, keys, line, s, name) else {
-        return Verdict::Refused(7);
-    };
-    if n.kind == 2 {
-        return Verdict::Refused(8);
+    match lookup::data_named(rows, keys, line, s, name) {
+        Named::Refused(refusal) => Verdict::Refused(refusal),
+        Named::Row(i, n) => {
+            if locks::is_admitted(n, instant, bypass, retention) {
+                return Verdict::Accepted(Plan {
+                    change: Change::Rewrite(i, with_retention(n, retention)),
+                    answer: Answer::Done,
+                });
+            }
+            Verdict::Refused(9)
+        }
     }
-    if verdict::is_admitted(n, instant, bypass, retention) {
-        return Verdict::Accepted(Plan {
-            change: Change::Rewrite(i, with_retention(n, retention)),
-            answer: Answer::Done,
-        });
-    }
-    Verdict::Refused(9)
 }
 
-// HOLD, at every instant alike: `instant` stands for the contract, which is of the line's now.
-fn judge_hold(
-    rows: &[u64],
-    keys: &[u8],
-    line: &[u8],
-    s: State,
-    name: Name,
-    on: bool,
-    instant: u64,
-) -> Verdict
-    requires { ⌜ Asked s (now rows) (now keys) instant (model.Hold (nameMeans (now line) name) «on») ⌝ }
+// HOLD, at every instant alike.
+fn judge_hold(rows: &[u64], keys: &[u8], line: &[u8], s: State, name: Name, on: bool) -> Verdict
+    requires { ⌜ Ready s (now rows) (now keys) ⌝ }
     requires { ⌜ Inside (now line) (name .key) ⌝ }
-    ensures { λ r. ⌜ JudgesOn s (now (rows .entry)) (now (keys .entry)) (now (line .entry)) instant (model.Hold (nameMeans (now (line .entry)) name) «on») r ⌝ }
+    ensures { λ r. ⌜ ((instant : ℕ) → JudgesOn s (now (rows .entry)) (now (keys .entry)) (now (line .entry)) instant (model.Hold (nameMeans (now (line .entry)) name) «on») r) ⌝ }
 {
-    let Looked::Present(i, n) = look_up(rows, keys, line, s, name) else {
-        return Verdict::Refused(7);
-    };
-    if n.kind == 2 {
-        return Verdict::Refused(8);
+    match lookup::data_named(rows, keys, line, s, name) {
+        Named::Refused(refusal) => Verdict::Refused(refusal),
+        Named::Row(i, n) => Verdict::Accepted(Plan {
+            change: Change::Rewrite(i, with_hold(n, on)),
+            answer: Answer::Done,
+        }),
     }
-    Verdict::Accepted(Plan {
-        change: Change::Rewrite(i, with_hold(n, on)),
-        answer: Answer::Done,
-    })
 }
 
 // GET, at every instant alike.
-fn judge_get(rows: &[u64], keys: &[u8], line: &[u8], s: State, name: Name, instant: u64) -> Verdict
-    requires { ⌜ Asked s (now rows) (now keys) instant (model.Ask (model.Get (nameMeans (now line) name))) ⌝ }
+fn judge_get(rows: &[u64], keys: &[u8], line: &[u8], s: State, name: Name) -> Verdict
+    requires { ⌜ Ready s (now rows) (now keys) ⌝ }
     requires { ⌜ Inside (now line) (name .key) ⌝ }
-    ensures { λ r. ⌜ JudgesOn s (now (rows .entry)) (now (keys .entry)) (now (line .entry)) instant (model.Ask (model.Get (nameMeans (now (line .entry)) name))) r ⌝ }
+    ensures { λ r. ⌜ ((instant : ℕ) → JudgesOn s (now (rows .entry)) (now (keys .entry)) (now (line .entry)) instant (model.Ask (model.Get (nameMeans (now (line .entry)) name))) r) ⌝ }
 {
-    let Looked::Present(_, n) = look_up(rows, keys, line, s, name) else {
-        return Verdict::Refused(7);
-    };
-    if n.kind == 2 {
-        return Verdict::Refused(8);
+    match lookup::data_named(rows, keys, line, s, name) {
+        Named::Refused(refusal) => Verdict::Refused(refusal),
+        Named::Row(_, n) => Verdict::Accepted(Plan {
+            change: Change::Keep,
+            answer: Answer::Got(Shown {
+                version: n.number,
+                body: n.body,
+                size: n.size,
+                mode: n.mode,
+                until: n.until,
+                hold: n.hold,
+            }),
+        }),
     }
-    let shown = Shown {
-        version: n.number,
-        body: n.body,
-        size: n.size,
-        mode: n.mode,
-        until: n.until,
-        hold: n.hold,
-    };
-    Verdict::Accepted(Plan {
-        change: Change::Keep,
-        answer: Answer::Got(shown),
-    })
 }
 
 // DELETE with `-`, which no lock bars: `bypass` stands for the contract, which is of the line's verb.
@@ -276,25 +283,16 @@ fn judge_marker(
     requires { ⌜ Inside (now line) key ⌝ }
     ensures { λ r. ⌜ JudgesOn s (now (rows .entry)) (now (keys .entry)) (now (line .entry)) instant (model.AddMarker (partOf (now (line .entry)) key) «bypass») r ⌝ }
 {
-    if s.next == settings::SPENT {
-        return Verdict::Refused(11);
+    let refusal = row_refusal(keys, s);
+    if refusal != 0 {
+        return Verdict::Refused(refusal);
     }
-    let used = s.used;
-    if keys.len() / 64 <= used {
-        return Verdict::Refused(12);
-    }
+    let at = place_for(rows, keys, s, text::part(line, key));
     let n = marker_numbers(s.next, instant);
-    let found = search::find_current(rows, keys, used, text::part(line, key));
-    match found {
-        Found::At(i) => Verdict::Accepted(Plan {
-            change: Change::InsertSame(i, n),
-            answer: Answer::Marked(s.next),
-        }),
-        Found::Place(i) => Verdict::Accepted(Plan {
-            change: Change::Insert(i, n, key),
-            answer: Answer::Marked(s.next),
-        }),
-    }
+    Verdict::Accepted(Plan {
+        change: Change::Insert(at, n, key),
+        answer: Answer::Marked(s.next),
+    })
 }
 
 // DELETE with a number.
@@ -308,7 +306,7 @@ fn judge_delete(
     bypass: bool,
     instant: u64,
 ) -> Verdict
-    requires { ⌜ Asked s (now rows) (now keys) instant (model.DeleteVersion (partOf (now line) key) (model.numbered version) «bypass») ⌝ }
+    requires { ⌜ Ready s (now rows) (now keys) ⌝ }
     requires { ⌜ Inside (now line) key ⌝ }
     ensures { λ r. ⌜ JudgesOn s (now (rows .entry)) (now (keys .entry)) (now (line .entry)) instant (model.DeleteVersion (partOf (now (line .entry)) key) (model.numbered version) «bypass») r ⌝ }
 {
@@ -316,23 +314,25 @@ fn judge_delete(
         key,
         version: Version::Numbered(version),
     };
-    let Looked::Present(i, n) = look_up(rows, keys, line, s, name) else {
-        return Verdict::Refused(7);
-    };
-    if lifecycle::is_locked(n, instant, bypass) {
-        return Verdict::Refused(9);
+    match lookup::row_named(rows, keys, line, s, name) {
+        Named::Refused(refusal) => Verdict::Refused(refusal),
+        Named::Row(i, n) => {
+            if locks::is_locked(n, instant, bypass) {
+                return Verdict::Refused(9);
+            }
+            let change = Change::Remove(i);
+            if n.kind == 2 {
+                return Verdict::Accepted(Plan {
+                    change,
+                    answer: Answer::RemovedMarker(version),
+                });
+            }
+            Verdict::Accepted(Plan {
+                change,
+                answer: Answer::Removed(version),
+            })
+        }
     }
-    let change = Change::Remove(i);
-    if n.kind == 2 {
-        return Verdict::Accepted(Plan {
-            change,
-            answer: Answer::RemovedMarker(version),
-        });
-    }
-    Verdict::Accepted(Plan {
-        change,
-        answer: Answer::Removed(version),
-    })
 }
 
 // SWEEP, whose judgement of each row is left in the fates, accepted or refused.
@@ -388,11 +388,11 @@ pub fn judge(
         Action::Retain(name, retention, bypass) => {
             judge_retain(rows, keys, line, s, name, retention, bypass, instant)
         }
-        Action::SetHold(name, on) => judge_hold(rows, keys, line, s, name, on, instant),
+        Action::SetHold(name, on) => judge_hold(rows, keys, line, s, name, on),
         Action::AddMarker(key, bypass) => judge_marker(rows, keys, line, s, key, bypass, instant),
         Action::DeleteVersion(key, version, bypass) => {
             judge_delete(rows, keys, line, s, key, version, bypass, instant)
         }
-        Action::Get(name) => judge_get(rows, keys, line, s, name, instant),
+        Action::Get(name) => judge_get(rows, keys, line, s, name),
     }
 }

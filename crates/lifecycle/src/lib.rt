@@ -2,7 +2,6 @@
 mod rules;
 
 use settings::Rule;
-use table::Numbers;
 ghost use mathlib.Core.Path.{_≡_};
 ghost use mathlib.Core.Bool.{true};
 ghost use mathlib.Core.List.{List};
@@ -13,11 +12,9 @@ ghost use Rattle.buffers.specs.Lists.{all, same};
 ghost use Rattle.buffers.specs.Ranges.{Within};
 ghost use Rattle.calendar.specs.Calendar.{latest};
 ghost use Rattle.blocks.specs.Blocks.{keyIn, isBlock};
-ghost use Rattle.model.specs.Locks.{locked};
 ghost use Rattle.model.specs.Sweep.{marks, removes};
 ghost use Rattle.settings.specs.Meaning.{rulesMean};
 ghost use Rattle.table.specs.Layout.{rowAt, rowsOf};
-ghost use Rattle.table.specs.Places.{rowFrom};
 ghost use Rattle.lifecycle.specs.Flat.{rulesIn, Rules};
 ghost use Rattle.lifecycle.specs.Days.{over, fewDays};
 ghost use Rattle.lifecycle.specs.Fates.{fateByte, fateOf};
@@ -58,13 +55,6 @@ fn is_over(days: u64, since: u64, instant: u64) -> bool
     calendar::expiry(since, days) <= instant
 }
 
-// The row is locked at an instant, for one with or without bypass; its key does not matter.
-pub fn is_locked(n: Numbers, instant: u64, bypass: bool) -> bool
-    ensures { λ r. ⌜ ((k : List ℕ) → r ≡ locked instant «bypass» (rowFrom n k)) ⌝ }
-{
-    (n.hold == 1) | ((instant < n.until) & ((n.mode == 2) | ((n.mode == 1) & !bypass)))
-}
-
 // The fate of the current row at a position, by its key's days.
 fn current_fate(rows: &[u64], at: usize, days: u64, instant: u64) -> u8
     requires { ⌜ Dated (now rows) at × (days ≤ 36500) ⌝ }
@@ -88,7 +78,7 @@ fn noncurrent_fate(rows: &[u64], at: usize, days: u64, instant: u64) -> u8
     let n = table::numbers_at(rows, at);
     let newer = table::numbers_at(rows, at - 1);
     if is_over(days, newer.created, instant) {
-        if is_locked(n, instant, false) {
+        if locks::is_locked(n, instant, false) {
             return 0;
         }
         return 1;

@@ -19,7 +19,7 @@ use Rattle.settings.specs.declared.Settings.{Settings}
 use Rattle.table.specs.Layout.{capacity}
 use Rattle.bucket.specs.Whole.{bucketOf, whole}
 use Rattle.request.specs.Grammar.{Said, readLine, asked}
-use Rattle.verdict.specs.Decision.{Effect, refuses, decide, effect, decision}
+use Rattle.outcome.specs.Decision.{Effect, refuses, decide, effect, decision}
 use Rattle.outcome.specs.Outcome.{refused, refusalOf, outcome}
 use Rattle.outcome.specs.Steps.{carried, done}
 

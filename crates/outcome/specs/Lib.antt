@@ -1,4 +1,5 @@
 pub mod Outcome
 pub mod Calls
+pub mod Decision
 pub mod Steps
 pub mod Printed

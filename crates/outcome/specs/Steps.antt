@@ -8,7 +8,7 @@ use Rattle.model.specs.Effects.{configAfter}
 use Rattle.settings.specs.declared.Settings.{Settings}
 use Rattle.settings.specs.Meaning.{settingsMean, settingsFrom}
 use Rattle.table.specs.Layout.{numbersOf, keysOf, capacity}
-use Rattle.verdict.specs.Decision.{Effect, Decision, refuses, does}
+use Rattle.outcome.specs.Decision.{Effect, Decision, refuses, does}
 use Rattle.outcome.specs.Outcome.{Outcome, refused, written}
 
 -- the settings after an accepted line: now is the bucket's time

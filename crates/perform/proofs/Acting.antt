@@ -10,11 +10,11 @@ use Rattle.settings.specs.Meaning.{rulesMean}
 use Rattle.table.specs.Layout.{capacity}
 use Rattle.request.specs.declared.Action.{Action}
 use Rattle.request.specs.Meaning.{actionMeans}
-use Rattle.verdict.specs.declared.State.{State}
-use Rattle.verdict.specs.declared.Verdict.{Verdict}
-use Rattle.verdict.specs.Decision.{Decision, tableDecision}
-use Rattle.verdict.specs.State.{bucketBy, rowsIn}
-use Rattle.verdict.specs.Meaning.{verdictMeans}
+use Rattle.locks.specs.declared.State.{State}
+use Rattle.judge.specs.declared.Verdict.{Verdict}
+use Rattle.outcome.specs.Decision.{Decision, tableDecision}
+use Rattle.judge.specs.State.{bucketBy, rowsIn}
+use Rattle.judge.specs.Meaning.{verdictMeans}
 use Rattle.judge.specs.Premises.{both, Asked, Sweepable, JudgesBy, JudgesOn}
 use Rattle.apply.specs.Applied.{judged}
 use Rattle.perform.specs.Steps.{TableOutcome, stepOf, Performable, Actable, Acted, SoundRules}

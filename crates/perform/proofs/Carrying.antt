@@ -6,13 +6,13 @@ use native.Mathlib.Omega.{arith}
 use lib.ListN.{length, drop}
 use Rattle.buffers.specs.Writes.{Wrote}
 use Rattle.table.specs.Layout.{rowsOf, capacity}
-use Rattle.verdict.specs.declared.State.{State}
-use Rattle.verdict.specs.declared.Change.{Change}
-use Rattle.verdict.specs.declared.Plan.{Plan}
-use Rattle.verdict.specs.declared.Verdict.{Verdict}
-use Rattle.verdict.specs.declared.Verdict.the-variants as verdict
-use Rattle.verdict.specs.State.{rowsIn}
-use Rattle.verdict.specs.Meaning.{verdictMeans, Feasible}
+use Rattle.locks.specs.declared.State.{State}
+use Rattle.judge.specs.declared.Change.{Change}
+use Rattle.judge.specs.declared.Plan.{Plan}
+use Rattle.judge.specs.declared.Verdict.{Verdict}
+use Rattle.judge.specs.declared.Verdict.the-variants as verdict
+use Rattle.judge.specs.State.{rowsIn}
+use Rattle.judge.specs.Meaning.{verdictMeans, Feasible}
 use Rattle.answers.specs.declared.Answer.{Answer}
 use Rattle.answers.specs.Meaning.{textOf, Printable}
 use Rattle.apply.specs.declared.Progress.{Progress}

@@ -12,11 +12,11 @@ use Rattle.table.specs.Layout.{numbersOf, keysOf, capacity}
 use Rattle.model.specs.Requests.{Verb}
 use Rattle.request.specs.declared.Action.{Action}
 use Rattle.request.specs.Meaning.{actionMeans, ActionInside}
-use Rattle.verdict.specs.declared.State.{State}
-use Rattle.verdict.specs.declared.Verdict.{Verdict}
-use Rattle.verdict.specs.Decision.{Effect, Decision, refuses, does, tableDecision}
-use Rattle.verdict.specs.State.{bucketBy, rowsIn, Ready}
-use Rattle.verdict.specs.Meaning.{Feasible}
+use Rattle.locks.specs.declared.State.{State}
+use Rattle.judge.specs.declared.Verdict.{Verdict}
+use Rattle.outcome.specs.Decision.{Effect, Decision, refuses, does, tableDecision}
+use Rattle.judge.specs.State.{bucketBy, rowsIn, Ready}
+use Rattle.judge.specs.Meaning.{Feasible}
 use Rattle.judge.specs.Premises.{both, Asked}
 use Rattle.apply.specs.Applied.{judged}
 use Rattle.outcome.specs.Outcome.{written}

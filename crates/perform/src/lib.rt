@@ -1,8 +1,8 @@
 // A request carried out on the table, settings apart: judged with shared borrows only, then done and answered. The definitions are in outcome.
+use judge::Verdict;
+use locks::State;
 use request::Action;
 use settings::Rule;
-use verdict::State;
-use verdict::Verdict;
 ghost use mathlib.Core.Path.{_≡_};
 ghost use Prim.Native.Nat.{_≤_};
 ghost use lib.ListN.{length, replicate};
@@ -10,9 +10,9 @@ ghost use Rattle.model.specs.Requests.{Sweep};
 ghost use Rattle.request.specs.Meaning.{actionMeans};
 ghost use Rattle.settings.specs.Meaning.{rulesMean};
 ghost use Rattle.table.specs.Layout.{capacity};
-ghost use Rattle.verdict.specs.Decision.{tableDecision};
-ghost use Rattle.verdict.specs.State.{bucketBy, rowsIn};
-ghost use Rattle.verdict.specs.Meaning.{verdictMeans};
+ghost use Rattle.outcome.specs.Decision.{tableDecision};
+ghost use Rattle.judge.specs.State.{bucketBy, rowsIn};
+ghost use Rattle.judge.specs.Meaning.{verdictMeans};
 ghost use Rattle.judge.specs.Premises.{both, Asked};
 ghost use Rattle.apply.specs.Applied.{judged};
 ghost use Rattle.perform.specs.Steps.{tableOutcome, stepOf, Performable, Actable, Acted, SoundRules};

@@ -6,7 +6,7 @@ use mathlib.Core.List.{List, [], _∷_, _++_}
 use native.Mathlib.Omega.{arith}
 use lib.Dec.{leb}
 use lib.ListN.{length, getD, take, drop, set, length-append, length-drop, length-set, take-append-drop}
-use lib.Seq.{length-take-le, drop-cons, set-split, split-at}
+use lib.Seq.{length-take-le, set-split, split-at}
 use borrow.Author.Tests.{le-leb}
 use Rattle.buffers.specs.Writes.{placed}
 use Rattle.buffers.proofs.Tests.{and-i}
@@ -16,7 +16,7 @@ use Rattle.model.specs.Rows.{Row}
 use Rattle.table.specs.Layout.{numbersOfRow, keysOf, keysFit, Holds}
 use Rattle.table.specs.Changes.{insertAt, removeAt}
 use Rattle.table.specs.Moves.{opened, closed}
-use Rattle.table.proofs.Laying.{Laying, lay-insert, lay-double, lay-remove, lay-rewrite}
+use Rattle.table.proofs.Laying.{Laying, lay-insert, lay-remove, lay-rewrite}
 use Rattle.table.proofs.Held.{numbers-laying, keys-laying, held-fit}
 
 -- ## The changed list
@@ -68,14 +68,6 @@ module _ {part : Row → List ℕ} {k : ℕ} {lay : ℕ → List Row → List �
       ∙ lay-insert y (take at xs) (drop at xs) c at (sym t) x (length xs) (omega arith) g
 
   module _ (e : Row) (h : at < length xs) where
-    pub laid-double : (x : Row) → part x ≡ part (getD xs at e) → length xs < c → opened k (length xs) at (lay c xs) ≡ lay c (insertAt at x xs)
-    laid-double x p g =
-        let t = length-take-le at xs (omega arith) in
-        let d = length-drop (suc at) xs in
-        ap (λ (l : List Row). opened k (length xs) at (lay c l)) (split-at xs at e h)
-        ∙ lay-double y (take at xs) (drop (suc at) xs) c at (sym t) x (getD xs at e) (length xs) p (omega arith) g
-        ∙ ap (λ (l : List Row). lay c (take at xs ++ x ∷ l)) (sym (drop-cons xs at e h))
-
     pub laid-remove : length xs ≤ c → closed k (length xs) at (lay c xs) ≡ lay c (removeAt at xs)
     laid-remove g =
         let t = length-take-le at xs (omega arith) in
@@ -104,16 +96,6 @@ module _ {c : ℕ} {xs : List Row} {n b : List ℕ} (h : Holds c xs n b) (at : �
       }
 
   module _ (e : Row) (p : at < length xs) where
-    pub holds-double : (x : Row) → x .key ≡ getD xs at e .key → length xs < c
-        → Holds c (insertAt at x xs) (placed (opened 8 (length xs) at n) (8 * at) (numbersOfRow x)) (opened 64 (length xs) at b)
-    holds-double x q g =
-        record {
-          numbers-are = rw (h .numbers-are) (laid-insert numbers-laying c at xs x (omega arith) g);
-          keys-are = rw (h .keys-are) (laid-double keys-laying c at xs e p x (ap blockOf q) g);
-          room = rw (insert-length at x xs (omega arith)) g;
-          keys-fit = insert-fits at x xs (rw q (held-fit h at e p)) (h .keys-fit);
-        }
-
     pub holds-remove : Holds c (removeAt at xs) (closed 8 (length xs) at n) (closed 64 (length xs) at b)
     holds-remove =
         let r = h .room in

@@ -5,7 +5,7 @@ use mathlib.Core.List.{List, [], _∷_, _++_, append-nil, append-assoc}
 use native.Mathlib.Omega.{arith}
 use native.Mathlib.Nat.{mul-zero, mul-suc, mul-add}
 use lib.ListN.{length, take, drop, replicate, length-append, length-replicate, take-append-drop}
-use lib.Seq.{take-at, drop-at, length-take-le}
+use lib.Seq.{drop-at, length-take-le}
 use Rattle.buffers.specs.Writes.{placed}
 use Rattle.model.specs.Rows.{Row}
 use Rattle.table.specs.Moves.{opened, closed}
@@ -114,14 +114,3 @@ module _ {part : Row → List ℕ} {k : ℕ} {lay : ℕ → List Row → List �
         let s : (v : Row) → lay c (xs ++ v ∷ ys) ≡ flat part xs ++ (part v ++ lay d ys) =
         λ v. lay-append xs (v ∷ ys) c (suc d) (omega arith) ∙ ap (λ (l : List ℕ). flat part xs ++ l) (y .more d v ys) in
         rw (s w, s x) (replaced (flat part xs) (part w) (part x) (lay d ys) (k * at) front (y .wide x ∙ sym (y .wide w)))
-
-  -- Rows that were moved on and not written over: the first stands twice.
-  pub lay-double : (xs ys : List Row) (c at : ℕ) → at ≡ length xs → (x w : Row) (u : ℕ) → part x ≡ part w → u ≡ length xs + suc (length ys) → u < c
-      → opened k u at (lay c (xs ++ w ∷ ys)) ≡ lay c (xs ++ x ∷ w ∷ ys)
-  lay-double xs ys c at place x w u p e h =
-      let d = c - suc u in
-      let t : take k ((part w ++ flat part ys) ++ replicate k 0) ≡ part x =
-      ap (take k) (append-assoc (part w) (flat part ys) (replicate k 0)) ∙ take-at (part w) (flat part ys ++ replicate k 0) k (y .wide w) ∙ sym p in
-      open-rows xs (w ∷ ys) c at place u d e (omega arith)
-      ∙ ap (λ (l : List ℕ). flat part xs ++ (l ++ (flat part (w ∷ ys) ++ lay d []))) t
-      ∙ sym (one-more xs (w ∷ ys) c at place x d (omega arith))

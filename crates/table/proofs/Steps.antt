@@ -19,7 +19,7 @@ use Rattle.table.specs.Changes.{insertAt, removeAt}
 use Rattle.table.specs.Places.{rowFrom, numbersIn, keyAt, Insertable, InUse}
 use Rattle.table.specs.Moves.{opened, closed}
 use Rattle.table.proofs.Held.{rows-length, held-numbers, held-keys, held-key}
-use Rattle.table.proofs.Changes.{holds-insert, holds-double, holds-remove, holds-rewrite}
+use Rattle.table.proofs.Changes.{holds-insert, holds-remove, holds-rewrite}
 
 -- ## A row's numbers and its key
 
@@ -129,14 +129,6 @@ module _ (n b n' b' : List ℕ) (used at : ℕ) where
       let u = rows-length n b used in
       rw (e, f) (rw u at (holds-insert (p .held) at (rowFrom m key) (omega arith) (omega arith) l))
 
-  pub row-doubled : (m : Numbers) → Insertable n b used at → at < used
-      → n' ≡ placed (opened 8 used at n) (8 * at) (numbersOfRow (rowFrom m [])) → b' ≡ opened 64 used at b
-      → Holds (capacity b) (insertAt at (rowFrom m (keyAt b at)) (rowsOf n b used)) n' b'
-  row-doubled m p h e f =
-      let u = rows-length n b used in
-      let g : at < length (rowsOf n b used) = omega arith in
-      rw (e, f) (rw u at (holds-double (p .held) at spare g (rowFrom m (keyAt b at)) (held-key (p .held) at spare g) (omega arith)))
-
   pub row-removed : InUse n b used at → n' ≡ closed 8 used at n → b' ≡ closed 64 used at b → Holds (capacity b) (removeAt at (rowsOf n b used)) n' b'
   row-removed p e f =
       let u = rows-length n b used in
@@ -149,4 +141,4 @@ row-rewritten n b n' used at m p e =
     let g : at < length (rowsOf n b used) = omega arith in
     rw e (holds-rewrite (p .held) at spare g (rowFrom m (keyAt b at)) (held-key (p .held) at spare g))
 
-pub ruleset row-cases = (insert-numbers-room, used-numbers-room, used-keys-room, row-room, row-inserted, row-doubled, row-removed, row-rewritten)
+pub ruleset row-cases = (insert-numbers-room, used-numbers-room, used-keys-room, row-room, row-inserted, row-removed, row-rewritten)

@@ -147,15 +147,6 @@ pub fn insert_row(rows: &mut [u64], keys: &mut [u8], used: usize, at: usize, n: 
     insert_key(keys, used, at, key);
 }
 
-// Puts a row in front of the used row at a position, with that row's key: its bytes are in place once the rows have moved.
-pub fn insert_same_key(rows: &mut [u64], keys: &mut [u8], used: usize, at: usize, n: Numbers)
-    requires { ⌜ Insertable (now rows) (now keys) used at × (at < used) ⌝ }
-    ensures { λ _. ⌜ Holds (capacity (now (keys .entry))) (insertAt at (rowFrom n (keyAt (now (keys .entry)) at)) (rowsOf (now (rows .entry)) (now (keys .entry)) used)) (now (rows .exit)) (now (keys .exit)) ⌝ }
-{
-    insert_numbers(rows, used, at, n);
-    open_keys(keys, used, at);
-}
-
 // Removes the row at a position: the used rows behind it move by one, and a zero row comes in behind them.
 pub fn remove_row(rows: &mut [u64], keys: &mut [u8], used: usize, at: usize)
     requires { ⌜ InUse (now rows) (now keys) used at ⌝ }

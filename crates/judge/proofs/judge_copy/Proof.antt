@@ -11,7 +11,6 @@ judge-copy-spec =
     (λ c κs. search needs)
     (λ c. search needs)
     (λ c. search needs)
-    (λ c us fs. search (needs, copy-ways))
-    (λ c us fs. search (needs, copy-ways))
     (λ c κs. search (needs, copy-ways))
+    (λ c us fs. search (needs, copy-ways))
     (λ c us fs. search (needs, copy-ways)))

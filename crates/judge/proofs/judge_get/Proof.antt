@@ -11,6 +11,5 @@ judge-get-spec =
     (λ c κs. search needs)
     (λ c. search needs)
     (λ c. search needs)
-    (λ c us fs. search (needs, data-ways))
-    (λ c us fs. search (needs, data-ways))
-    (λ c us fs. search (needs, data-ways)))
+    (λ c t us fs. search (needs, data-ways))
+    (λ c t us fs. search (needs, data-ways)))

@@ -8,12 +8,9 @@ pub judge-marker-spec : {M : Type 1} → statement M
 judge-marker-spec =
     tie.close
     (tie.spec
-    (λ c us fs. search (needs, marker-ways))
+    (λ c κs. search needs)
     (λ c us fs. search (needs, marker-ways))
     (λ c κs. search needs)
     (λ c κs. search needs)
-    (λ c κs. search (needs, marker-ways))
-    (λ c. search needs)
-    (λ c. search needs)
-    (λ c us fs. search (needs, marker-ways))
+    (λ c κs. search needs)
     (λ c us fs. search (needs, marker-ways)))

@@ -12,7 +12,7 @@ judge-new-spec =
     (λ c. search needs)
     (λ c. search needs)
     (λ c us fs. search (needs, put-ways))
-    (λ c us fs. search (needs, put-ways))
+    (λ c κs. search needs)
     (λ c us fs. search (needs, put-ways))
     (λ c κs. search needs)
     (λ c κs. search needs)

@@ -1,6 +1,0 @@
-pub mod Writing
-pub mod Flat
-pub mod Passes
-pub mod Removing
-pub mod Marking
-pub mod Whole

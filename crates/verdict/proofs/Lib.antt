@@ -1,2 +1,0 @@
-pub mod Locks
-pub mod Looking

@@ -1,4 +1,0 @@
-pub mod Decision
-pub mod State
-pub mod Meaning
-pub mod Locks
