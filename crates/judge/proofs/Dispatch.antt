@@ -1,9 +1,11 @@
 -- From an action's own judgement to that of any action.
 use Prim.Native.Nat.{ℕ}
 use mathlib.Core.Path.{_≡_, refl}
-use mathlib.Core.Bool.{Bool}
+use mathlib.Core.Bool.{Bool, true}
 use mathlib.Core.List.{List}
 use Rattle.text.specs.declared.Place.{Place}
+use Rattle.text.specs.Fields.{partOf}
+use Rattle.text.specs.Keys.{isKey}
 use Rattle.model.specs.Settings.{Rule}
 use Rattle.model.specs.Requests as model
 use Rattle.request.specs.declared.Name.{Name}
@@ -22,6 +24,11 @@ use Rattle.judge.specs.Premises.{Asked, JudgesBy, JudgesOn}
 pub asked-as : (s : State) (numbers keys line : List ℕ) (now : ℕ) (v u : Action) (w : model.Verb) → v ≡ u → Asked s numbers keys now (actionMeans line v)
     → actionMeans line u ≡ w → Asked s numbers keys now w
 asked-as s numbers keys line now v u w e asked q = rw (e, q) at asked
+
+pub marker-key : (s : State) (numbers keys line : List ℕ) (now : ℕ) (v : Action) (k : Place) (y : Bool) → v ≡ action.AddMarker k y → Asked s numbers keys now (actionMeans line v)
+    → isKey (partOf line k) ≡ true
+unfolding model.inRange
+marker-key s numbers keys line now v k y e asked = (rw e at asked) .in-range
 
 module _ (line : List ℕ) (v : Action) (inside : ActionInside line v) where
   pub put-inside : (k : Place) (body size : ℕ) (t : Terms) → v ≡ action.Put k body size t → Inside line k
@@ -57,9 +64,14 @@ module _ (s : State) (numbers keys line : List ℕ) (now : ℕ) (rules : List Ru
   pub judged-always : (u : Action) → v ≡ u → ((t : ℕ) → JudgesOn s numbers keys line t (actionMeans line u) r) → JudgesBy s numbers keys line now rules fates (actionMeans line v) r
   judged-always u e h = rw e (h now rules fates)
 
+  pub judged-either : (k : Place) (y : Bool) → v ≡ action.AddMarker k y → ((z : Bool) → JudgesOn s numbers keys line now (model.AddMarker (partOf line k) z) r)
+      → JudgesBy s numbers keys line now rules fates (actionMeans line v) r
+  judged-either k y e h = rw e (h y rules fates)
+
 pub ruleset action-ways = (
   refl,
   asked-as,
+  marker-key,
   put-inside,
   copy-source,
   copy-target,
@@ -70,4 +82,5 @@ pub ruleset action-ways = (
   get-inside,
   judged-as,
   judged-always,
+  judged-either,
 )

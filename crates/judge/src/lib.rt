@@ -16,12 +16,14 @@ use settings::Rule;
 use table::Numbers;
 use text::Place;
 ghost use mathlib.Core.Path.{_≡_};
+ghost use mathlib.Core.Bool.{Bool, true};
 ghost use mathlib.Core.List.{List};
 ghost use Prim.Native.Nat.{ℕ};
 ghost use Rattle.buffers.specs.Choices.{orZero};
 ghost use Rattle.buffers.specs.Ranges.{Within};
 ghost use Rattle.model.specs.Requests as model;
 ghost use Rattle.text.specs.Fields.{partOf};
+ghost use Rattle.text.specs.Keys.{isKey};
 ghost use Rattle.model.specs.Sweep.{marker};
 ghost use Rattle.model.specs.Effects.{newHold, holdNumber, setRetention, setHold};
 ghost use Rattle.settings.specs.Meaning.{rulesMean};
@@ -269,19 +271,19 @@ fn judge_get(rows: &[u64], keys: &[u8], line: &[u8], s: State, name: Name) -> Ve
     }
 }
 
-// DELETE with `-`, which no lock bars: `bypass` stands for the contract, which is of the line's verb.
+// DELETE with `-`, which no lock bars, with or without bypass.
 fn judge_marker(
     rows: &[u64],
     keys: &[u8],
     line: &[u8],
     s: State,
     key: Place,
-    bypass: bool,
     instant: u64,
 ) -> Verdict
-    requires { ⌜ Asked s (now rows) (now keys) instant (model.AddMarker (partOf (now line) key) «bypass») ⌝ }
+    requires { ⌜ Ready s (now rows) (now keys) ⌝ }
+    requires { ⌜ isKey (partOf (now line) key) ≡ true ⌝ }
     requires { ⌜ Inside (now line) key ⌝ }
-    ensures { λ r. ⌜ JudgesOn s (now (rows .entry)) (now (keys .entry)) (now (line .entry)) instant (model.AddMarker (partOf (now (line .entry)) key) «bypass») r ⌝ }
+    ensures { λ r. ⌜ ((bypass : Bool) → JudgesOn s (now (rows .entry)) (now (keys .entry)) (now (line .entry)) instant (model.AddMarker (partOf (now (line .entry)) key) bypass) r) ⌝ }
 {
     let refusal = row_refusal(keys, s);
     if refusal != 0 {
@@ -389,7 +391,7 @@ pub fn judge(
             judge_retain(rows, keys, line, s, name, retention, bypass, instant)
         }
         Action::SetHold(name, on) => judge_hold(rows, keys, line, s, name, on),
-        Action::AddMarker(key, bypass) => judge_marker(rows, keys, line, s, key, bypass, instant),
+        Action::AddMarker(key, _) => judge_marker(rows, keys, line, s, key, instant),
         Action::DeleteVersion(key, version, bypass) => {
             judge_delete(rows, keys, line, s, key, version, bypass, instant)
         }
