@@ -7,11 +7,11 @@ use mathlib.Core.List.{List, [], _∷_, _++_, append-assoc}
 use native.Mathlib.Omega.{arith}
 use native.Mathlib.Numerals.{add-one}
 use lib.Dec.{ltb}
-use lib.ListN.{length, take, drop, set, replicate, length-append, length-take, length-drop, length-replicate, length-set, take-append-drop}
-use lib.Seq.{length-take-le, take-take, take-all, take-at, take-add, take-append-le, take-suc-set, take-set-le}
+use lib.ListN.{length, take, drop, set, replicate, length-take, length-drop, length-replicate}
+use lib.Seq.{length-take-le, take-all, take-add, take-append-le, take-suc-set, take-set-le}
 use borrow.Author.Tests.{ltb-true, ltb-false}
 use borrow.Rule.Slice.PartMut.{midOf, putMid, take-put, same-len-mid}
-use Rattle.buffers.specs.Ranges.{Within, Span}
+use Rattle.buffers.specs.Ranges.{Span}
 use Rattle.buffers.specs.Moves.{movedDown}
 use Rattle.buffers.proofs.Tests.{either, clash}
 use Rattle.text.specs.Lines.{linesOf}
@@ -24,8 +24,8 @@ use Rattle.outcome.specs.Calls.{Lent, lent}
 use Rattle.bucketrun.specs.declared.Block.{Block}
 use Rattle.bucketrun.specs.declared.Came.{Came}
 use Rattle.bucketrun.specs.declared.Rest.{Rest}
-use Rattle.bucketrun.specs.Program.{leftBy, endOf, endedLines, begunLine, Waiting, waiting, afterBlock, afterBlocks, closed, joined}
-use Rattle.bucketrun.specs.Course.{Servable, Through, ServedAll, CameBehind, Begun, TookBlock, Startable, BetweenBlocks, Ran}
+use Rattle.bucketrun.specs.Program.{leftBy, endOf, endedLines, begunLine, Waiting, waiting, afterBlock, afterBlocks, closed}
+use Rattle.bucketrun.specs.Course.{Servable, ServedAll, CameBehind, Begun, TookBlock, Startable, BetweenBlocks, Ran}
 use Rattle.bucketrun.proofs.Lines.{end-most, rest-none, none-take, closed-some, closed-lines}
 use Rattle.bucketrun.proofs.Cutting.{blocks-left}
 

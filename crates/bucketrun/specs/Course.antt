@@ -1,8 +1,8 @@
 -- What the program's functions ask for and leave.
-use Prim.Native.Nat.{ℕ, _+_, _-_, _≤_, _<_, min}
+use Prim.Native.Nat.{ℕ, _+_, _-_, _≤_, min}
 use mathlib.Core.Path.{_≡_}
 use mathlib.Core.Bool.{Bool, true, false}
-use mathlib.Core.List.{List, [], _∷_, _++_}
+use mathlib.Core.List.{List, [], _++_}
 use lib.ListN.{length, take, drop}
 use Rattle.buffers.specs.Ranges.{Within, Span}
 use Rattle.buffers.specs.Moves.{movedDown}
@@ -16,7 +16,7 @@ use Rattle.bucketrun.specs.declared.Course.{Course as After}
 use Rattle.bucketrun.specs.declared.Block.{Block}
 use Rattle.bucketrun.specs.declared.Came.{Came}
 use Rattle.bucketrun.specs.declared.Rest.{Rest}
-use Rattle.bucketrun.specs.Program.{leftBy, printedBy, endOf, Waiting, waiting, afterBlock, afterBlocks, closed, joined}
+use Rattle.bucketrun.specs.Program.{leftBy, printedBy, endOf, waiting, afterBlock, afterBlocks, closed, joined}
 
 -- ## The lines of a block
 
