@@ -3,7 +3,7 @@ use Prim.Native.Nat.{ℕ, zero, suc, _+_, _*_, _-_, _≤_, _<_, min}
 use mathlib.Core.Path.{_≡_, refl, sym, _∙_, ap}
 use mathlib.Core.Bool.{Bool, true, false, not}
 use mathlib.Core.Logic.{inl, inr}
-use mathlib.Core.List.{List, [], _∷_, _++_, append-assoc}
+use mathlib.Core.List.{List, [], _∷_, _++_}
 use native.Mathlib.Omega.{arith}
 use native.Mathlib.Numerals.{add-one}
 use lib.Dec.{ltb}
@@ -27,8 +27,8 @@ use Rattle.bucketrun.specs.declared.Block.{Block}
 use Rattle.bucketrun.specs.declared.Came.{Came}
 use Rattle.bucketrun.specs.declared.Rest.{Rest}
 use Rattle.bucketrun.specs.Program.{leftBy, endOf, endedLines, begunLine, Waiting, waiting, afterBlock, afterBlocks, closed}
-use Rattle.bucketrun.specs.Course.{Servable, ServedAll, CameBehind, TookBlock, Startable, BetweenBlocks, Ran}
-use Rattle.bucketrun.proofs.Lines.{end-most, rest-none, none-take, closed-some, closed-lines}
+use Rattle.bucketrun.specs.Course.{ServedAll, CameBehind, TookBlock, Startable, BetweenBlocks, Ran}
+use Rattle.bucketrun.proofs.Lines.{rest-none, none-take, closed-some, closed-lines}
 use Rattle.bucketrun.proofs.Cutting.{blocks-left}
 
 -- ## Reading and keeping

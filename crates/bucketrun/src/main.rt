@@ -5,7 +5,6 @@ use libc::STDIN_FILENO;
 use libc::STDOUT_FILENO;
 use settings::Settings;
 ghost use mathlib.Core.Path.{_≡_};
-ghost use mathlib.Core.Bool.{true};
 ghost use Prim.Native.Nat.{_+_, _≤_, _<_, min};
 ghost use lib.ListN.{length, take, drop, replicate};
 ghost use Rattle.buffers.specs.Ranges.{Within, Span};
