@@ -32,6 +32,8 @@ use Rattle.table.specs.Layout.{capacity}
 use Rattle.table.specs.Places.{rowFrom}
 use Rattle.table.specs.Changes.{insertAt}
 use Rattle.table.proofs.Held.{rows-length}
+use Rattle.settings.specs.declared.State.{State}
+use Rattle.settings.specs.State.{configBy}
 use Rattle.fields.specs.Meaning.{Inside}
 use Rattle.search.specs.declared.Found.{Found}
 use Rattle.search.specs.declared.Found.the-variants.{At, Place as Free}
@@ -41,7 +43,6 @@ use Rattle.search.proofs.Positions.{current-used, current-free}
 use Rattle.answers.specs.Text.{answerText}
 use Rattle.answers.specs.Meaning.{textOf}
 use Rattle.answers.specs.declared.Answer.the-variants.{Made, Marked}
-use Rattle.verdict.specs.declared.State.{State}
 use Rattle.verdict.specs.declared.Verdict.{Verdict}
 use Rattle.verdict.specs.declared.Verdict.the-variants.{Refused, Accepted}
 use Rattle.verdict.specs.declared.Change.the-variants.{Insert, InsertSame}
@@ -51,7 +52,7 @@ use Rattle.verdict.specs.declared.NewLock.the-variants.{TooLate, Lock}
 use Rattle.verdict.specs.declared.Looked.{Looked}
 use Rattle.verdict.specs.declared.Looked.the-variants.{Present}
 use Rattle.verdict.specs.Decision.{tableDecision}
-use Rattle.verdict.specs.State.{configBy, bucketBy, rowsIn}
+use Rattle.verdict.specs.State.{bucketBy, rowsIn}
 use Rattle.verdict.specs.Locks.{Pair, newLock, lockMeans}
 use Rattle.verdict.specs.Meaning.{Judged, keyHere, changeMeans, changeTakes, Feasible, Judges}
 use Rattle.verdict.proofs.Looking.{ready-searchable}

@@ -6,14 +6,14 @@ use mathlib.Core.List.{List}
 use Rattle.text.specs.declared.Place.{Place}
 use Rattle.model.specs.Settings.{Rule}
 use Rattle.model.specs.Requests as model
+use Rattle.settings.specs.declared.State.{State}
 use Rattle.request.specs.declared.Name.{Name}
-use Rattle.request.specs.declared.Retention.{Retention}
-use Rattle.request.specs.declared.Terms.{Terms}
 use Rattle.request.specs.declared.Action.{Action}
 use Rattle.request.specs.declared.Action.the-variants as action
+use Rattle.fields.specs.declared.Retention.{Retention}
+use Rattle.fields.specs.declared.Terms.{Terms}
 use Rattle.fields.specs.Meaning.{Inside}
 use Rattle.request.specs.Meaning.{actionMeans, ActionInside}
-use Rattle.verdict.specs.declared.State.{State}
 use Rattle.verdict.specs.declared.Verdict.{Verdict}
 use Rattle.judge.specs.Premises.{Asked, JudgesBy, JudgesOn}
 
@@ -45,9 +45,6 @@ module _ (line : List ℕ) (v : Action) (inside : ActionInside line v) where
   pub delete-inside : (k : Place) (n : ℕ) (y : Bool) → v ≡ action.DeleteVersion k n y → Inside line k
   delete-inside k n y e = rw e at inside
 
-  pub get-inside : (n : Name) → v ≡ action.Get n → Inside line (n .key)
-  get-inside n e = rw e at inside
-
 -- ## The verdict
 
 module _ (s : State) (numbers keys line : List ℕ) (now : ℕ) (rules : List Rule) (fates : List ℕ) (v : Action) (r : Verdict) where
@@ -64,6 +61,5 @@ pub ruleset action-ways = (
   hold-inside,
   marker-inside,
   delete-inside,
-  get-inside,
   judged-as,
 )

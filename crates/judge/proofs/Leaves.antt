@@ -18,12 +18,12 @@ use Rattle.model.specs.Effects.{rowOf, setRetention, setHold, holdNumber}
 use Rattle.table.specs.declared.Numbers.{Numbers}
 use Rattle.table.specs.Layout.{numbersOfRow, rowsOf}
 use Rattle.table.specs.Places.{rowFrom, numbersIn}
+use Rattle.settings.specs.declared.State.{State}
 use Rattle.search.specs.declared.Found.{Found}
 use Rattle.search.specs.declared.Found.the-variants.{At, Place}
 use Rattle.search.specs.Places.{nthRow, keyPlace, currentIn, rowFound, placeFound}
 use Rattle.search.proofs.Named.{current-place, current-row, version-row}
 use Rattle.search.proofs.Positions.{row-below, current-used, current-free}
-use Rattle.verdict.specs.declared.State.{State}
 use Rattle.verdict.specs.declared.Looked.{Looked}
 use Rattle.verdict.specs.declared.Looked.the-variants.{Absent, Present}
 use Rattle.verdict.specs.State.{rowsIn, Ready}

@@ -5,18 +5,18 @@ use mathlib.Core.Bool.{true}
 use mathlib.Core.List.{List}
 use mathlib.Core.Option.{some, none}
 use lib.ListN.{length}
+use Rattle.calendar.specs.declared.Now.{Now}
 use Rattle.calendar.specs.Calendar.{latest}
 use Rattle.model.specs.Rows.{Row}
 use Rattle.model.specs.Settings.{Rule, soundRules}
 use Rattle.model.specs.Requests.{Name, Verb, inRange}
 use Rattle.model.specs.Effects.{rowOf}
-use Rattle.model.specs.Time.{Now}
 use Rattle.settings.specs.declared.Rule as settings
+use Rattle.settings.specs.declared.State.{State}
 use Rattle.settings.specs.Meaning.{rulesMean, prefixesAre}
 use Rattle.table.specs.Layout.{capacity}
 use Rattle.table.specs.Places.{rowFrom}
 use Rattle.search.specs.Places.{nthRow}
-use Rattle.verdict.specs.declared.State.{State}
 use Rattle.verdict.specs.declared.Looked.{Looked}
 use Rattle.verdict.specs.declared.Looked.the-variants.{Absent, Present}
 use Rattle.verdict.specs.declared.Verdict.{Verdict}

@@ -1,21 +1,23 @@
 // A request judged on the table, with shared borrows only: refusals 7 to 12, or the plan of what the line does. The definitions are in verdict.
 use answers::Answer;
 use answers::Shown;
+use calendar::Now;
 use fields::Hold;
+use fields::Retention;
+use fields::Terms;
 use fields::Version;
 use request::Action;
 use request::Name;
-use request::Retention;
-use request::Terms;
+use request::Query;
 use search::Found;
 use settings::Rule;
+use settings::State;
 use table::Numbers;
 use text::Place;
 use verdict::Change;
 use verdict::Looked;
 use verdict::NewLock;
 use verdict::Plan;
-use verdict::State;
 use verdict::Verdict;
 ghost use mathlib.Core.Path.{_≡_};
 ghost use mathlib.Core.List.{List};
@@ -29,8 +31,8 @@ ghost use Rattle.model.specs.Effects.{newHold, holdNumber, setRetention, setHol
 ghost use Rattle.settings.specs.Meaning.{rulesMean};
 ghost use Rattle.table.specs.Places.{rowFrom};
 ghost use Rattle.search.specs.Places.{keyPlace};
-ghost use Rattle.fields.specs.Meaning.{modeMeans, untilMeans, holdMeans, Inside};
-ghost use Rattle.request.specs.Meaning.{nameMeans, retentionMeans, termsMeans, actionMeans, ActionInside};
+ghost use Rattle.fields.specs.Meaning.{modeMeans, untilMeans, holdMeans, Inside, retentionMeans, termsMeans};
+ghost use Rattle.request.specs.Meaning.{nameMeans, actionMeans, queryMeans, ActionInside, QueryInside};
 ghost use Rattle.lifecycle.specs.Fates.{fatesAfter};
 ghost use Rattle.verdict.specs.State.{rowsIn, Ready};
 ghost use Rattle.judge.specs.Premises.{Asked, Looks, Sweepable, JudgesBy, JudgesOn};
@@ -132,7 +134,7 @@ fn judge_new(
     let NewLock::Lock(mode, until) = verdict::new_lock(s, retention, instant) else {
         return Verdict::Refused(10);
     };
-    if s.next == settings::SPENT {
+    if s.next == model::SPENT {
         return Verdict::Refused(11);
     }
     if keys.len() / 64 <= s.used {
@@ -236,12 +238,20 @@ fn judge_hold(
     })
 }
 
-// GET, at every instant alike.
-fn judge_get(rows: &[u64], keys: &[u8], line: &[u8], s: State, name: Name, instant: u64) -> Verdict
-    requires { ⌜ Asked s (now rows) (now keys) instant (model.Ask (model.Get (nameMeans (now line) name))) ⌝ }
-    requires { ⌜ Inside (now line) (name .key) ⌝ }
-    ensures { λ r. ⌜ JudgesOn s (now (rows .entry)) (now (keys .entry)) (now (line .entry)) instant (model.Ask (model.Get (nameMeans (now (line .entry)) name))) r ⌝ }
+// GET, at every instant alike: `when` stands for the contract, which is of the line's now.
+pub fn judge_query(
+    rows: &[u64],
+    keys: &[u8],
+    line: &[u8],
+    s: State,
+    query: Query,
+    when: Now,
+) -> Verdict
+    requires { ⌜ Asked s (now rows) (now keys) (when .judge) (model.Ask (queryMeans (now line) query)) ⌝ }
+    requires { ⌜ QueryInside (now line) query ⌝ }
+    ensures { λ r. ⌜ JudgesOn s (now (rows .entry)) (now (keys .entry)) (now (line .entry)) (when .judge) (model.Ask (queryMeans (now (line .entry)) query)) r ⌝ }
 {
+    let name = query.name;
     let Looked::Present(_, n) = look_up(rows, keys, line, s, name) else {
         return Verdict::Refused(7);
     };
@@ -276,7 +286,7 @@ fn judge_marker(
     requires { ⌜ Inside (now line) key ⌝ }
     ensures { λ r. ⌜ JudgesOn s (now (rows .entry)) (now (keys .entry)) (now (line .entry)) instant (model.AddMarker (partOf (now (line .entry)) key) «bypass») r ⌝ }
 {
-    if s.next == settings::SPENT {
+    if s.next == model::SPENT {
         return Verdict::Refused(11);
     }
     let used = s.used;
@@ -353,7 +363,7 @@ pub fn judge_sweep(
     let n = lifecycle::judge_table(rows, keys, used, rules, instant, fates);
     let gone = n.removed;
     let new = n.added;
-    if settings::SPENT < s.next + new as u64 {
+    if model::SPENT < s.next + new as u64 {
         return Verdict::Refused(11);
     }
     if keys.len() / 64 < used - gone + new {
@@ -393,6 +403,5 @@ pub fn judge(
         Action::DeleteVersion(key, version, bypass) => {
             judge_delete(rows, keys, line, s, key, version, bypass, instant)
         }
-        Action::Get(name) => judge_get(rows, keys, line, s, name, instant),
     }
 }

@@ -6,11 +6,11 @@ use native.Mathlib.Omega.{arith}
 use lib.ListN.{length, replicate, length-replicate}
 use Rattle.model.specs.Requests as line-verb
 use Rattle.settings.specs.declared.Rule.{Rule}
+use Rattle.settings.specs.declared.State.{State}
 use Rattle.settings.specs.Meaning.{rulesMean}
 use Rattle.table.specs.Layout.{capacity}
 use Rattle.request.specs.declared.Action.{Action}
 use Rattle.request.specs.Meaning.{actionMeans}
-use Rattle.verdict.specs.declared.State.{State}
 use Rattle.verdict.specs.declared.Verdict.{Verdict}
 use Rattle.verdict.specs.Decision.{Decision, tableDecision}
 use Rattle.verdict.specs.State.{bucketBy, rowsIn}

@@ -6,7 +6,7 @@ use native.Mathlib.Omega.{arith}
 use lib.ListN.{length, drop}
 use Rattle.buffers.specs.Writes.{Wrote}
 use Rattle.table.specs.Layout.{rowsOf, capacity}
-use Rattle.verdict.specs.declared.State.{State}
+use Rattle.settings.specs.declared.State.{State}
 use Rattle.verdict.specs.declared.Change.{Change}
 use Rattle.verdict.specs.declared.Plan.{Plan}
 use Rattle.verdict.specs.declared.Verdict.{Verdict}

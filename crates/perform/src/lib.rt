@@ -1,7 +1,7 @@
 // A request carried out on the table, settings apart: judged with shared borrows only, then done and answered. The definitions are in outcome.
 use request::Action;
 use settings::Rule;
-use verdict::State;
+use settings::State;
 use verdict::Verdict;
 ghost use mathlib.Core.Path.{_≡_};
 ghost use Prim.Native.Nat.{_≤_};

@@ -11,6 +11,7 @@ use Rattle.table.specs.declared.Numbers.{Numbers}
 use Rattle.table.specs.Layout.{rowsOf}
 use Rattle.table.specs.Places.{numbersIn}
 use Rattle.table.proofs.Held.{held-numbers, rows-length}
+use Rattle.settings.specs.declared.State.{State}
 use Rattle.search.specs.declared.Found.{Found}
 use Rattle.search.specs.declared.Found.the-variants.{At, Place}
 use Rattle.search.specs.Places as places
@@ -19,7 +20,6 @@ use Rattle.search.proofs.Positions.{rows-row, holds-searchable, current-used, v
 use Rattle.fields.specs.declared.Version as fields
 use Rattle.fields.specs.declared.Version.the-variants.{Current, Numbered}
 use Rattle.fields.specs.Meaning.{versionMeans}
-use Rattle.verdict.specs.declared.State.{State}
 use Rattle.verdict.specs.declared.Looked.the-variants.{Absent, Present}
 use Rattle.verdict.specs.State.{rowsIn, Ready}
 use Rattle.verdict.specs.Meaning.{foundBy, lookedAt, lookedBy}

@@ -5,16 +5,10 @@ use mathlib.Core.Bool.{true}
 use mathlib.Core.List.{List}
 use Rattle.buffers.specs.Lists.{all}
 use Rattle.model.specs.Rows.{Row, ordered, soundRow}
-use Rattle.model.specs.Settings.{Rule, Default, Config, Bucket, spentNumber, soundDefault}
+use Rattle.model.specs.Settings.{Rule, Bucket, spentNumber, soundDefault}
 use Rattle.table.specs.Layout.{rowsOf, capacity, Holds}
-use Rattle.verdict.specs.declared.State.{State}
-
-abbrev pub defaultBy : State → Default
-defaultBy s = record { mode = s .mode; count = s .count; unit = s .unit }
-
--- the config of a state, with these rules
-abbrev pub configBy : State → List Rule → Config
-configBy s rules = record { default = defaultBy s; rules = rules }
+use Rattle.settings.specs.declared.State.{State}
+use Rattle.settings.specs.State.{defaultBy, configBy}
 
 -- the bucket of a state, with these rules and rows
 abbrev pub bucketBy : State → List Rule → List Row → Bucket

@@ -1,10 +1,11 @@
 // The types of a verdict on a line, and the tests that several verbs share. The definitions are in specs/.
 use answers::Answer;
 use fields::Mode;
+use fields::Retention;
 use fields::Until;
 use fields::Version;
-use request::Retention;
 use search::Found;
+use settings::State;
 use table::Numbers;
 use text::Place;
 ghost use mathlib.Core.Path.{_≡_};
@@ -18,22 +19,12 @@ ghost use Rattle.model.specs.Rows.{compliance};
 ghost use Rattle.model.specs.Locks.{noEarlier, admits};
 ghost use Rattle.table.specs.Layout.{rowsOf};
 ghost use Rattle.table.specs.Places.{rowFrom};
+ghost use Rattle.settings.specs.State.{configBy};
 ghost use Rattle.search.specs.Searching.{Searchable};
-ghost use Rattle.fields.specs.Meaning.{versionMeans, modeMeans, untilMeans};
-ghost use Rattle.request.specs.Meaning.{retentionMeans};
-ghost use Rattle.verdict.specs.State.{configBy, rowsIn, Ready};
+ghost use Rattle.fields.specs.Meaning.{versionMeans, modeMeans, untilMeans, retentionMeans};
+ghost use Rattle.verdict.specs.State.{rowsIn, Ready};
 ghost use Rattle.verdict.specs.Meaning.{foundBy, lookedBy};
 ghost use Rattle.verdict.specs.Locks.{newLock, lockMeans};
-
-// What of the settings a line is judged by. The contracts alone read `time`: no row was created after it.
-pub struct State {
-    pub time: u64,
-    pub used: usize,
-    pub next: u64,
-    pub mode: u64,
-    pub count: u64,
-    pub unit: u64,
-}
 
 // How an accepted line changes the table.
 pub enum Change {
