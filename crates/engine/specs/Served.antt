@@ -1,4 +1,4 @@
--- What a call returned and left, as an outcome; the state that it judges by; and what a step comes to with the settings.
+-- What a call returned and left, as an outcome, and what a step comes to with the settings.
 use Prim.Native.Nat.{ℕ}
 use mathlib.Core.Path.{_≡_}
 use mathlib.Core.Bool.{true}
@@ -6,6 +6,7 @@ use mathlib.Core.List.{List}
 use mathlib.Core.Option.{none}
 use lib.ListN.{length}
 use Rattle.buffers.specs.Writes.{Wrote}
+use Rattle.calendar.specs.declared.Now.{Now}
 use Rattle.model.specs.Requests.{Verb, settingOf}
 use Rattle.model.specs.Effects.{configAfter}
 use Rattle.settings.specs.declared.Settings.{Settings}
@@ -16,7 +17,6 @@ use Rattle.screen.specs.declared.Screened.the-variants.{Passed}
 use Rattle.screen.specs.Screen.{screenedLine}
 use Rattle.answers.specs.declared.Answer.the-variants.{Done}
 use Rattle.answers.specs.Meaning.{textOf}
-use Rattle.locks.specs.declared.State.{State}
 use Rattle.outcome.specs.Outcome.{Outcome, refused}
 use Rattle.perform.specs.declared.Step.{Step}
 use Rattle.perform.specs.declared.Step.the-variants.{Refused, Accepted}
@@ -27,14 +27,10 @@ abbrev pub outcomeFrom : Served → List ℕ → List ℕ → List ℕ → Outco
 outcomeFrom r numbers keys answer =
     record { number = r .number; len = r .len; settings = r .settings; numbers = numbers; keys = keys; answer = answer }
 
--- what of the settings a line is judged by
-abbrev pub stateOf : Settings → State
-stateOf s = record { time = s .time; used = s .used; next = s .next; mode = s .mode; count = s .count; unit = s .unit }
-
 -- The bucket is whole, and the line passes the screen: it says this verb, and this is its now.
-pub record Passing (s : Settings) (numbers keys line answer : List ℕ) (v : request.Verb) (now : ℕ) : Type 0 where
+pub record Passing (s : Settings) (numbers keys line answer : List ℕ) (v : request.Verb) (when : Now) : Type 0 where
   pub is-whole : whole s numbers keys ≡ true
-  pub passes : Passed v now ≡ screenedLine (settingsMean s .config) (s .time) line (length answer)
+  pub passes : Passed v when ≡ screenedLine (settingsMean s .config) (s .time) line (length answer)
 
 -- what a call returns and leaves after a request came to a step; an accepted line makes now the bucket's time
 abbrev pub settle : Settings → ℕ → Verb → Step → List ℕ → List ℕ → List ℕ → Outcome

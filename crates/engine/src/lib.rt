@@ -1,8 +1,9 @@
 // The engine: a line is read, screened, set or carried out, and answered. The definitions are in outcome.
 use answers::Answer;
-use locks::State;
+use calendar::Now;
 use perform::Step;
 use request::Action;
+use request::Query;
 use request::Setting;
 use request::Verb;
 use screen::Screened;
@@ -17,7 +18,7 @@ ghost use Rattle.request.specs.declared.Verb.the-variants as verb;
 ghost use Rattle.request.specs.Meaning.{settingMeans};
 ghost use Rattle.outcome.specs.Outcome.{outcome};
 ghost use Rattle.configure.specs.Configured.{Settable};
-ghost use Rattle.engine.specs.Served.{outcomeFrom, stateOf, Passing, Settles, Sets};
+ghost use Rattle.engine.specs.Served.{outcomeFrom, Passing, Settles, Sets};
 
 // What a call returns: 0 or the refusal, the answer's length, and the settings afterwards.
 pub struct Served {
@@ -33,20 +34,6 @@ fn refused(number: u64, settings: Settings) -> Served
         number,
         len: 0,
         settings,
-    }
-}
-
-// What of the settings a line is judged by.
-fn state_of(s: Settings) -> State
-    ensures { λ r. ⌜ r ≡ stateOf s ⌝ }
-{
-    State {
-        time: s.time,
-        used: s.used as usize,
-        next: s.next,
-        mode: s.mode,
-        count: s.count,
-        unit: s.unit,
     }
 }
 
@@ -68,20 +55,14 @@ fn settle(s: Settings, step: Step, instant: u64) -> Served
 }
 
 // DEFAULT and RULE leave the table as it is.
-fn serve_setting(
-    s: Settings,
-    line: &[u8],
-    answer: &mut [u8],
-    setting: Setting,
-    instant: u64,
-) -> Served
+fn serve_setting(s: Settings, line: &[u8], answer: &mut [u8], setting: Setting, when: Now) -> Served
     requires { ⌜ Settable (now line) s setting ⌝ }
     requires { ⌜ 256 ≤ length (now answer) ⌝ }
-    ensures { λ r. ⌜ Sets s instant (Set (settingMeans (now (line .entry)) setting)) (now (answer .entry)) r (now (answer .exit)) ⌝ }
+    ensures { λ r. ⌜ Sets s (when .stamp) (Set (settingMeans (now (line .entry)) setting)) (now (answer .entry)) r (now (answer .exit)) ⌝ }
 {
     let len = answers::write_answer(answer, Answer::Done);
     let set = configure::configured(s, line, setting);
-    let after = settings::with_progress(set, instant, s.used, s.next);
+    let after = settings::with_progress(set, when.stamp, s.used, s.next);
     Served {
         number: 0,
         len,
@@ -97,14 +78,14 @@ fn serve_action(
     line: &[u8],
     answer: &mut [u8],
     action: Action,
-    instant: u64,
+    when: Now,
 ) -> Served
-    requires { ⌜ Passing s (now rows) (now keys) (now line) (now answer) (verb.Act action) instant ⌝ }
+    requires { ⌜ Passing s (now rows) (now keys) (now line) (now answer) (verb.Act action) when ⌝ }
     ensures { λ r. ⌜ outcomeFrom r (now (rows .exit)) (now (keys .exit)) (now (answer .exit)) ≡ outcome s (now (rows .entry)) (now (keys .entry)) (now (line .entry)) (now (answer .entry)) ⌝ }
 {
-    let state = state_of(s);
-    let step = perform::act(state, rows, keys, line, answer, action, instant);
-    settle(s, step, instant)
+    let state = settings::state_of(s);
+    let step = perform::act(state, rows, keys, line, answer, action, when.judge);
+    settle(s, step, when.stamp)
 }
 
 // SWEEP is performed on the table, by the rules.
@@ -114,15 +95,44 @@ fn serve_sweep(
     keys: &mut [u8],
     line: &[u8],
     answer: &mut [u8],
-    instant: u64,
+    when: Now,
 ) -> Served
-    requires { ⌜ Passing s (now rows) (now keys) (now line) (now answer) verb.Sweep instant ⌝ }
+    requires { ⌜ Passing s (now rows) (now keys) (now line) (now answer) verb.Sweep when ⌝ }
     ensures { λ r. ⌜ outcomeFrom r (now (rows .exit)) (now (keys .exit)) (now (answer .exit)) ≡ outcome s (now (rows .entry)) (now (keys .entry)) (now (line .entry)) (now (answer .entry)) ⌝ }
 {
-    let state = state_of(s);
+    let state = settings::state_of(s);
     let rules = s.rules;
-    let step = perform::act_sweep(state, rules, rows, keys, line, answer, instant);
-    settle(s, step, instant)
+    let step = perform::act_sweep(state, rules, rows, keys, line, answer, when.judge);
+    settle(s, step, when.stamp)
+}
+
+// What asks is judged and answered on the table as it is.
+fn serve_query(
+    s: Settings,
+    rows: &[u64],
+    keys: &[u8],
+    line: &[u8],
+    answer: &mut [u8],
+    query: Query,
+    when: Now,
+) -> Served
+    requires { ⌜ Passing s (now rows) (now keys) (now line) (now answer) (verb.Ask query) when ⌝ }
+    ensures { λ r. ⌜ outcomeFrom r (now (rows .entry)) (now (keys .entry)) (now (answer .exit)) ≡ outcome s (now (rows .entry)) (now (keys .entry)) (now (line .entry)) (now (answer .entry)) ⌝ }
+{
+    let state = settings::state_of(s);
+    match judge::judge_query(rows, keys, line, state, query, when) {
+        Verdict::Refused(n) => refused(n, s),
+        Verdict::Accepted(plan) => {
+            let text = plan.answer;
+            let len = answers::write_answer(answer, text);
+            let after = settings::with_progress(s, when.stamp, s.used, s.next);
+            Served {
+                number: 0,
+                len,
+                settings: after,
+            }
+        }
+    }
 }
 
 // Serves a line on a bucket that is whole.
@@ -136,12 +146,14 @@ pub fn serve_whole(
     requires { ⌜ whole s (now rows) (now keys) ≡ true ⌝ }
     ensures { λ r. ⌜ outcomeFrom r (now (rows .exit)) (now (keys .exit)) (now (answer .exit)) ≡ outcome s (now (rows .entry)) (now (keys .entry)) (now (line .entry)) (now (answer .entry)) ⌝ }
 {
-    match screen::screen_line(s.time, line, answer.len()) {
+    let state = settings::state_of(s);
+    match screen::screen_line(state, line, answer.len()) {
         Screened::Refused(n) => refused(n, s),
-        Screened::Passed(verb, instant) => match verb {
-            Verb::Act(action) => serve_action(s, rows, keys, line, answer, action, instant),
-            Verb::Set(setting) => serve_setting(s, line, answer, setting, instant),
-            Verb::Sweep => serve_sweep(s, rows, keys, line, answer, instant),
+        Screened::Passed(verb, when) => match verb {
+            Verb::Act(action) => serve_action(s, rows, keys, line, answer, action, when),
+            Verb::Set(setting) => serve_setting(s, line, answer, setting, when),
+            Verb::Sweep => serve_sweep(s, rows, keys, line, answer, when),
+            Verb::Ask(query) => serve_query(s, rows, keys, line, answer, query, when),
         },
     }
 }

@@ -29,13 +29,14 @@ use Rattle.table.specs.declared.Numbers.{Numbers}
 use Rattle.table.specs.Layout.{capacity}
 use Rattle.table.specs.Places.{rowFrom}
 use Rattle.table.proofs.Held.{rows-length}
+use Rattle.settings.specs.declared.State.{State}
+use Rattle.settings.specs.State.{configBy}
 use Rattle.fields.specs.Meaning.{Inside}
 use Rattle.search.specs.Places as places
 use Rattle.search.proofs.Named.{insert-place}
 use Rattle.answers.specs.Text.{answerText}
 use Rattle.answers.specs.Meaning.{textOf}
 use Rattle.answers.specs.declared.Answer.the-variants.{Made, Marked}
-use Rattle.locks.specs.declared.State.{State}
 use Rattle.judge.specs.declared.Verdict.{Verdict}
 use Rattle.judge.specs.declared.Verdict.the-variants.{Refused, Accepted}
 use Rattle.judge.specs.declared.Change.the-variants.{Insert}
@@ -45,7 +46,6 @@ use Rattle.locks.specs.declared.NewLock.the-variants.{TooLate, Lock}
 use Rattle.judge.specs.declared.Named.{Named}
 use Rattle.judge.specs.declared.Named.the-variants as named
 use Rattle.outcome.specs.Decision.{tableDecision}
-use Rattle.locks.specs.State.{configBy}
 use Rattle.judge.specs.State.{bucketBy, rowsIn, Ready}
 use Rattle.locks.specs.Locks.{Pair, newLock, lockMeans}
 use Rattle.judge.specs.Meaning.{Judged, changeMeans, changeTakes, Feasible, Judges}

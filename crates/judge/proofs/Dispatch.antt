@@ -8,14 +8,14 @@ use Rattle.text.specs.Fields.{partOf}
 use Rattle.text.specs.Keys.{isKey}
 use Rattle.model.specs.Settings.{Rule}
 use Rattle.model.specs.Requests as model
+use Rattle.settings.specs.declared.State.{State}
 use Rattle.request.specs.declared.Name.{Name}
-use Rattle.request.specs.declared.Retention.{Retention}
-use Rattle.request.specs.declared.Terms.{Terms}
 use Rattle.request.specs.declared.Action.{Action}
 use Rattle.request.specs.declared.Action.the-variants as action
+use Rattle.fields.specs.declared.Retention.{Retention}
+use Rattle.fields.specs.declared.Terms.{Terms}
 use Rattle.fields.specs.Meaning.{Inside}
 use Rattle.request.specs.Meaning.{actionMeans, ActionInside}
-use Rattle.locks.specs.declared.State.{State}
 use Rattle.judge.specs.declared.Verdict.{Verdict}
 use Rattle.judge.specs.Premises.{Asked, JudgesBy, JudgesOn}
 
@@ -52,9 +52,6 @@ module _ (line : List ℕ) (v : Action) (inside : ActionInside line v) where
   pub delete-inside : (k : Place) (n : ℕ) (y : Bool) → v ≡ action.DeleteVersion k n y → Inside line k
   delete-inside k n y e = rw e at inside
 
-  pub get-inside : (n : Name) → v ≡ action.Get n → Inside line (n .key)
-  get-inside n e = rw e at inside
-
 -- ## The verdict
 
 module _ (s : State) (numbers keys line : List ℕ) (now : ℕ) (rules : List Rule) (fates : List ℕ) (v : Action) (r : Verdict) where
@@ -79,7 +76,6 @@ pub ruleset action-ways = (
   hold-inside,
   marker-inside,
   delete-inside,
-  get-inside,
   judged-as,
   judged-always,
   judged-either,

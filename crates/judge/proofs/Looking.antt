@@ -27,7 +27,7 @@ use Rattle.search.proofs.Named.{current-row, version-row}
 use Rattle.fields.specs.declared.Version as fields
 use Rattle.fields.specs.declared.Version.the-variants.{Current, Numbered}
 use Rattle.fields.specs.Meaning.{versionMeans}
-use Rattle.locks.specs.declared.State.{State}
+use Rattle.settings.specs.declared.State.{State}
 use Rattle.judge.specs.declared.Named.{Named}
 use Rattle.judge.specs.declared.Named.the-variants as named
 use Rattle.judge.specs.State.{rowsIn, Ready}

@@ -22,9 +22,9 @@ use Rattle.model.specs.Answers.{reply}
 use Rattle.table.specs.declared.Numbers.{Numbers}
 use Rattle.table.specs.Layout.{capacity}
 use Rattle.table.specs.Places.{rowFrom}
+use Rattle.settings.specs.declared.State.{State}
 use Rattle.search.proofs.Named.{change-named, remove-named}
 use Rattle.answers.specs.declared.Answer.the-variants.{Done, Removed, RemovedMarker, Got}
-use Rattle.locks.specs.declared.State.{State}
 use Rattle.judge.specs.declared.Verdict.the-variants.{Refused, Accepted}
 use Rattle.judge.specs.declared.Change.the-variants.{Keep, Rewrite, Remove}
 use Rattle.judge.specs.declared.Named.{Named}

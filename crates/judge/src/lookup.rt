@@ -1,7 +1,7 @@
 // The row that a line names. The definitions are in specs/Named.antt.
 use crate::Named;
 use fields::Version;
-use locks::State;
+use settings::State;
 use request::Name;
 use search::Found;
 ghost use mathlib.Core.Path.{_≡_};

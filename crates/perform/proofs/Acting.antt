@@ -6,11 +6,11 @@ use native.Mathlib.Omega.{arith}
 use lib.ListN.{length, replicate, length-replicate}
 use Rattle.model.specs.Requests as line-verb
 use Rattle.settings.specs.declared.Rule.{Rule}
+use Rattle.settings.specs.declared.State.{State}
 use Rattle.settings.specs.Meaning.{rulesMean}
 use Rattle.table.specs.Layout.{capacity}
 use Rattle.request.specs.declared.Action.{Action}
 use Rattle.request.specs.Meaning.{actionMeans}
-use Rattle.locks.specs.declared.State.{State}
 use Rattle.judge.specs.declared.Verdict.{Verdict}
 use Rattle.outcome.specs.Decision.{Decision, tableDecision}
 use Rattle.judge.specs.State.{bucketBy, rowsIn}

@@ -6,7 +6,7 @@ use native.Mathlib.Omega.{arith}
 use lib.ListN.{length, drop}
 use Rattle.buffers.specs.Writes.{Wrote}
 use Rattle.table.specs.Layout.{rowsOf, capacity}
-use Rattle.locks.specs.declared.State.{State}
+use Rattle.settings.specs.declared.State.{State}
 use Rattle.judge.specs.declared.Change.{Change}
 use Rattle.judge.specs.declared.Plan.{Plan}
 use Rattle.judge.specs.declared.Verdict.{Verdict}

@@ -7,12 +7,12 @@ use lib.ListN.{length}
 use Rattle.model.specs.Settings as model
 use Rattle.model.specs.Settings.{soundRules}
 use Rattle.settings.specs.declared.Rule.{Rule}
+use Rattle.settings.specs.declared.State.{State}
 use Rattle.settings.specs.Meaning.{rulesMean, prefixesAre}
 use Rattle.table.specs.Layout.{numbersOf, keysOf, capacity}
 use Rattle.model.specs.Requests.{Verb}
 use Rattle.request.specs.declared.Action.{Action}
 use Rattle.request.specs.Meaning.{actionMeans, ActionInside}
-use Rattle.locks.specs.declared.State.{State}
 use Rattle.judge.specs.declared.Verdict.{Verdict}
 use Rattle.outcome.specs.Decision.{Effect, Decision, refuses, does, tableDecision}
 use Rattle.judge.specs.State.{bucketBy, rowsIn, Ready}

@@ -1,6 +1,6 @@
 // A request carried out on the table, settings apart: judged with shared borrows only, then done and answered. The definitions are in outcome.
 use judge::Verdict;
-use locks::State;
+use settings::State;
 use request::Action;
 use settings::Rule;
 ghost use mathlib.Core.Path.{_≡_};
