@@ -184,8 +184,9 @@ fn is_sound_rule(prefix: [u8; 64], current: u64, noncurrent: u64) -> bool
 {
     let is_prefix = blocks::is_prefix_block(&prefix);
     let is_set = !((current == 0) & (noncurrent == 0));
-    let few = (noncurrent <= model::MOST_DAYS) & (is_set | (prefix[0] == 0));
-    is_prefix & ((current <= model::MOST_DAYS) & few)
+    is_prefix
+        & ((current <= model::MOST_DAYS)
+            & ((noncurrent <= model::MOST_DAYS) & (is_set | (prefix[0] == 0))))
 }
 
 // Whether every rule is sound.
