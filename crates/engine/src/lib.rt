@@ -1,6 +1,7 @@
 // The engine: a line is read, screened, set or carried out, and answered. The definitions are in outcome.
 use answers::Answer;
 use calendar::Now;
+use judge::Verdict;
 use perform::Step;
 use request::Action;
 use request::Query;
