@@ -1,11 +1,11 @@
 -- A whole bucket is ready to be judged.
 use Prim.Native.Nat.{ℕ}
-use mathlib.Core.Path.{_≡_}
+use mathlib.Core.Path.{_≡_, _∙_, ap}
 use mathlib.Core.Bool.{true, _&&_}
 use mathlib.Core.List.{List}
 use native.Mathlib.Omega.{arith}
 use lib.Dec.{leb}
-use lib.ListN.{length}
+use lib.ListN.{length, replicate, length-replicate}
 use borrow.Author.Tests.{leb-true}
 use Rattle.buffers.proofs.Tests.{and-l, and-r}
 use Rattle.calendar.specs.Calendar.{latest}
@@ -22,8 +22,7 @@ use Rattle.request.specs.Meaning.{verbMeans}
 use Rattle.request.proofs.Ranges.{read-in-range}
 use Rattle.screen.proofs.Lines.{Passes, line-passed}
 use Rattle.judge.specs.State.{Ready}
-use Rattle.judge.specs.Premises.{Asked}
-use Rattle.perform.specs.Steps.{SoundRules}
+use Rattle.judge.specs.Premises.{Asked, Sweepable}
 use Rattle.engine.specs.Served.{stateOf, Passing}
 
 config-parts : (s : Settings) → soundConfig (settingsMean s .config) ≡ true → (soundDefault (settingsMean s .config .default) ≡ true) × (soundRules (settingsMean s .config .rules) ≡ true)
@@ -45,12 +44,13 @@ ready s n b e =
       capacity-fits = p .most;
     }
 
--- The rules of a whole bucket are sound.
-pub whole-rules : (s : Settings) (n b : List ℕ) → whole s n b ≡ true → SoundRules (s .rules)
-whole-rules s n b e =
+-- Its rules are those of a sweep, with room for a fate of each row.
+pub whole-rules : (s : Settings) (n b fates : List ℕ) → whole s n b ≡ true → fates ≡ replicate 1024 0 → Sweepable (stateOf s) (s .rules) fates
+whole-rules s n b fates e f =
     let p = whole-parts s n b e in
     let w = sound-whole (capacity b) (bucketOf s n b) (p .is-sound) in
-    record { prefixes = p .prefixes; sound = (config-parts s (w .config-sound)) .1 }
+    let l : length fates ≡ 1024 = ap length f ∙ length-replicate {A = ℕ} 1024 0 in
+    record { prefixes = p .prefixes; rules-sound = (config-parts s (w .config-sound)) .1; long = omega (arith, p .room, p .most) }
 
 -- A line that passes the screen is judged on such a bucket.
 module _ (s : Settings) (n b line a : List ℕ) (v : Verb) (now : ℕ) (p : Passing s n b line a v now) where

@@ -1,20 +1,24 @@
--- A line served: refused, set, or a step and the settings after it.
-use Prim.Native.Nat.{ℕ, _≤_, max}
+-- A line served: refused, judged and carried out, or set.
+use Prim.Native.Nat.{ℕ, _+_, _≤_, max}
 use mathlib.Core.Path.{_≡_, refl, sym, _∙_, ap, subst⁻¹}
 use mathlib.Core.Bool.{Bool, true, false}
-use mathlib.Core.List.{List}
-use mathlib.Core.Option.{some}
+use mathlib.Core.List.{List, []}
+use mathlib.Core.Option.{some, none}
 use native.Mathlib.Omega.{arith}
 use lib.Dec.{leb}
-use lib.ListN.{length}
+use lib.ListN.{length, replicate}
+use Rattle.buffers.specs.Writes.{Wrote}
 use Rattle.buffers.proofs.Tests.{and-r}
 use Rattle.calendar.specs.Calendar.{latest}
 use Rattle.model.specs.Requests as model
-use Rattle.model.specs.Requests.{Set, Sweep, inRange}
+use Rattle.model.specs.Requests.{Set, Sweep, settingOf, inRange}
+use Rattle.model.specs.Effects.{configAfter}
 use Rattle.model.specs.Refusals.{fieldChecks, tableChecks}
 use Rattle.settings.specs.declared.Settings.{Settings}
 use Rattle.settings.specs.Meaning.{rulesMean, settingsMean, prefixesAre}
-use Rattle.table.specs.Layout.{capacity}
+use Rattle.settings.specs.Changes.{withProgress}
+use Rattle.table.specs.Layout.{rowsOf, capacity}
+use Rattle.table.proofs.Held.{rows-length}
 use Rattle.bucket.specs.Whole.{bucketOf, whole}
 use Rattle.bucket.proofs.Whole.{whole-parts}
 use Rattle.request.specs.declared.Action.{Action}
@@ -22,29 +26,33 @@ use Rattle.request.specs.declared.Setting.{Setting}
 use Rattle.request.specs.declared.Verb.{Verb}
 use Rattle.request.specs.declared.Verb.the-variants as verb
 use Rattle.request.specs.Grammar.{Said, saidBy, readLine}
-use Rattle.request.specs.Meaning.{actionMeans, settingMeans, verbMeans}
+use Rattle.request.specs.Meaning.{actionMeans, settingMeans, verbMeans, ActionInside}
 use Rattle.request.proofs.Ranges.{read-in-range}
 use Rattle.request.proofs.Actions.{action-unset}
 use Rattle.screen.specs.declared.Screened.{Screened}
 use Rattle.screen.specs.declared.Screened.the-variants as screened
 use Rattle.screen.specs.Screen.{screened as fieldRefusal, screenedLine, Screens, lineRefusal}
 use Rattle.screen.proofs.Lines.{Comes, short, unread, barred, passed, comes}
+use Rattle.answers.specs.declared.Answer.the-variants as answer
+use Rattle.answers.specs.Meaning.{textOf}
 use Rattle.locks.specs.declared.State.{State}
-use Rattle.outcome.specs.Decision.{Decision, refuses, does, effect, tableDecision}
-use Rattle.judge.specs.State.{bucketBy, rowsIn}
-use Rattle.judge.specs.Premises.{both, Asked}
+use Rattle.judge.specs.declared.Change.the-variants as change
+use Rattle.judge.specs.declared.Plan.{Plan}
+use Rattle.judge.specs.declared.Verdict.{Verdict}
+use Rattle.judge.specs.Meaning.{planMeans, Judges}
+use Rattle.judge.specs.Premises.{both, Asked, Sweepable, JudgesBy, JudgesOn}
+use Rattle.judge.proofs.Sweeping as judge
+use Rattle.apply.specs.Applied.{judged}
+use Rattle.outcome.specs.Decision.{Decision, does, effect, tableDecision}
 use Rattle.outcome.specs.Outcome.{Outcome, refused, outcome}
 use Rattle.outcome.specs.Steps.{done}
 use Rattle.outcome.proofs.Room.{outcome-fits}
 use Rattle.outcome.proofs.Deciding.{decide-stop, decide-go, outcome-1, outcome-2, outcome-3, outcome-said}
-use Rattle.configure.specs.Configured.{Settable}
-use Rattle.perform.specs.declared.Step.{Step}
-use Rattle.perform.specs.declared.Step.the-variants.{Refused, Accepted}
-use Rattle.perform.specs.Steps.{TableOutcome, tableOutcome, stepOf, Actable, Acted, SoundRules}
+use Rattle.engine.specs.Configured.{Settable, configuredBy}
 use Rattle.engine.specs.declared.Served.{Served}
-use Rattle.engine.specs.Served.{outcomeFrom, stateOf, Passing, settled, Settles, Sets}
+use Rattle.engine.specs.Served.{outcomeFrom, stateOf, Passing, Carriable}
 use Rattle.engine.proofs.Ready.{whole-rules, line-says, line-ranges, line-asked}
-use Rattle.engine.proofs.Settling.{refused-is, setting-acted}
+use Rattle.engine.proofs.Carrying.{refused-is, carried-is}
 
 -- ## Refusals
 
@@ -88,11 +96,6 @@ module _ (s : Settings) (n b line a : List ℕ) (w : whole s n b ≡ true) where
 
 -- ## A line that passes
 
--- What is settled of a decision is what is done of it.
-settled-done : (s : Settings) (n b a : List ℕ) (now : ℕ) (v : model.Verb) (d : Decision) → settled s now v (stepOf (stateOf s) n b a d) ≡ done s n b now v a d
-settled-done s n b a now v (refuses k) = refl
-settled-done s n b a now v (does e) = refl
-
 module _ (s : Settings) (n b line a : List ℕ) (v : Verb) (now : ℕ) (p : Passing s n b line a v now) where
   prefixes : prefixesAre (s .rules) ≡ true
   prefixes = (whole-parts s n b (p .is-whole)) .prefixes
@@ -100,46 +103,66 @@ module _ (s : Settings) (n b line a : List ℕ) (v : Verb) (now : ℕ) (p : Pass
   asks : Asked (stateOf s) n b now (verbMeans line v)
   asks = line-asked s n b line a v now p
 
-  -- What it comes to is what the table decides.
-  decided : (x : Outcome) (y : TableOutcome) → x ≡ settled s now (verbMeans line v) y
-      → y ≡ stepOf (stateOf s) n b a (tableDecision (capacity b) (bucketOf s n b) (both now) (verbMeans line v)) → x ≡ outcome s n b line a
-  decided x y g i =
+  -- What the table decides is done.
+  decided : (d : Decision) → d ≡ tableDecision (capacity b) (bucketOf s n b) (both now) (verbMeans line v) → done s n b now (verbMeans line v) a d ≡ outcome s n b line a
+  decided d e =
       let q = line-says s n b line a v now p in
-      g ∙ ap (λ (z : TableOutcome). settled s now (verbMeans line v) z) i
-      ∙ settled-done s n b a now (verbMeans line v) (tableDecision (capacity b) (bucketOf s n b) (both now) (verbMeans line v))
-      ∙ said-passes s n b line a (p .is-whole) _ now (q .room-fits) (q .says) (q .now-is) (q .passes)
+      ap (λ (x : Decision). done s n b now (verbMeans line v) a x) e ∙ said-passes s n b line a (p .is-whole) _ now (q .room-fits) (q .says) (q .now-is) (q .passes)
+
+  -- A verdict that is the decision can be carried out.
+  carriable : (fates : List ℕ) (o : Verdict) → settingOf (verbMeans line v) ≡ none
+      → Judges (judged line (s .next) now fates) (capacity b) (rowsOf n b (s .used)) o (tableDecision (capacity b) (bucketOf s n b) (both now) (verbMeans line v)) → Carriable s n b line a o now fates
+  carriable fates o c j =
+      record {
+        verb = verbMeans line v;
+        sets-nothing = c;
+        comes = decided _ (j .is);
+        ready = asks .ready;
+        prefixes = prefixes;
+        feasible = j .feasible;
+        room = (line-says s n b line a v now p) .room-fits;
+      }
 
 -- An action.
-module _ (s : Settings) (n b line a : List ℕ) (x : Action) (now : ℕ) (p : Passing s n b line a (verb.Act x) now) (st : State) (e : st ≡ stateOf s) where
-  pub line-actable : Actable line st n b a x now
-  line-actable = rw e (record { judgeable = asks s n b line a (verb.Act x) now p; inside = (line-says s n b line a (verb.Act x) now p) .inside; room = (line-says s n b line a (verb.Act x) now p) .room-fits })
-
-  pub line-acted : (step : Step) (n′ b′ a′ : List ℕ) (r : Served) → Acted st n b a (actionMeans line x) now (tableOutcome step n′ b′ a′) → Settles s now step r → outcomeFrom r n′ b′ a′ ≡ outcome s n b line a
-  line-acted step n′ b′ a′ r i g =
-      decided s n b line a (verb.Act x) now p (outcomeFrom r n′ b′ a′) (tableOutcome step n′ b′ a′)
-      (g .is (actionMeans line x) n′ b′ a′ (action-unset line x) (prefixes s n b line a (verb.Act x) now p))
-      ((rw e at i) .is (rulesMean (s .rules)))
-
--- SWEEP.
-module _ (s : Settings) (n b line a : List ℕ) (now : ℕ) (p : Passing s n b line a verb.Sweep now) where
-  pub line-rules : SoundRules (s .rules)
-  line-rules = whole-rules s n b (p .is-whole)
-
-  pub line-room : 256 ≤ length a
-  line-room = (line-says s n b line a verb.Sweep now p) .room-fits
+module _ (s : Settings) (n b line a : List ℕ) (x : Action) (now : ℕ) (p : Passing s n b line a (verb.Act x) now) where
+  pub act-inside : ActionInside line x
+  act-inside = (line-says s n b line a (verb.Act x) now p) .inside
 
   module _ (st : State) (e : st ≡ stateOf s) where
-    pub line-sweeps : Asked st n b now Sweep
-    line-sweeps = rw e (asks s n b line a verb.Sweep now p)
+    pub act-asked : Asked st n b now (actionMeans line x)
+    act-asked = rw e (asks s n b line a (verb.Act x) now p)
 
-    pub line-swept : (step : Step) (n′ b′ a′ : List ℕ) (r : Served) → tableOutcome step n′ b′ a′ ≡ stepOf st n b a (tableDecision (capacity b) (bucketBy st (rulesMean (s .rules)) (rowsIn st n b)) (both now) Sweep)
-        → Settles s now step r → outcomeFrom r n′ b′ a′ ≡ outcome s n b line a
-    line-swept step n′ b′ a′ r i g =
-        decided s n b line a verb.Sweep now p (outcomeFrom r n′ b′ a′) (tableOutcome step n′ b′ a′) (g .is Sweep n′ b′ a′ refl (prefixes s n b line a verb.Sweep now p)) (rw e at i)
+    pub act-can : (o : Verdict) (fates : List ℕ) → JudgesOn st n b line now (actionMeans line x) o → Carriable s n b line a o now fates
+    act-can o fates j = carriable s n b line a (verb.Act x) now p fates o (action-unset line x) ((rw e at j) (rulesMean (s .rules)) fates)
 
-pub ruleset actions = (line-actable, line-acted)
+pub ruleset actions = (act-inside, act-asked, act-can)
 
-pub ruleset sweeps = (line-rules, line-room, line-sweeps, line-swept)
+-- SWEEP.
+module _ (s : Settings) (n b line a : List ℕ) (now : ℕ) (p : Passing s n b line a verb.Sweep now) (st : State) (e : st ≡ stateOf s) where
+  pub sweep-asked : Asked st n b now Sweep
+  sweep-asked = rw e (asks s n b line a verb.Sweep now p)
+
+  pub sweep-rules : (fates : List ℕ) → fates ≡ replicate 1024 0 → Sweepable st (s .rules) fates
+  sweep-rules fates f = rw e (whole-rules s n b fates (p .is-whole) f)
+
+  pub sweep-can : (o : Verdict) (fates : List ℕ) → ((l : List ℕ) → JudgesBy st n b l now (rulesMean (s .rules)) fates Sweep o) → Carriable s n b line a o now fates
+  sweep-can o fates j = carriable s n b line a verb.Sweep now p fates o refl ((rw e at j) line)
+
+pub ruleset sweeps = (sweep-asked, sweep-rules, sweep-can)
+
+-- DEFAULT and RULE.
+pub set-done : (s : Settings) (line a a′ : List ℕ) (x : Setting) (now len : ℕ) (u after : Settings) (n b : List ℕ) → Wrote a 0 (textOf answer.Done) 256 a′ len → u ≡ configuredBy s (settingMeans line x)
+    → after ≡ withProgress u now (s .used) (s .next) → Passing s n b line a (verb.Set x) now → outcomeFrom (record { number = 0; len = len; settings = after }) n b a′ ≡ outcome s n b line a
+unfolding configAfter
+set-done s line a a′ x now len u after n b w c g p =
+    let h = asks s n b line a (verb.Set x) now p in
+    let plan : Plan = record { change = change.Keep; answer = answer.Done } in
+    let z : s .next + 0 ≡ s .next = omega arith in
+    carried-is s b now (Set (settingMeans line x)) a (planMeans (judged line (s .next) now []) (rowsOf n b (s .used)) plan) len after n b a′ w
+    (rw (g, c, z, rows-length n b (s .used)))
+    (h .ready .holds)
+    ∙ decided s n b line a (verb.Set x) now p (does (planMeans (judged line (s .next) now []) (rowsOf n b (s .used)) plan))
+    ((judge.set-done (stateOf s) n b line now (rulesMean (s .rules)) [] (settingMeans line x) h) .is)
 
 -- A line that the screen passes, by its verb.
 module _ (s : Settings) (n b line a : List ℕ) (w : whole s n b ≡ true) (o : Screened) (h : Screens (s .time) line (length a) o) (v : Verb) (now : ℕ) (e : o ≡ screened.Passed v now) where
@@ -149,25 +172,19 @@ module _ (s : Settings) (n b line a : List ℕ) (w : whole s n b ≡ true) (o : 
   pub line-fits : 256 ≤ length a
   line-fits = (line-says s n b line a v now (line-passes v refl)) .room-fits
 
-  -- DEFAULT and RULE.
   module _ (x : Setting) (f : v ≡ verb.Set x) where
-    p : Passing s n b line a (verb.Set x) now
-    p = line-passes (verb.Set x) f
-
     pub line-settable : Settable line s x
     unfolding inRange
     line-settable =
+        let p = line-passes (verb.Set x) f in
         record {
           prefixes = prefixes s n b line a (verb.Set x) now p;
           in-range = and-r (leb ((line-says s n b line a (verb.Set x) now p) .clock) latest) _ (line-ranges s n b line a (verb.Set x) now p);
           inside = (line-says s n b line a (verb.Set x) now p) .inside;
         }
 
-    pub line-set : (r : Served) (a′ : List ℕ) → Sets s now (Set (settingMeans line x)) a r a′ → outcomeFrom r n b a′ ≡ outcome s n b line a
-    line-set r a′ g =
-        decided s n b line a (verb.Set x) now p (outcomeFrom r n b a′) (tableOutcome (Accepted (record { len = r .len; used = s .used; next = s .next })) n b a′)
-        (rw (g .number-is, g .settings-are))
-        ((setting-acted (stateOf s) n b now a a′ (r .len) (settingMeans line x) (asks s n b line a (verb.Set x) now p) (g .wrote)) .is (rulesMean (s .rules)))
+    pub line-set : (r : Served) (a′ : List ℕ) → ((n b : List ℕ) → Passing s n b line a (verb.Set x) now → outcomeFrom r n b a′ ≡ outcome s n b line a) → outcomeFrom r n b a′ ≡ outcome s n b line a
+    line-set r a′ g = g n b (line-passes (verb.Set x) f)
 
 pub ruleset lines = (line-stopped, line-passes, line-fits, line-settable, line-set)
 

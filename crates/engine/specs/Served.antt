@@ -1,26 +1,26 @@
--- What a call returned and left, as an outcome; the state that it judges by; and what a step comes to with the settings.
-use Prim.Native.Nat.{ℕ}
+-- What a call returned and left, as an outcome; the state that it judges by; and what its parts ask.
+use Prim.Native.Nat.{ℕ, _≤_}
 use mathlib.Core.Path.{_≡_}
 use mathlib.Core.Bool.{true}
 use mathlib.Core.List.{List}
 use mathlib.Core.Option.{none}
 use lib.ListN.{length}
-use Rattle.buffers.specs.Writes.{Wrote}
-use Rattle.model.specs.Requests.{Verb, settingOf}
-use Rattle.model.specs.Effects.{configAfter}
+use Rattle.model.specs.Requests as model
+use Rattle.model.specs.Requests.{settingOf}
 use Rattle.settings.specs.declared.Settings.{Settings}
-use Rattle.settings.specs.Meaning.{settingsMean, settingsFrom, prefixesAre}
+use Rattle.settings.specs.Meaning.{settingsMean, prefixesAre}
+use Rattle.table.specs.Layout.{rowsOf, capacity}
 use Rattle.bucket.specs.Whole.{whole}
-use Rattle.request.specs.declared.Verb as request
+use Rattle.request.specs.declared.Verb.{Verb}
 use Rattle.screen.specs.declared.Screened.the-variants.{Passed}
 use Rattle.screen.specs.Screen.{screenedLine}
-use Rattle.answers.specs.declared.Answer.the-variants.{Done}
-use Rattle.answers.specs.Meaning.{textOf}
 use Rattle.locks.specs.declared.State.{State}
-use Rattle.outcome.specs.Outcome.{Outcome, refused}
-use Rattle.perform.specs.declared.Step.{Step}
-use Rattle.perform.specs.declared.Step.the-variants.{Refused, Accepted}
-use Rattle.perform.specs.Steps.{TableOutcome}
+use Rattle.judge.specs.declared.Verdict.{Verdict}
+use Rattle.judge.specs.Meaning.{verdictMeans, Feasible}
+use Rattle.judge.specs.State.{Ready}
+use Rattle.apply.specs.Applied.{judged}
+use Rattle.outcome.specs.Outcome.{Outcome, outcome}
+use Rattle.outcome.specs.Steps.{done}
 use Rattle.engine.specs.declared.Served.{Served}
 
 abbrev pub outcomeFrom : Served → List ℕ → List ℕ → List ℕ → Outcome
@@ -32,32 +32,16 @@ abbrev pub stateOf : Settings → State
 stateOf s = record { time = s .time; used = s .used; next = s .next; mode = s .mode; count = s .count; unit = s .unit }
 
 -- The bucket is whole, and the line passes the screen: it says this verb, and this is its now.
-pub record Passing (s : Settings) (numbers keys line answer : List ℕ) (v : request.Verb) (now : ℕ) : Type 0 where
+pub record Passing (s : Settings) (numbers keys line answer : List ℕ) (v : Verb) (now : ℕ) : Type 0 where
   pub is-whole : whole s numbers keys ≡ true
   pub passes : Passed v now ≡ screenedLine (settingsMean s .config) (s .time) line (length answer)
 
--- what a call returns and leaves after a request came to a step; an accepted line makes now the bucket's time
-abbrev pub settle : Settings → ℕ → Verb → Step → List ℕ → List ℕ → List ℕ → Outcome
-settle s now v (Refused n) numbers keys answer = refused n s numbers keys answer
-settle s now v (Accepted d) numbers keys answer =
-    record {
-      number = 0;
-      len = d .len;
-      settings = settingsFrom (record { time = now; next = d .next; config = configAfter (settingsMean s .config) v }) (d .used);
-      numbers = numbers;
-      keys = keys;
-      answer = answer;
-    }
-
-abbrev pub settled : Settings → ℕ → Verb → TableOutcome → Outcome
-settled s now v l = settle s now v (l .step) (l .numbers) (l .keys) (l .answer)
-
--- A step is settled, where the verb sets nothing.
-pub record Settles (s : Settings) (now : ℕ) (step : Step) (r : Served) : Type 0 where
-  pub is : (v : Verb) (numbers keys answer : List ℕ) → settingOf v ≡ none → prefixesAre (s .rules) ≡ true → outcomeFrom r numbers keys answer ≡ settle s now v step numbers keys answer
-
--- The settings have what the verb sets, and the answer says so.
-pub record Sets (s : Settings) (now : ℕ) (v : Verb) (answer : List ℕ) (r : Served) (answer′ : List ℕ) : Type 0 where
-  pub number-is : r .number ≡ 0
-  pub wrote : Wrote answer 0 (textOf Done) 256 answer′ (r .len)
-  pub settings-are : r .settings ≡ settingsFrom (record { time = now; next = s .next; config = configAfter (settingsMean s .config) v }) (s .used)
+-- The verdict, done, is what comes of the line; its verb sets nothing; and it can be carried out on the bucket, with room for the answer.
+pub record Carriable (s : Settings) (numbers keys line answer : List ℕ) (v : Verdict) (now : ℕ) (fates : List ℕ) : Type 0 where
+  pub verb : model.Verb
+  pub sets-nothing : settingOf verb ≡ none
+  pub comes : done s numbers keys now verb answer (verdictMeans (judged line (s .next) now fates) (rowsOf numbers keys (s .used)) v) ≡ outcome s numbers keys line answer
+  pub ready : Ready (stateOf s) numbers keys
+  pub prefixes : prefixesAre (s .rules) ≡ true
+  pub feasible : Feasible (judged line (s .next) now fates) (capacity keys) (rowsOf numbers keys (s .used)) v
+  pub room : 256 ≤ length answer

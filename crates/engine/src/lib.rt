@@ -1,7 +1,9 @@
-// The engine: a line is read, screened, set or carried out, and answered. The definitions are in outcome.
+// The engine: a line is screened, judged, carried out or set, and answered. The definitions are in outcome.
+mod configure;
+
 use answers::Answer;
+use judge::Verdict;
 use locks::State;
-use perform::Step;
 use request::Action;
 use request::Setting;
 use request::Verb;
@@ -9,15 +11,14 @@ use screen::Screened;
 use settings::Settings;
 ghost use mathlib.Core.Path.{_≡_};
 ghost use mathlib.Core.Bool.{true};
-ghost use Prim.Native.Nat.{_≤_};
-ghost use lib.ListN.{length};
+ghost use mathlib.Core.List.{List};
+ghost use Prim.Native.Nat.{ℕ, _≤_};
+ghost use lib.ListN.{length, replicate};
 ghost use Rattle.bucket.specs.Whole.{whole};
-ghost use Rattle.model.specs.Requests.{Set};
 ghost use Rattle.request.specs.declared.Verb.the-variants as verb;
-ghost use Rattle.request.specs.Meaning.{settingMeans};
 ghost use Rattle.outcome.specs.Outcome.{outcome};
-ghost use Rattle.configure.specs.Configured.{Settable};
-ghost use Rattle.engine.specs.Served.{outcomeFrom, stateOf, Passing, Settles, Sets};
+ghost use Rattle.engine.specs.Configured.{Settable};
+ghost use Rattle.engine.specs.Served.{outcomeFrom, stateOf, Passing, Carriable};
 
 // What a call returns: 0 or the refusal, the answer's length, and the settings afterwards.
 pub struct Served {
@@ -50,46 +51,39 @@ fn state_of(s: Settings) -> State
     }
 }
 
-// A refusal leaves the settings as they are; an accepted line moves the bucket's time.
-fn settle(s: Settings, step: Step, instant: u64) -> Served
-    ensures { λ r. ⌜ Settles s instant step r ⌝ }
+// Does what a verdict says: a refusal leaves everything as it is; a plan is carried out and answered, and now is the bucket's time.
+fn carry_out(
+    s: Settings,
+    rows: &mut [u64],
+    keys: &mut [u8],
+    line: &[u8],
+    answer: &mut [u8],
+    v: Verdict,
+    instant: u64,
+    fates: &[u8],
+) -> Served
+    requires { ⌜ Carriable s (now rows) (now keys) (now line) (now answer) v instant (now fates) ⌝ }
+    ensures { λ r. ⌜ outcomeFrom r (now (rows .exit)) (now (keys .exit)) (now (answer .exit)) ≡ outcome s (now (rows .entry)) (now (keys .entry)) (now (line .entry)) (now (answer .entry)) ⌝ }
 {
-    match step {
-        Step::Refused(n) => refused(n, s),
-        Step::Accepted(done) => {
-            let after = settings::with_progress(s, instant, done.used as u64, done.next);
+    match v {
+        Verdict::Refused(n) => refused(n, s),
+        Verdict::Accepted(plan) => {
+            let change = plan.change;
+            let text = plan.answer;
+            let used = s.used as usize;
+            let p = apply::apply_change(rows, keys, line, used, s.next, change, instant, fates);
+            let len = answers::write_answer(answer, text);
+            let after = settings::with_progress(s, instant, p.used as u64, p.next);
             Served {
                 number: 0,
-                len: done.len,
+                len,
                 settings: after,
             }
         }
     }
 }
 
-// DEFAULT and RULE leave the table as it is.
-fn serve_setting(
-    s: Settings,
-    line: &[u8],
-    answer: &mut [u8],
-    setting: Setting,
-    instant: u64,
-) -> Served
-    requires { ⌜ Settable (now line) s setting ⌝ }
-    requires { ⌜ 256 ≤ length (now answer) ⌝ }
-    ensures { λ r. ⌜ Sets s instant (Set (settingMeans (now (line .entry)) setting)) (now (answer .entry)) r (now (answer .exit)) ⌝ }
-{
-    let len = answers::write_answer(answer, Answer::Done);
-    let set = configure::configured(s, line, setting);
-    let after = settings::with_progress(set, instant, s.used, s.next);
-    Served {
-        number: 0,
-        len,
-        settings: after,
-    }
-}
-
-// An action is performed on the table.
+// An action needs no fates.
 fn serve_action(
     s: Settings,
     rows: &mut [u64],
@@ -103,11 +97,18 @@ fn serve_action(
     ensures { λ r. ⌜ outcomeFrom r (now (rows .exit)) (now (keys .exit)) (now (answer .exit)) ≡ outcome s (now (rows .entry)) (now (keys .entry)) (now (line .entry)) (now (answer .entry)) ⌝ }
 {
     let state = state_of(s);
-    let step = perform::act(state, rows, keys, line, answer, action, instant);
-    settle(s, step, instant)
+    let v = judge::judge(rows, keys, line, state, action, instant);
+    carry_out(s, rows, keys, line, answer, v, instant, b"")
 }
 
-// SWEEP is performed on the table, by the rules.
+// Room for a fate of each row.
+fn no_fates() -> [u8; 1024]
+    ensures { λ r. ⌜ r ≡ replicate 1024 0 ⌝ }
+{
+    [0u8; 1024]
+}
+
+// SWEEP needs rules and fates.
 fn serve_sweep(
     s: Settings,
     rows: &mut [u64],
@@ -121,8 +122,31 @@ fn serve_sweep(
 {
     let state = state_of(s);
     let rules = s.rules;
-    let step = perform::act_sweep(state, rules, rows, keys, line, answer, instant);
-    settle(s, step, instant)
+    let mut fates = no_fates();
+    let v = judge::judge_sweep(rows, keys, state, rules, instant, &mut fates);
+    carry_out(s, rows, keys, line, answer, v, instant, &fates)
+}
+
+// DEFAULT and RULE leave the table as it is, whatever it holds.
+fn serve_setting(
+    s: Settings,
+    line: &[u8],
+    answer: &mut [u8],
+    setting: Setting,
+    instant: u64,
+) -> Served
+    requires { ⌜ Settable (now line) s setting ⌝ }
+    requires { ⌜ 256 ≤ length (now answer) ⌝ }
+    ensures { λ r. ⌜ ((numbers keys : List ℕ) → Passing s numbers keys (now (line .entry)) (now (answer .entry)) (verb.Set setting) instant → outcomeFrom r numbers keys (now (answer .exit)) ≡ outcome s numbers keys (now (line .entry)) (now (answer .entry))) ⌝ }
+{
+    let len = answers::write_answer(answer, Answer::Done);
+    let set = configure::configured(s, line, setting);
+    let after = settings::with_progress(set, instant, s.used, s.next);
+    Served {
+        number: 0,
+        len,
+        settings: after,
+    }
 }
 
 // Serves a line on a bucket that is whole.

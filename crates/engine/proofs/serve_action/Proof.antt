@@ -10,8 +10,9 @@ serve-action-spec =
     (tie.spec
     (λ c κs. search needs)
     (λ c κs. search (needs, actions))
-    (λ c κs. search needs)
+    (λ c. search needs)
+    (λ c κs. search (needs, actions))
     (λ c. search needs)
     (λ c. search needs)
     (λ c. search needs)
-    (λ c. search (needs, actions)))
+    (λ c. search needs))

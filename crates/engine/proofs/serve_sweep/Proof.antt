@@ -9,9 +9,12 @@ serve-sweep-spec =
     tie.close
     (tie.spec
     (λ c κs. search needs)
-    (λ c κs. search (needs, sweeps))
     (λ c κs. search needs)
     (λ c. search needs)
+    (λ c κs. search (needs, sweeps))
+    (λ c. search needs)
+    (λ c κs. search (needs, sweeps))
     (λ c. search needs)
     (λ c. search needs)
-    (λ c. search (needs, sweeps)))
+    (λ c. search needs)
+    (λ c. search needs))
