@@ -21,7 +21,8 @@ fn retention_is_sound(mode: u64, until: u64) -> bool
     if mode == 0 {
         return until == 0;
     }
-    ((mode == 1) | (mode == 2)) & ((1 <= until) & (until <= calendar::LATEST))
+    let is_mode = (mode == model::GOVERNANCE) | (mode == model::COMPLIANCE);
+    is_mode & ((1 <= until) & (until <= calendar::LATEST))
 }
 
 // Whether the last five of a row's eight numbers are those of data.
@@ -29,7 +30,7 @@ fn data_is_sound(ns: &[u64]) -> bool
     requires { ⌜ length (now ns) ≡ 8 ⌝ }
     ensures { λ r. ⌜ r ≡ soundData (rowIn (now (ns .entry)) []) ⌝ }
 {
-    (ns[4] <= 5497558138880) & (retention_is_sound(ns[5], ns[6]) & (ns[7] <= 1))
+    (ns[4] <= model::LARGEST_SIZE) & (retention_is_sound(ns[5], ns[6]) & (ns[7] <= 1))
 }
 
 // Whether the last five of a row's eight numbers are those of a delete marker.
@@ -47,10 +48,10 @@ fn numbers_are_sound(ns: &[u64], next: u64, time: u64) -> bool
 {
     let made_here = (1 <= ns[0]) & ((ns[0] < next) & (ns[2] <= time));
     let kind = ns[1];
-    if kind == 1 {
+    if kind == model::DATA {
         return made_here & data_is_sound(ns);
     }
-    if kind == 2 {
+    if kind == model::MARKER {
         return made_here & marker_is_sound(ns);
     }
     false
@@ -273,7 +274,7 @@ pub fn is_whole(s: Settings, rows: &[u64], keys: &[u8]) -> bool
     if c < 1 {
         return false;
     }
-    if 1024 < c {
+    if model::MOST_ROWS < c {
         return false;
     }
     let used = s.used as usize;

@@ -3,17 +3,19 @@ use Prim.Native.Nat.{ℕ, zero, suc, _+_, _*_, _-_, _≤_, _<_, min}
 use mathlib.Core.Path.{_≡_, refl, sym, _∙_, ap}
 use mathlib.Core.Bool.{Bool, true, false, not}
 use mathlib.Core.Logic.{inl, inr}
-use mathlib.Core.List.{List, [], _∷_, _++_, append-assoc}
+use mathlib.Core.List.{List, [], _∷_, _++_}
 use native.Mathlib.Omega.{arith}
 use native.Mathlib.Numerals.{add-one}
 use lib.Dec.{ltb}
-use lib.ListN.{length, take, drop, set, replicate, length-append, length-take, length-drop, length-replicate, length-set, take-append-drop}
-use lib.Seq.{length-take-le, take-take, take-all, take-at, take-add, take-append-le, take-suc-set, take-set-le}
+use lib.ListN.{length, take, drop, set, replicate, length-take, length-drop, length-replicate}
+use lib.Seq.{length-take-le, take-take, take-all, take-nil, take-at, take-add, take-suc-set, take-set-le}
 use borrow.Author.Tests.{ltb-true, ltb-false}
 use borrow.Rule.Slice.PartMut.{midOf, putMid, take-put, same-len-mid}
 use Rattle.buffers.specs.Ranges.{Within, Span}
-use Rattle.buffers.specs.Moves.{movedDown}
+use Rattle.buffers.specs.Writes.{Wrote}
 use Rattle.buffers.proofs.Tests.{either, clash}
+use Rattle.buffers.proofs.Parts.{part-cut}
+use Rattle.buffers.proofs.Writes.{wrote-as}
 use Rattle.text.specs.Lines.{linesOf}
 use Rattle.text.specs.Keys.{contains}
 use Rattle.settings.specs.declared.Settings.{Settings}
@@ -24,9 +26,9 @@ use Rattle.outcome.specs.Calls.{Lent, lent}
 use Rattle.bucketrun.specs.declared.Block.{Block}
 use Rattle.bucketrun.specs.declared.Came.{Came}
 use Rattle.bucketrun.specs.declared.Rest.{Rest}
-use Rattle.bucketrun.specs.Program.{leftBy, endOf, endedLines, begunLine, Waiting, waiting, afterBlock, afterBlocks, closed, joined}
-use Rattle.bucketrun.specs.Course.{Servable, Through, ServedAll, CameBehind, Begun, TookBlock, Startable, BetweenBlocks, Ran}
-use Rattle.bucketrun.proofs.Lines.{end-most, rest-none, none-take, closed-some, closed-lines}
+use Rattle.bucketrun.specs.Program.{leftBy, endOf, endedLines, begunLine, Waiting, waiting, afterBlock, afterBlocks, closed}
+use Rattle.bucketrun.specs.Course.{ServedAll, CameBehind, TookBlock, Startable, BetweenBlocks, Ran}
+use Rattle.bucketrun.proofs.Lines.{rest-none, none-take, closed-some, closed-lines}
 use Rattle.bucketrun.proofs.Cutting.{blocks-left}
 
 -- ## Reading and keeping
@@ -70,35 +72,40 @@ module _ (input : List ℕ) (kept : ℕ) (ys : List ℕ) (h : kept < length inpu
 
 pub ruleset read-cases = (came-more, came-none, came-end)
 
-kept-moved : (input : List ℕ) (from to : ℕ) (ys : List ℕ) → ys ≡ movedDown from (midOf 0 (to - 0) input) → putMid 0 (to - 0) input ys ≡ movedDown from (take to input) ++ drop to input
-kept-moved input from to ys e = let z : to - 0 ≡ to = omega arith in rw (e, z)
+drop-take : (f t : ℕ) (l : List ℕ) → drop f (take t l) ≡ take (t - f) (drop f l)
+drop-take zero t l = let z : t - 0 ≡ t = omega arith in rw z
+drop-take (suc f) zero l = let z : zero - suc f ≡ 0 = omega arith in rw z
+drop-take (suc f) (suc t) [] = sym (take-nil (suc t - suc f))
+drop-take (suc f) (suc t) (x ∷ l) = let z : suc t - suc f ≡ t - f = omega arith in rw z (drop-take f t l)
 
-module _ (input : List ℕ) (from to : ℕ) (ys : List ℕ) (h : Span from to (length input)) (e : ys ≡ movedDown from (midOf 0 (to - 0) input)) where
-  pub kept-all : to - from < 513 → Begun input from to (putMid 0 (to - 0) input ys) (to - from)
-  kept-all l = record { moved = kept-moved input from to ys e; count = record { is = omega arith; most = omega arith } }
-
-  pub kept-cut : 513 ≤ to - from → Begun input from to (putMid 0 (to - 0) input ys) 513
-  kept-cut l = record { moved = kept-moved input from to ys e; count = record { is = omega arith; most = omega arith } }
-
-pub ruleset keep-cases = (kept-all, kept-cut)
-
-take-least : (r k : ℕ) (l : List ℕ) → r ≡ min (length l) k → take r l ≡ take k l
-take-least r k l e =
-    elim (either (ltb k (length l))) [
-      | inl t ↦ let h = ltb-true k (length l) t in let q : r ≡ k = omega arith in rw q
-      | inr t ↦ let h = ltb-false k (length l) t in take-all r l (omega arith) ∙ sym (take-all k l (omega arith))
+take-least : (r j k : ℕ) (l : List ℕ) → r ≡ min j k → take r l ≡ take k (take j l)
+take-least r j k l e =
+    elim (either (ltb k j)) [
+      | inl t ↦ let h = ltb-true k j t in let q : r ≡ k = omega arith in rw q (sym (take-take k j l (omega arith)))
+      | inr t ↦
+          let h = ltb-false k j t in
+          let q : r ≡ j = omega arith in
+          let m = length-take j l in
+          rw q (sym (take-all k (take j l) (omega arith)))
     ]
 
+-- The start of a line goes to the front by way of another buffer.
+pub kept-start : (input : List ℕ) (from to len : ℕ) (line line′ : List ℕ) (k a : ℕ) (exit : List ℕ) (m r : ℕ) → Span from to (length input) → Within len (min (to - from) 513) 513
+    → Wrote line 0 (take (from + len - from) (drop from input)) k line′ a → Wrote input 0 (take (len - 0) line′) m exit r → Wrote input 0 (take 513 (drop from (take to input))) 513 exit r
+kept-start input from to len line line′ k a exit m r h c v w =
+    let x : take (from + len - from) (drop from input) ≡ take 513 (drop from (take to input)) =
+    part-cut input from len ∙ take-least len (to - from) 513 (drop from input) (c .is) ∙ ap (take 513) (sym (drop-take from to input)) in
+    let n = length-drop from input in
+    let t : length (take (from + len - from) (drop from input)) ≡ len = ap length (part-cut input from len) ∙ length-take-le len (drop from input) (omega (arith, h .from, h .to, c .is)) in
+    let z : len - 0 ≡ len = omega arith in
+    let y : take (len - 0) line′ ≡ take (from + len - from) (drop from input) =
+    rw z (ap (take len) (v .holds) ∙ take-at (take (from + len - from) (drop from input)) (drop (0 + length (take (from + len - from) (drop from input))) line) len t) in
+    wrote-as input 0 (take (len - 0) line′) (take 513 (drop from (take to input))) m 513 exit r w (y ∙ x) (rw length-take (omega arith))
+
 -- What is kept is the start of the line that has begun.
-kept-begun : (input : List ℕ) (to : ℕ) (exit : List ℕ) (r : ℕ) → to ≤ length input → Begun input (endOf (take to input)) to exit r → take r exit ≡ begunLine (take to input)
-unfolding movedDown
-kept-begun input to exit r h d =
-    let t = length-take-le to input h in
-    let l = length-drop (endOf (take to input)) (take to input) in
-    let m = end-most (take to input) in
-    ap (take r) (d .moved ∙ append-assoc (drop (endOf (take to input)) (take to input)) (replicate (endOf (take to input)) 0) (drop to input))
-    ∙ take-append-le r (drop (endOf (take to input)) (take to input)) (replicate (endOf (take to input)) 0 ++ drop to input) (omega (arith, d .count .is))
-    ∙ take-least r 513 (drop (endOf (take to input)) (take to input)) (d .count .is ∙ omega arith)
+kept-begun : (input : List ℕ) (to : ℕ) (exit : List ℕ) (r : ℕ) → Wrote input 0 (begunLine (take to input)) 513 exit r → take r exit ≡ begunLine (take to input)
+kept-begun input to exit r w =
+    ap (take r) (w .holds) ∙ take-at (begunLine (take to input)) (drop (0 + length (begunLine (take to input))) input) r (omega (arith, w .next))
 
 -- ## A block
 
@@ -109,15 +116,15 @@ module _ (h : Lent) (input : List ℕ) (end : ℕ) (l : end ≤ length input) (r
   pub keep-span : Span (r .served) end (length input)
   keep-span = record { from = omega (arith, block-served .through .inside, length-take end input); to = l }
 
-  pub took-block : (input′ : List ℕ) (k : ℕ) → Begun input (r .served) end input′ k → TookBlock h (take end input) (record { settings = r .settings; kept = k; told = r .told }) n′ b′ input′
-  took-block input′ k e = record { is-whole = d .through .is-whole; few = e .count .most; takes = λ t. taken t }
+  pub took-block : (input′ : List ℕ) (k : ℕ) → Wrote input 0 (take 513 (drop (r .served) (take end input))) 513 input′ k → TookBlock h (take end input) (record { settings = r .settings; kept = k; told = r .told }) n′ b′ input′
+  took-block input′ k e = record { is-whole = d .through .is-whole; few = omega (arith, e .most); takes = λ t. taken t }
     where
       taken : r .told ≡ true → waiting (lent (r .settings) n′ b′) (take k input′) ≡ afterBlock (waiting h []) (take end input)
       taken t =
           let a : r .served ≡ endOf (take end input) = block-served .all t in
-          let f : Begun input (endOf (take end input)) end input′ k = rw a at e in
+          let f : Wrote input 0 (begunLine (take end input)) 513 input′ k = rw a at e in
           ap (λ (x : Lent). waiting x (take k input′)) (block-served .through .leads ∙ ap (λ (j : ℕ). leftBy h (linesOf (take j (take end input)))) a)
-          ∙ ap (waiting (leftBy h (endedLines (take end input)))) (kept-begun input end input′ k l f)
+          ∙ ap (waiting (leftBy h (endedLines (take end input)))) (kept-begun input end input′ k f)
 
 -- ## The run
 

@@ -2,7 +2,7 @@
 use Prim.Native.Nat.{ℕ, suc, _≤_, _<_}
 use mathlib.Core.Path.{_≡_, refl, sym, _∙_, ap}
 use mathlib.Core.Logic.{inl, inr}
-use mathlib.Core.Bool.{true, false}
+use mathlib.Core.Bool.{false}
 use mathlib.Core.List.{List, [], _∷_, _++_, append-nil, append-assoc}
 use mathlib.Core.Option.{none}
 use native.Mathlib.Omega.{arith}
@@ -17,7 +17,7 @@ use Rattle.request.specs.Grammar.{requestIn, readLine}
 use Rattle.outcome.specs.Outcome.{Outcome}
 use Rattle.outcome.specs.Calls.{Lent, leaves}
 use Rattle.outcome.specs.Printed.{printedOf}
-use Rattle.bucketrun.specs.Program.{answerRoom, servedLine, leftBy, printedBy, endOf, endedLines, begunLine, Waiting, waiting, afterBlock, afterBlocks, printedBlocks, joined, CutAnywhere}
+use Rattle.bucketrun.specs.Program.{answerRoom, servedLine, leftBy, printedBy, endOf, endedLines, begunLine, waiting, afterBlocks, printedBlocks, joined, CutAnywhere}
 use Rattle.bucketrun.proofs.Lines.{end-cut, end-most, rest-none, none-take, lines-append, lines-begun}
 use Rattle.bucketrun.proofs.Outcomes.{same-read}
 

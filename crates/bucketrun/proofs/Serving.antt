@@ -1,11 +1,11 @@
 -- Laws of the loops over a block: what holds between two lines, and between two parts.
 use Prim.Native.Nat.{ℕ, zero, suc, _+_, _-_, _≤_, _<_}
 use mathlib.Core.Path.{_≡_, refl, sym, _∙_, ap, subst⁻¹}
-use mathlib.Core.Bool.{Bool, true, false}
-use mathlib.Core.List.{List, [], _∷_, _++_, append-nil, append-assoc}
+use mathlib.Core.Bool.{true, false}
+use mathlib.Core.List.{List, [], _∷_, _++_, append-nil}
 use native.Mathlib.Omega.{arith}
-use lib.ListN.{length, take, drop, replicate, length-take, length-drop, length-append, length-replicate, take-append-drop}
-use lib.Seq.{length-take-le, take-all, take-at, drop-at, drop-drop, take-add, take-append-le, drop-append-le}
+use lib.ListN.{length, take, drop, length-take, length-drop, length-replicate, take-append-drop}
+use lib.Seq.{length-take-le, take-at, drop-at, drop-drop, take-add, take-append-le, drop-append-le}
 use borrow.Rule.Slice.PartMut.{midOf, putMid, same-len-mid}
 use Rattle.buffers.specs.Ranges.{Within}
 use Rattle.buffers.specs.Writes.{placed, Wrote}
@@ -18,13 +18,11 @@ use Rattle.bucket.specs.Whole.{whole}
 use Rattle.outcome.specs.Outcome.{Outcome, outcome}
 use Rattle.outcome.specs.Calls.{Lent, lent, leaves}
 use Rattle.outcome.specs.Printed.{printed, printedOf}
-use Rattle.outcome.proofs.Room.{end-inside}
 use Rattle.outcome.proofs.Kept.{outcome-whole}
 use Rattle.engine.specs.declared.Served.{Served}
 use Rattle.engine.specs.Served.{outcomeFrom}
 use Rattle.engine.proofs.Serving.{answer-fits}
 use Rattle.bucketrun.specs.declared.Course.{Course as After}
-use Rattle.bucketrun.specs.declared.Block.{Block}
 use Rattle.bucketrun.specs.Program.{answerRoom, servedLine, leftBy, printedBy, endOf}
 use Rattle.bucketrun.specs.Course.{Servable, Through, ServedSome, BetweenLines, ServedAll, BetweenParts}
 use Rattle.bucketrun.proofs.Lines.{none-feed, none-end, end-append, end-first, lines-append, lines-first}
@@ -172,9 +170,6 @@ module _ (h : Lent) (block : List ℕ) (from : ℕ) (n₀ b₀ out₀ : List ℕ
 
   pub line-room : at ≤ 65536 → at + 65536 ≤ length out
   line-room m = omega (arith, g .long)
-
-  pub now-whole : whole s n b ≡ true
-  now-whole = g .through .is-whole
 
   -- One line is served.
   module _ (k : ℕ) (r : Served) (n′ b′ p : List ℕ) (m : at ≤ 65536) (q : outcomeFrom r n′ b′ p ≡ outcome s n b (take k (drop i block)) (take 65536 (drop at out)))

@@ -1,11 +1,10 @@
 -- What the program's functions ask for and leave.
-use Prim.Native.Nat.{ℕ, _+_, _-_, _≤_, _<_, min}
+use Prim.Native.Nat.{ℕ, _-_, _≤_}
 use mathlib.Core.Path.{_≡_}
 use mathlib.Core.Bool.{Bool, true, false}
-use mathlib.Core.List.{List, [], _∷_, _++_}
+use mathlib.Core.List.{List, []}
 use lib.ListN.{length, take, drop}
-use Rattle.buffers.specs.Ranges.{Within, Span}
-use Rattle.buffers.specs.Moves.{movedDown}
+use Rattle.buffers.specs.Ranges.{Span}
 use Rattle.buffers.specs.Writes.{Wrote}
 use Rattle.text.specs.Lines.{linesOf}
 use Rattle.text.specs.Keys.{contains}
@@ -16,7 +15,7 @@ use Rattle.bucketrun.specs.declared.Course.{Course as After}
 use Rattle.bucketrun.specs.declared.Block.{Block}
 use Rattle.bucketrun.specs.declared.Came.{Came}
 use Rattle.bucketrun.specs.declared.Rest.{Rest}
-use Rattle.bucketrun.specs.Program.{leftBy, printedBy, endOf, Waiting, waiting, afterBlock, afterBlocks, closed, joined}
+use Rattle.bucketrun.specs.Program.{leftBy, printedBy, endOf, waiting, afterBlock, afterBlocks, closed, joined}
 
 -- ## The lines of a block
 
@@ -70,11 +69,6 @@ pub record CameBehind (input : List ℕ) (kept : ℕ) (exit : List ℕ) (r : Cam
   pub span : Span kept (r .end) (length input)
   pub stays : take kept exit ≡ take kept input
   pub ends : r .over ≡ true → take (r .end) exit ≡ closed (take kept input)
-
--- The bytes between two places are at the front, and 513 of them, or all, are kept.
-pub record Begun (input : List ℕ) (from to : ℕ) (exit : List ℕ) (r : ℕ) : Type 0 where
-  pub moved : exit ≡ movedDown from (take to input) ++ drop to input
-  pub count : Within r (min (to - from) 513) 513
 
 -- A block is served, and the start of a line may be kept: what stands then is what the block leaves, where all output was taken.
 pub record TookBlock (h : Lent) (block : List ℕ) (r : Rest) (numbers keys input′ : List ℕ) : Type 0 where

@@ -5,14 +5,13 @@ use libc::STDIN_FILENO;
 use libc::STDOUT_FILENO;
 use settings::Settings;
 ghost use mathlib.Core.Path.{_≡_};
-ghost use mathlib.Core.Bool.{true};
-ghost use Prim.Native.Nat.{_+_, _≤_, _<_};
+ghost use Prim.Native.Nat.{_+_, _≤_, _<_, min};
 ghost use lib.ListN.{length, take, drop, replicate};
-ghost use Rattle.buffers.specs.Ranges.{Span};
+ghost use Rattle.buffers.specs.Ranges.{Within, Span};
 ghost use Rattle.buffers.specs.Writes.{Wrote};
 ghost use Rattle.outcome.specs.Calls.{lent};
 ghost use Rattle.outcome.specs.Printed.{printed};
-ghost use Rattle.bucketrun.specs.Course.{Servable, ServedSome, ServedAll, CameBehind, Begun, TookBlock, Startable, Ran};
+ghost use Rattle.bucketrun.specs.Course.{Servable, ServedSome, ServedAll, CameBehind, TookBlock, Startable, Ran};
 
 // The length of the answer buffer; no more output than that waits when a line comes.
 const ROOM: usize = 65536;
@@ -148,17 +147,26 @@ fn read_behind(input: &mut [u8], kept: usize) -> Came
     }
 }
 
-// Moves the bytes from `from` to `to` to the front, and returns how many of them a line needs.
-fn keep(input: &mut [u8], from: usize, to: usize) -> usize
-    requires { ⌜ Span from to (length (now input)) ⌝ }
-    ensures { λ r. ⌜ Begun (now (input .entry)) from to (now (input .exit)) r ⌝ }
+// Of so many bytes of a line, how many are kept.
+fn needed(len: usize) -> usize
+    ensures { λ r. ⌜ Within r (min len 513) 513 ⌝ }
 {
-    buffers::move_down_bytes(&mut input[0..to], from);
-    let len = to - from;
     if len < LONGEST {
         return len;
     }
     LONGEST
+}
+
+// Copies what is needed of the bytes from `from` to `to` to the front, and returns how many these are.
+fn keep(input: &mut [u8], from: usize, to: usize) -> usize
+    requires { ⌜ Span from to (length (now input)) ⌝ }
+    ensures { λ r. ⌜ Wrote (now (input .entry)) 0 (take 513 (drop from (take to (now (input .entry))))) 513 (now (input .exit)) r ⌝ }
+{
+    let mut line = no_line();
+    let len = needed(to - from);
+    let end = from + len;
+    buffers::copy_in(&mut line, 0, &input[from..end]);
+    buffers::copy_in(input, 0, &line[0..len])
 }
 
 // Serves the lines of the input up to `end`, and keeps what stands behind its last line feed.
@@ -214,6 +222,13 @@ fn no_input() -> [u8; 66560]
     ensures { λ r. ⌜ r ≡ replicate 66560 0 ⌝ }
 {
     [0; 66560]
+}
+
+// The start of a line.
+fn no_line() -> [u8; 513]
+    ensures { λ r. ⌜ r ≡ replicate 513 0 ⌝ }
+{
+    [0; 513]
 }
 
 // The output that waits, and a line's answer behind it.

@@ -12,6 +12,12 @@ pub struct Civil {
     pub day: u64,
 }
 
+// The now of a line: locks and expiry are judged by the one, creation and dates are taken from the other.
+pub struct Now {
+    pub judge: u64,
+    pub stamp: u64,
+}
+
 // The last instant.
 pub const LATEST: u64 = 253402300799999;
 

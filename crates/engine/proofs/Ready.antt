@@ -1,19 +1,21 @@
 -- A whole bucket is ready to be judged.
-use Prim.Native.Nat.{ℕ}
-use mathlib.Core.Path.{_≡_, _∙_, ap}
+use Prim.Native.Nat.{ℕ, max}
+use mathlib.Core.Path.{_≡_, sym, ap, _∙_}
 use mathlib.Core.Bool.{true, _&&_}
 use mathlib.Core.List.{List}
 use native.Mathlib.Omega.{arith}
 use lib.Dec.{leb}
-use lib.ListN.{length, replicate, length-replicate}
+use lib.ListN.{length}
 use borrow.Author.Tests.{leb-true}
 use Rattle.buffers.proofs.Tests.{and-l, and-r}
+use Rattle.calendar.specs.declared.Now.{Now}
 use Rattle.calendar.specs.Calendar.{latest}
 use Rattle.model.specs.Settings.{soundDefault, soundRules, soundConfig, sound}
 use Rattle.model.specs.Requests.{inRange}
 use Rattle.model.proofs.Sound.{whole as sound-whole}
 use Rattle.settings.specs.declared.Settings.{Settings}
 use Rattle.settings.specs.Meaning.{settingsMean}
+use Rattle.settings.specs.State.{stateOf}
 use Rattle.table.specs.Layout.{capacity}
 use Rattle.bucket.specs.Whole.{bucketOf, whole}
 use Rattle.bucket.proofs.Whole.{whole-parts}
@@ -22,8 +24,8 @@ use Rattle.request.specs.Meaning.{verbMeans}
 use Rattle.request.proofs.Ranges.{read-in-range}
 use Rattle.screen.proofs.Lines.{Passes, line-passed}
 use Rattle.judge.specs.State.{Ready}
-use Rattle.judge.specs.Premises.{Asked, Sweepable}
-use Rattle.engine.specs.Served.{stateOf, Passing}
+use Rattle.judge.specs.Premises.{Asked}
+use Rattle.engine.specs.Served.{Passing}
 
 config-parts : (s : Settings) → soundConfig (settingsMean s .config) ≡ true → (soundDefault (settingsMean s .config .default) ≡ true) × (soundRules (settingsMean s .config .rules) ≡ true)
 unfolding soundConfig
@@ -44,25 +46,30 @@ ready s n b e =
       capacity-fits = p .most;
     }
 
--- Its rules are those of a sweep, with room for a fate of each row.
-pub whole-rules : (s : Settings) (n b fates : List ℕ) → whole s n b ≡ true → fates ≡ replicate 1024 0 → Sweepable (stateOf s) (s .rules) fates
-whole-rules s n b fates e f =
+-- The rules of a whole bucket are sound.
+pub whole-rules : (s : Settings) (n b : List ℕ) → whole s n b ≡ true → soundRules (settingsMean s .config .rules) ≡ true
+whole-rules s n b e =
     let p = whole-parts s n b e in
-    let w = sound-whole (capacity b) (bucketOf s n b) (p .is-sound) in
-    let l : length fates ≡ 1024 = ap length f ∙ length-replicate {A = ℕ} 1024 0 in
-    record { prefixes = p .prefixes; rules-sound = (config-parts s (w .config-sound)) .1; long = omega (arith, p .room, p .most) }
+    (config-parts s ((sound-whole (capacity b) (bucketOf s n b) (p .is-sound)) .config-sound)) .1
 
 -- A line that passes the screen is judged on such a bucket.
-module _ (s : Settings) (n b line a : List ℕ) (v : Verb) (now : ℕ) (p : Passing s n b line a v now) where
-  pub line-says : Passes (settingsMean s .config) (s .time) line (length a) v now
-  line-says = line-passed (settingsMean s .config) (s .time) line (length a) v now (p .passes)
+module _ (s : Settings) (n b line a : List ℕ) (v : Verb) (when : Now) (p : Passing s n b line a v when) where
+  pub line-says : Passes (settingsMean s .config) (s .time) line (length a) v when
+  line-says = line-passed (settingsMean s .config) (s .time) line (length a) v when (p .passes)
+
+  -- Both readings of its now are the larger of the bucket's time and the line's reading.
+  pub line-judge : when .judge ≡ max (s .time) (line-says .clock)
+  line-judge = ap (λ (t : Now). t .judge) (line-says .now-is)
+
+  pub line-stamp : when .stamp ≡ when .judge
+  line-stamp = ap (λ (t : Now). t .stamp) (line-says .now-is) ∙ sym line-judge
 
   pub line-ranges : (leb (line-says .clock) latest && inRange (verbMeans line v)) ≡ true
   line-ranges = read-in-range line _ (line-says .says)
 
-  pub line-asked : Asked (stateOf s) n b now (verbMeans line v)
+  pub line-asked : Asked (stateOf s) n b (when .judge) (verbMeans line v)
   line-asked =
       let q = line-says in
       let t = leb-true (s .time) latest ((sound-whole (capacity b) (bucketOf s n b) ((whole-parts s n b (p .is-whole)) .is-sound)) .time-fits) in
       let c = leb-true (q .clock) latest (and-l _ _ line-ranges) in
-      record { ready = ready s n b (p .is-whole); instant = omega (arith, q .now-is); since = omega (arith, q .now-is); in-range = and-r (leb (q .clock) latest) _ line-ranges }
+      record { ready = ready s n b (p .is-whole); instant = omega (arith, line-judge); since = omega (arith, line-judge); in-range = and-r (leb (q .clock) latest) _ line-ranges }

@@ -6,53 +6,59 @@ use mathlib.Core.List.{List, []}
 use mathlib.Core.Option.{some, none}
 use native.Mathlib.Omega.{arith}
 use lib.Dec.{leb}
-use lib.ListN.{length, replicate}
+use lib.ListN.{length, replicate, length-replicate}
 use Rattle.buffers.specs.Writes.{Wrote}
 use Rattle.buffers.proofs.Tests.{and-r}
+use Rattle.calendar.specs.declared.Now.{Now}
 use Rattle.calendar.specs.Calendar.{latest}
 use Rattle.model.specs.Requests as model
-use Rattle.model.specs.Requests.{Set, Sweep, settingOf, inRange}
-use Rattle.model.specs.Effects.{configAfter}
+use Rattle.model.specs.Requests.{Set, Sweep, Ask, inRange}
+use Rattle.model.specs.Effects.{added, rowsAfter, configAfter}
 use Rattle.model.specs.Refusals.{fieldChecks, tableChecks}
+use Rattle.settings.specs.declared.Rule.{Rule}
 use Rattle.settings.specs.declared.Settings.{Settings}
+use Rattle.settings.specs.declared.State.{State}
 use Rattle.settings.specs.Meaning.{rulesMean, settingsMean, prefixesAre}
+use Rattle.settings.specs.State.{stateOf}
 use Rattle.settings.specs.Changes.{withProgress}
 use Rattle.table.specs.Layout.{rowsOf, capacity}
-use Rattle.table.proofs.Held.{rows-length}
 use Rattle.bucket.specs.Whole.{bucketOf, whole}
 use Rattle.bucket.proofs.Whole.{whole-parts}
 use Rattle.request.specs.declared.Action.{Action}
 use Rattle.request.specs.declared.Setting.{Setting}
+use Rattle.request.specs.declared.Query.{Query}
 use Rattle.request.specs.declared.Verb.{Verb}
 use Rattle.request.specs.declared.Verb.the-variants as verb
 use Rattle.request.specs.Grammar.{Said, saidBy, readLine}
-use Rattle.request.specs.Meaning.{actionMeans, settingMeans, verbMeans, ActionInside}
+use Rattle.request.specs.Meaning.{actionMeans, settingMeans, queryMeans, verbMeans, ActionInside, QueryInside}
 use Rattle.request.proofs.Ranges.{read-in-range}
 use Rattle.request.proofs.Actions.{action-unset}
 use Rattle.screen.specs.declared.Screened.{Screened}
 use Rattle.screen.specs.declared.Screened.the-variants as screened
 use Rattle.screen.specs.Screen.{screened as fieldRefusal, screenedLine, Screens, lineRefusal}
 use Rattle.screen.proofs.Lines.{Comes, short, unread, barred, passed, comes}
+use Rattle.answers.specs.declared.Answer.{Answer}
 use Rattle.answers.specs.declared.Answer.the-variants as answer
-use Rattle.answers.specs.Meaning.{textOf}
-use Rattle.locks.specs.declared.State.{State}
+use Rattle.answers.specs.Meaning.{textOf, Printable}
 use Rattle.judge.specs.declared.Change.the-variants as change
 use Rattle.judge.specs.declared.Plan.{Plan}
 use Rattle.judge.specs.declared.Verdict.{Verdict}
-use Rattle.judge.specs.Meaning.{planMeans, Judges}
+use Rattle.judge.specs.declared.Verdict.the-variants as verdict
+use Rattle.judge.specs.Meaning.{planMeans, verdictMeans}
 use Rattle.judge.specs.Premises.{both, Asked, Sweepable, JudgesBy, JudgesOn}
 use Rattle.judge.proofs.Sweeping as judge
 use Rattle.apply.specs.Applied.{judged}
-use Rattle.outcome.specs.Decision.{Decision, does, effect, tableDecision}
+use Rattle.outcome.specs.Decision.{Effect, Decision, does, effect, tableDecision}
 use Rattle.outcome.specs.Outcome.{Outcome, refused, outcome}
 use Rattle.outcome.specs.Steps.{done}
 use Rattle.outcome.proofs.Room.{outcome-fits}
-use Rattle.outcome.proofs.Deciding.{decide-stop, decide-go, outcome-1, outcome-2, outcome-3, outcome-said}
+use Rattle.outcome.proofs.Deciding.{decide-stop, decide-go, decide-done, outcome-1, outcome-2, outcome-3, outcome-said}
 use Rattle.engine.specs.Configured.{Settable, configuredBy}
 use Rattle.engine.specs.declared.Served.{Served}
-use Rattle.engine.specs.Served.{outcomeFrom, stateOf, Passing, Carriable}
-use Rattle.engine.proofs.Ready.{whole-rules, line-says, line-ranges, line-asked}
-use Rattle.engine.proofs.Carrying.{refused-is, carried-is}
+use Rattle.engine.specs.declared.Step.{Step}
+use Rattle.engine.specs.Served.{outcomeFrom, served, Passing, Carriable, CarriedOut, Actable, Acted, SweepAsked, Swept}
+use Rattle.engine.proofs.Ready.{whole-rules, line-says, line-judge, line-stamp, line-ranges, line-asked}
+use Rattle.engine.proofs.Carrying.{refused-is, kept-is, settings-after}
 
 -- ## Refusals
 
@@ -91,86 +97,160 @@ module _ (s : Settings) (n b line a : List ℕ) (w : whole s n b ≡ true) where
       go r (barred l q f z) e = let h = ap lineRefusal e in said-stops k (saidBy line q) l (rw f) h (λ i. z (sym h ∙ i))
       go r (passed l q f z) e = let x : _≡_ {A = ℕ} 0 1 = cc in absurd (omega arith)
 
-  pub line-stopped : (o : Screened) (k : ℕ) (r : Served) → Screens (s .time) line (length a) o → o ≡ screened.Refused k → r .number ≡ k → r .len ≡ 0 → r .settings ≡ s → outcomeFrom r n b a ≡ outcome s n b line a
-  line-stopped o k r h e x y z = refused-is r k s n b a x y z ∙ stops k (sym e ∙ h .is (settingsMean s .config))
+  pub line-stopped : (st : State) (o : Screened) (k : ℕ) (r : Served) → st ≡ stateOf s → Screens st line (length a) o → o ≡ screened.Refused k → r .number ≡ k → r .len ≡ 0 → r .settings ≡ s → outcomeFrom r n b a ≡ outcome s n b line a
+  line-stopped st o k r i h e x y z = refused-is r k s n b a x y z ∙ stops k (sym e ∙ (rw i at h) .is (settingsMean s .config))
 
 -- ## A line that passes
 
-module _ (s : Settings) (n b line a : List ℕ) (v : Verb) (now : ℕ) (p : Passing s n b line a v now) where
+module _ (s : Settings) (n b line a : List ℕ) (v : Verb) (when : Now) (p : Passing s n b line a v when) where
   prefixes : prefixesAre (s .rules) ≡ true
   prefixes = (whole-parts s n b (p .is-whole)) .prefixes
 
-  asks : Asked (stateOf s) n b now (verbMeans line v)
-  asks = line-asked s n b line a v now p
+  room : 256 ≤ length a
+  room = (line-says s n b line a v when p) .room-fits
 
-  -- What the table decides is done.
-  decided : (d : Decision) → d ≡ tableDecision (capacity b) (bucketOf s n b) (both now) (verbMeans line v) → done s n b now (verbMeans line v) a d ≡ outcome s n b line a
+  asks : Asked (stateOf s) n b (when .judge) (verbMeans line v)
+  asks = line-asked s n b line a v when p
+
+  -- What the table decides of it, done, is its outcome.
+  decided : (d : Decision) → d ≡ tableDecision (capacity b) (bucketOf s n b) (both (when .judge)) (verbMeans line v) → done s n b (when .judge) (verbMeans line v) a d ≡ outcome s n b line a
   decided d e =
-      let q = line-says s n b line a v now p in
-      ap (λ (x : Decision). done s n b now (verbMeans line v) a x) e ∙ said-passes s n b line a (p .is-whole) _ now (q .room-fits) (q .says) (q .now-is) (q .passes)
+      let q = line-says s n b line a v when p in
+      ap (λ (x : Decision). done s n b (when .judge) (verbMeans line v) a x) e
+      ∙ said-passes s n b line a (p .is-whole) _ (when .judge) (q .room-fits) (q .says) (line-judge s n b line a v when p)
+      (q .passes ∙ ap (λ (t : ℕ). fieldRefusal (settingsMean s .config) (q .who) t (verbMeans line v)) (line-stamp s n b line a v when p))
 
-  -- A verdict that is the decision can be carried out.
-  carriable : (fates : List ℕ) (o : Verdict) → settingOf (verbMeans line v) ≡ none
-      → Judges (judged line (s .next) now fates) (capacity b) (rowsOf n b (s .used)) o (tableDecision (capacity b) (bucketOf s n b) (both now) (verbMeans line v)) → Carriable s n b line a o now fates
-  carriable fates o c j =
-      record {
-        verb = verbMeans line v;
-        sets-nothing = c;
-        comes = decided _ (j .is);
-        ready = asks .ready;
-        prefixes = prefixes;
-        feasible = j .feasible;
-        room = (line-says s n b line a v now p) .room-fits;
-      }
+-- ## An action
 
--- An action.
-module _ (s : Settings) (n b line a : List ℕ) (x : Action) (now : ℕ) (p : Passing s n b line a (verb.Act x) now) where
+module _ (s : State) (n b line a : List ℕ) (x : Action) (when : Now) (h : Actable s n b line a x when) where
+  pub act-asked : Asked s n b (when .judge) (actionMeans line x)
+  act-asked = h .asked
+
   pub act-inside : ActionInside line x
-  act-inside = (line-says s n b line a (verb.Act x) now p) .inside
+  act-inside = h .inside
+
+  module _ (o : Verdict) (fates : List ℕ) (j : JudgesOn s n b line (when .judge) (actionMeans line x) o) where
+    pub act-can : Carriable s n b line a o (when .stamp) fates
+    act-can = rw (h .one-now) (record { ready = h .asked .ready; feasible = (j [] fates) .feasible; room = h .room })
+
+    pub act-done : (y : Step) (n′ b′ a′ : List ℕ) → CarriedOut s n b line a o (when .stamp) fates y n′ b′ a′ → Acted s n b line a x when y n′ b′ a′
+    act-done y n′ b′ a′ g =
+        record {
+          is = λ t e p. (rw (h .one-now) at g) .is t (actionMeans line x) e (prefixes t n b line a (verb.Act x) when p) (action-unset line x)
+              ∙ decided t n b line a (verb.Act x) when p _ ((rw e at j (rulesMean (t .rules)) fates) .is);
+        }
+
+pub ruleset actions = (act-asked, act-inside, act-can, act-done)
+
+module _ (s : Settings) (n b line a : List ℕ) (x : Action) (when : Now) (p : Passing s n b line a (verb.Act x) when) (st : State) (e : st ≡ stateOf s) where
+  pub line-actable : Actable st n b line a x when
+  line-actable = rw e (record { asked = asks s n b line a (verb.Act x) when p; inside = (line-says s n b line a (verb.Act x) when p) .inside; room = room s n b line a (verb.Act x) when p; one-now = line-stamp s n b line a (verb.Act x) when p })
+
+  pub line-acted : (y : Step) (r : Served) (n′ b′ a′ : List ℕ) → Acted st n b line a x when y n′ b′ a′ → r ≡ served s y → outcomeFrom r n′ b′ a′ ≡ outcome s n b line a
+  line-acted y r n′ b′ a′ g q = rw q (g .is s e p)
+
+pub ruleset acted-lines = (line-actable, line-acted)
+
+-- ## SWEEP
+
+module _ (s : State) (rules : List Rule) (n b line a : List ℕ) (when : Now) (h : SweepAsked s rules n b a when) where
+  pub sweep-asked : Asked s n b (when .judge) Sweep
+  sweep-asked = h .asked
+
+  pub sweep-rules : (fates : List ℕ) → fates ≡ replicate 1024 0 → Sweepable s rules fates
+  sweep-rules fates f =
+      let l : length fates ≡ 1024 = ap length f ∙ length-replicate {A = ℕ} 1024 0 in
+      record { prefixes = h .prefixes; rules-sound = h .rules-sound; long = omega (arith, h .asked .ready .used-fits, h .asked .ready .capacity-fits) }
+
+  module _ (o : Verdict) (fates : List ℕ) (j : (l : List ℕ) → JudgesBy s n b l (when .judge) (rulesMean rules) fates Sweep o) where
+    pub sweep-can : Carriable s n b line a o (when .stamp) fates
+    sweep-can = rw (h .one-now) (record { ready = h .asked .ready; feasible = (j line) .feasible; room = h .room })
+
+    pub sweep-done : (y : Step) (n′ b′ a′ : List ℕ) → CarriedOut s n b line a o (when .stamp) fates y n′ b′ a′ → Swept s rules n b line a when y n′ b′ a′
+    sweep-done y n′ b′ a′ g =
+        record {
+          is = λ t e q p. (rw (h .one-now) at g) .is t Sweep e (prefixes t n b line a verb.Sweep when p) refl
+              ∙ decided t n b line a verb.Sweep when p _ ((rw (e, sym q) at (j line)) .is);
+        }
+
+pub ruleset sweeps = (sweep-asked, sweep-rules, sweep-can, sweep-done)
+
+module _ (s : Settings) (n b line a : List ℕ) (when : Now) (p : Passing s n b line a verb.Sweep when) (st : State) (e : st ≡ stateOf s) where
+  pub line-sweeps : SweepAsked st (s .rules) n b a when
+  line-sweeps =
+      rw e (record {
+        asked = asks s n b line a verb.Sweep when p;
+        prefixes = prefixes s n b line a verb.Sweep when p;
+        rules-sound = whole-rules s n b (p .is-whole);
+        room = room s n b line a verb.Sweep when p;
+        one-now = line-stamp s n b line a verb.Sweep when p;
+      })
+
+  pub line-swept : (y : Step) (r : Served) (n′ b′ a′ : List ℕ) → Swept st (s .rules) n b line a when y n′ b′ a′ → r ≡ served s y → outcomeFrom r n′ b′ a′ ≡ outcome s n b line a
+  line-swept y r n′ b′ a′ g q = rw q (g .is s e refl p)
+
+pub ruleset swept-lines = (line-sweeps, line-swept)
+
+-- ## What asks
+
+module _ (s : Settings) (n b line a : List ℕ) (x : Query) (when : Now) (p : Passing s n b line a (verb.Ask x) when) where
+  pub query-room : 256 ≤ length a
+  query-room = room s n b line a (verb.Ask x) when p
+
+  pub query-inside : QueryInside line x
+  query-inside = (line-says s n b line a (verb.Ask x) when p) .inside
 
   module _ (st : State) (e : st ≡ stateOf s) where
-    pub act-asked : Asked st n b now (actionMeans line x)
-    act-asked = rw e (asks s n b line a (verb.Act x) now p)
+    pub query-asked : Asked st n b (when .judge) (Ask (queryMeans line x))
+    query-asked = rw e (asks s n b line a (verb.Ask x) when p)
 
-    pub act-can : (o : Verdict) (fates : List ℕ) → JudgesOn st n b line now (actionMeans line x) o → Carriable s n b line a o now fates
-    act-can o fates j = carriable s n b line a (verb.Act x) now p fates o (action-unset line x) ((rw e at j) (rulesMean (s .rules)) fates)
+    module _ (o : Verdict) (j : JudgesOn st n b line (when .judge) (Ask (queryMeans line x)) o) where
+      -- The verdict, done, is the outcome.
+      judged-done : done s n b (when .judge) (Ask (queryMeans line x)) a (verdictMeans (judged line (s .next) (when .judge) []) (rowsOf n b (s .used)) o) ≡ outcome s n b line a
+      judged-done = decided s n b line a (verb.Ask x) when p _ (((rw e at j) (rulesMean (s .rules)) []) .is)
 
-pub ruleset actions = (act-inside, act-asked, act-can)
+      pub query-refused : (k : ℕ) (r : Served) → o ≡ verdict.Refused k → r .number ≡ k → r .len ≡ 0 → r .settings ≡ s → outcomeFrom r n b a ≡ outcome s n b line a
+      query-refused k r t f g h = refused-is r k s n b a f g h ∙ (rw t at judged-done)
 
--- SWEEP.
-module _ (s : Settings) (n b line a : List ℕ) (now : ℕ) (p : Passing s n b line a verb.Sweep now) (st : State) (e : st ≡ stateOf s) where
-  pub sweep-asked : Asked st n b now Sweep
-  sweep-asked = rw e (asks s n b line a verb.Sweep now p)
+      module _ (plan : Plan) (t : o ≡ verdict.Accepted plan) where
+        pub query-prints : Printable (plan .answer)
+        query-prints = ((rw t at j) [] [] .feasible) .1
 
-  pub sweep-rules : (fates : List ℕ) → fates ≡ replicate 1024 0 → Sweepable st (s .rules) fates
-  sweep-rules fates f = rw e (whole-rules s n b fates (p .is-whole) f)
+        pub query-answered : (a′ : List ℕ) (len : ℕ) (text : Answer) (after : Settings) → plan .answer ≡ text → Wrote a 0 (textOf text) 256 a′ len
+            → after ≡ withProgress s (when .stamp) (s .used) (s .next) → outcomeFrom (record { number = 0; len = len; settings = after }) n b a′ ≡ outcome s n b line a
+        unfolding added rowsAfter
+        query-answered a′ len text after h w g =
+            let same : _ ≡ effect (bucketOf s n b) (both (when .judge)) (Ask (queryMeans line x)) = decide-done (tableChecks (capacity b) (bucketOf s n b) (both (when .judge)) (Ask (queryMeans line x))) _ _ (((rw (e, t) at j) (rulesMean (s .rules)) []) .is) in
+            kept-is s n b (when .judge) (Ask (queryMeans line x)) a _ len after a′ (rw (sym h) at w)
+            (rw (line-stamp s n b line a (verb.Ask x) when p) at g ∙ settings-after s (Ask (queryMeans line x)) (when .judge) (s .used) (s .next) refl (prefixes s n b line a (verb.Ask x) when p))
+            ((asks s n b line a (verb.Ask x) when p) .ready .holds)
+            (ap (λ (f : Effect). f .rows) same) (ap (λ (f : Effect). f .taken) same)
+            ∙ (rw t at judged-done)
 
-  pub sweep-can : (o : Verdict) (fates : List ℕ) → ((l : List ℕ) → JudgesBy st n b l now (rulesMean (s .rules)) fates Sweep o) → Carriable s n b line a o now fates
-  sweep-can o fates j = carriable s n b line a verb.Sweep now p fates o refl ((rw e at j) line)
+pub ruleset queries = (query-room, query-inside, query-asked, query-refused, query-prints, query-answered)
 
-pub ruleset sweeps = (sweep-asked, sweep-rules, sweep-can)
+-- ## DEFAULT and RULE
 
--- DEFAULT and RULE.
-pub set-done : (s : Settings) (line a a′ : List ℕ) (x : Setting) (now len : ℕ) (u after : Settings) (n b : List ℕ) → Wrote a 0 (textOf answer.Done) 256 a′ len → u ≡ configuredBy s (settingMeans line x)
-    → after ≡ withProgress u now (s .used) (s .next) → Passing s n b line a (verb.Set x) now → outcomeFrom (record { number = 0; len = len; settings = after }) n b a′ ≡ outcome s n b line a
+pub set-done : (s : Settings) (line a a′ : List ℕ) (x : Setting) (when : Now) (len : ℕ) (u after : Settings) (n b : List ℕ) → Wrote a 0 (textOf answer.Done) 256 a′ len → u ≡ configuredBy s (settingMeans line x)
+    → after ≡ withProgress u (when .stamp) (s .used) (s .next) → Passing s n b line a (verb.Set x) when → outcomeFrom (record { number = 0; len = len; settings = after }) n b a′ ≡ outcome s n b line a
 unfolding configAfter
-set-done s line a a′ x now len u after n b w c g p =
-    let h = asks s n b line a (verb.Set x) now p in
+set-done s line a a′ x when len u after n b w c g p =
+    let h = asks s n b line a (verb.Set x) when p in
     let plan : Plan = record { change = change.Keep; answer = answer.Done } in
-    let z : s .next + 0 ≡ s .next = omega arith in
-    carried-is s b now (Set (settingMeans line x)) a (planMeans (judged line (s .next) now []) (rowsOf n b (s .used)) plan) len after n b a′ w
-    (rw (g, c, z, rows-length n b (s .used)))
-    (h .ready .holds)
-    ∙ decided s n b line a (verb.Set x) now p (does (planMeans (judged line (s .next) now []) (rowsOf n b (s .used)) plan))
-    ((judge.set-done (stateOf s) n b line now (rulesMean (s .rules)) [] (settingMeans line x) h) .is)
+    kept-is s n b (when .judge) (Set (settingMeans line x)) a (planMeans (judged line (s .next) (when .judge) []) (rowsOf n b (s .used)) plan) len after a′ w
+    (rw (g, c, line-stamp s n b line a (verb.Set x) when p))
+    (h .ready .holds) refl refl
+    ∙ decided s n b line a (verb.Set x) when p (does (planMeans (judged line (s .next) (when .judge) []) (rowsOf n b (s .used)) plan))
+    ((judge.set-done (stateOf s) n b line (when .judge) (rulesMean (s .rules)) [] (settingMeans line x) h) .is)
 
--- A line that the screen passes, by its verb.
-module _ (s : Settings) (n b line a : List ℕ) (w : whole s n b ≡ true) (o : Screened) (h : Screens (s .time) line (length a) o) (v : Verb) (now : ℕ) (e : o ≡ screened.Passed v now) where
-  pub line-passes : (u : Verb) → v ≡ u → Passing s n b line a u now
-  line-passes u f = record { is-whole = w; passes = rw f at (sym e ∙ h .is (settingsMean s .config)) }
+-- ## A line that the screen passes, by its verb
+
+module _ (s : Settings) (n b line a : List ℕ) (w : whole s n b ≡ true) (st : State) (i : st ≡ stateOf s) (o : Screened) (h : Screens st line (length a) o) (v : Verb) (when : Now) (e : o ≡ screened.Passed v when) where
+  pub line-passes : (u : Verb) → v ≡ u → Passing s n b line a u when
+  line-passes u f = record { is-whole = w; passes = rw f at (sym e ∙ (rw i at h) .is (settingsMean s .config)) }
 
   pub line-fits : 256 ≤ length a
-  line-fits = (line-says s n b line a v now (line-passes v refl)) .room-fits
+  line-fits = room s n b line a v when (line-passes v refl)
 
   module _ (x : Setting) (f : v ≡ verb.Set x) where
     pub line-settable : Settable line s x
@@ -178,12 +258,12 @@ module _ (s : Settings) (n b line a : List ℕ) (w : whole s n b ≡ true) (o : 
     line-settable =
         let p = line-passes (verb.Set x) f in
         record {
-          prefixes = prefixes s n b line a (verb.Set x) now p;
-          in-range = and-r (leb ((line-says s n b line a (verb.Set x) now p) .clock) latest) _ (line-ranges s n b line a (verb.Set x) now p);
-          inside = (line-says s n b line a (verb.Set x) now p) .inside;
+          prefixes = prefixes s n b line a (verb.Set x) when p;
+          in-range = and-r (leb ((line-says s n b line a (verb.Set x) when p) .clock) latest) _ (line-ranges s n b line a (verb.Set x) when p);
+          inside = (line-says s n b line a (verb.Set x) when p) .inside;
         }
 
-    pub line-set : (r : Served) (a′ : List ℕ) → ((n b : List ℕ) → Passing s n b line a (verb.Set x) now → outcomeFrom r n b a′ ≡ outcome s n b line a) → outcomeFrom r n b a′ ≡ outcome s n b line a
+    pub line-set : (r : Served) (a′ : List ℕ) → ((n b : List ℕ) → Passing s n b line a (verb.Set x) when → outcomeFrom r n b a′ ≡ outcome s n b line a) → outcomeFrom r n b a′ ≡ outcome s n b line a
     line-set r a′ g = g n b (line-passes (verb.Set x) f)
 
 pub ruleset lines = (line-stopped, line-passes, line-fits, line-settable, line-set)

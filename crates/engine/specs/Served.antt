@@ -1,47 +1,83 @@
--- What a call returned and left, as an outcome; the state that it judges by; and what its parts ask.
+-- What a call returned and left, as an outcome; what its parts ask, and what they come to with the settings.
 use Prim.Native.Nat.{ℕ, _≤_}
 use mathlib.Core.Path.{_≡_}
 use mathlib.Core.Bool.{true}
 use mathlib.Core.List.{List}
 use mathlib.Core.Option.{none}
 use lib.ListN.{length}
+use Rattle.calendar.specs.declared.Now.{Now}
+use Rattle.model.specs.Settings.{soundRules}
 use Rattle.model.specs.Requests as model
-use Rattle.model.specs.Requests.{settingOf}
+use Rattle.settings.specs.declared.Rule.{Rule}
 use Rattle.settings.specs.declared.Settings.{Settings}
-use Rattle.settings.specs.Meaning.{settingsMean, prefixesAre}
+use Rattle.settings.specs.declared.State.{State}
+use Rattle.settings.specs.Meaning.{settingsMean, rulesMean, prefixesAre}
+use Rattle.settings.specs.State.{stateOf}
+use Rattle.settings.specs.Changes.{withProgress}
 use Rattle.table.specs.Layout.{rowsOf, capacity}
 use Rattle.bucket.specs.Whole.{whole}
+use Rattle.request.specs.declared.Action.{Action}
 use Rattle.request.specs.declared.Verb.{Verb}
+use Rattle.request.specs.declared.Verb.the-variants as verb
+use Rattle.request.specs.Meaning.{actionMeans, ActionInside}
 use Rattle.screen.specs.declared.Screened.the-variants.{Passed}
 use Rattle.screen.specs.Screen.{screenedLine}
-use Rattle.locks.specs.declared.State.{State}
 use Rattle.judge.specs.declared.Verdict.{Verdict}
 use Rattle.judge.specs.Meaning.{verdictMeans, Feasible}
-use Rattle.judge.specs.State.{Ready}
+use Rattle.judge.specs.State.{rowsIn, Ready}
+use Rattle.judge.specs.Premises.{Asked}
 use Rattle.apply.specs.Applied.{judged}
 use Rattle.outcome.specs.Outcome.{Outcome, outcome}
 use Rattle.outcome.specs.Steps.{done}
 use Rattle.engine.specs.declared.Served.{Served}
+use Rattle.engine.specs.declared.Step.{Step}
 
 abbrev pub outcomeFrom : Served → List ℕ → List ℕ → List ℕ → Outcome
 outcomeFrom r numbers keys answer =
     record { number = r .number; len = r .len; settings = r .settings; numbers = numbers; keys = keys; answer = answer }
 
--- what of the settings a line is judged by
-abbrev pub stateOf : Settings → State
-stateOf s = record { time = s .time; used = s .used; next = s .next; mode = s .mode; count = s .count; unit = s .unit }
+-- what a call returns after a step
+abbrev pub served : Settings → Step → Served
+served s x = record { number = x .number; len = x .len; settings = withProgress s (x .time) (x .used) (x .next) }
 
 -- The bucket is whole, and the line passes the screen: it says this verb, and this is its now.
-pub record Passing (s : Settings) (numbers keys line answer : List ℕ) (v : Verb) (now : ℕ) : Type 0 where
+pub record Passing (s : Settings) (numbers keys line answer : List ℕ) (v : Verb) (when : Now) : Type 0 where
   pub is-whole : whole s numbers keys ≡ true
-  pub passes : Passed v now ≡ screenedLine (settingsMean s .config) (s .time) line (length answer)
+  pub passes : Passed v when ≡ screenedLine (settingsMean s .config) (s .time) line (length answer)
 
--- The verdict, done, is what comes of the line; its verb sets nothing; and it can be carried out on the bucket, with room for the answer.
-pub record Carriable (s : Settings) (numbers keys line answer : List ℕ) (v : Verdict) (now : ℕ) (fates : List ℕ) : Type 0 where
-  pub verb : model.Verb
-  pub sets-nothing : settingOf verb ≡ none
-  pub comes : done s numbers keys now verb answer (verdictMeans (judged line (s .next) now fates) (rowsOf numbers keys (s .used)) v) ≡ outcome s numbers keys line answer
-  pub ready : Ready (stateOf s) numbers keys
-  pub prefixes : prefixesAre (s .rules) ≡ true
-  pub feasible : Feasible (judged line (s .next) now fates) (capacity keys) (rowsOf numbers keys (s .used)) v
+-- ## A verdict
+
+-- The state is ready, the verdict can be carried out on it, and there is room for the answer.
+pub record Carriable (s : State) (numbers keys line answer : List ℕ) (v : Verdict) (now : ℕ) (fates : List ℕ) : Type 0 where
+  pub ready : Ready s numbers keys
+  pub feasible : Feasible (judged line (s .next) now fates) (capacity keys) (rowsIn s numbers keys) v
   pub room : 256 ≤ length answer
+
+-- With any settings of that state, what is returned and left is the verdict's decision, done, where the verb sets nothing.
+pub record CarriedOut (s : State) (numbers keys line answer : List ℕ) (v : Verdict) (now : ℕ) (fates : List ℕ) (x : Step) (numbers′ keys′ answer′ : List ℕ) : Type 0 where
+  pub is : (settings : Settings) (u : model.Verb) → s ≡ stateOf settings → prefixesAre (settings .rules) ≡ true → model.settingOf u ≡ none
+      → outcomeFrom (served settings x) numbers′ keys′ answer′ ≡ done settings numbers keys now u answer (verdictMeans (judged line (settings .next) now fates) (rowsOf numbers keys (settings .used)) v)
+
+-- ## An action, and SWEEP
+
+-- An action that can be judged, and room for its answer.
+pub record Actable (s : State) (numbers keys line answer : List ℕ) (x : Action) (when : Now) : Type 0 where
+  pub asked : Asked s numbers keys (when .judge) (actionMeans line x)
+  pub inside : ActionInside line x
+  pub room : 256 ≤ length answer
+  pub one-now : when .stamp ≡ when .judge
+
+-- With the settings of a line that passes, what is returned and left is what comes of the line.
+pub record Acted (s : State) (numbers keys line answer : List ℕ) (action : Action) (when : Now) (x : Step) (numbers′ keys′ answer′ : List ℕ) : Type 0 where
+  pub is : (settings : Settings) → s ≡ stateOf settings → Passing settings numbers keys line answer (verb.Act action) when → outcomeFrom (served settings x) numbers′ keys′ answer′ ≡ outcome settings numbers keys line answer
+
+-- A sweep that can be judged by these rules, and room for its answer.
+pub record SweepAsked (s : State) (rules : List Rule) (numbers keys answer : List ℕ) (when : Now) : Type 0 where
+  pub asked : Asked s numbers keys (when .judge) model.Sweep
+  pub prefixes : prefixesAre rules ≡ true
+  pub rules-sound : soundRules (rulesMean rules) ≡ true
+  pub room : 256 ≤ length answer
+  pub one-now : when .stamp ≡ when .judge
+
+pub record Swept (s : State) (rules : List Rule) (numbers keys line answer : List ℕ) (when : Now) (x : Step) (numbers′ keys′ answer′ : List ℕ) : Type 0 where
+  pub is : (settings : Settings) → s ≡ stateOf settings → settings .rules ≡ rules → Passing settings numbers keys line answer verb.Sweep when → outcomeFrom (served settings x) numbers′ keys′ answer′ ≡ outcome settings numbers keys line answer

@@ -2,13 +2,16 @@
 mod configure;
 
 use answers::Answer;
+use calendar::Now;
 use judge::Verdict;
-use locks::State;
 use request::Action;
+use request::Query;
 use request::Setting;
 use request::Verb;
 use screen::Screened;
+use settings::Rule;
 use settings::Settings;
+use settings::State;
 ghost use mathlib.Core.Path.{_≡_};
 ghost use mathlib.Core.Bool.{true};
 ghost use mathlib.Core.List.{List};
@@ -18,13 +21,22 @@ ghost use Rattle.bucket.specs.Whole.{whole};
 ghost use Rattle.request.specs.declared.Verb.the-variants as verb;
 ghost use Rattle.outcome.specs.Outcome.{outcome};
 ghost use Rattle.engine.specs.Configured.{Settable};
-ghost use Rattle.engine.specs.Served.{outcomeFrom, stateOf, Passing, Carriable};
+ghost use Rattle.engine.specs.Served.{outcomeFrom, served, Passing, Carriable, CarriedOut, Actable, Acted, SweepAsked, Swept};
 
 // What a call returns: 0 or the refusal, the answer's length, and the settings afterwards.
 pub struct Served {
     pub number: u64,
     pub len: usize,
     pub settings: Settings,
+}
+
+// The same with just what of the settings a line can move: the bucket's time, the used rows and the next version number.
+struct Step {
+    number: u64,
+    len: usize,
+    time: u64,
+    used: usize,
+    next: u64,
 }
 
 fn refused(number: u64, settings: Settings) -> Served
@@ -37,23 +49,9 @@ fn refused(number: u64, settings: Settings) -> Served
     }
 }
 
-// What of the settings a line is judged by.
-fn state_of(s: Settings) -> State
-    ensures { λ r. ⌜ r ≡ stateOf s ⌝ }
-{
-    State {
-        time: s.time,
-        used: s.used as usize,
-        next: s.next,
-        mode: s.mode,
-        count: s.count,
-        unit: s.unit,
-    }
-}
-
 // Does what a verdict says: a refusal leaves everything as it is; a plan is carried out and answered, and now is the bucket's time.
 fn carry_out(
-    s: Settings,
+    s: State,
     rows: &mut [u64],
     keys: &mut [u8],
     line: &[u8],
@@ -61,44 +59,49 @@ fn carry_out(
     v: Verdict,
     instant: u64,
     fates: &[u8],
-) -> Served
+) -> Step
     requires { ⌜ Carriable s (now rows) (now keys) (now line) (now answer) v instant (now fates) ⌝ }
-    ensures { λ r. ⌜ outcomeFrom r (now (rows .exit)) (now (keys .exit)) (now (answer .exit)) ≡ outcome s (now (rows .entry)) (now (keys .entry)) (now (line .entry)) (now (answer .entry)) ⌝ }
+    ensures { λ r. ⌜ CarriedOut s (now (rows .entry)) (now (keys .entry)) (now (line .entry)) (now (answer .entry)) v instant (now (fates .entry)) r (now (rows .exit)) (now (keys .exit)) (now (answer .exit)) ⌝ }
 {
     match v {
-        Verdict::Refused(n) => refused(n, s),
+        Verdict::Refused(n) => Step {
+            number: n,
+            len: 0,
+            time: s.time,
+            used: s.used,
+            next: s.next,
+        },
         Verdict::Accepted(plan) => {
             let change = plan.change;
             let text = plan.answer;
-            let used = s.used as usize;
-            let p = apply::apply_change(rows, keys, line, used, s.next, change, instant, fates);
+            let p = apply::apply_change(rows, keys, line, s.used, s.next, change, instant, fates);
             let len = answers::write_answer(answer, text);
-            let after = settings::with_progress(s, instant, p.used as u64, p.next);
-            Served {
+            Step {
                 number: 0,
                 len,
-                settings: after,
+                time: instant,
+                used: p.used,
+                next: p.next,
             }
         }
     }
 }
 
 // An action needs no fates.
-fn serve_action(
-    s: Settings,
+fn act(
+    s: State,
     rows: &mut [u64],
     keys: &mut [u8],
     line: &[u8],
     answer: &mut [u8],
     action: Action,
-    instant: u64,
-) -> Served
-    requires { ⌜ Passing s (now rows) (now keys) (now line) (now answer) (verb.Act action) instant ⌝ }
-    ensures { λ r. ⌜ outcomeFrom r (now (rows .exit)) (now (keys .exit)) (now (answer .exit)) ≡ outcome s (now (rows .entry)) (now (keys .entry)) (now (line .entry)) (now (answer .entry)) ⌝ }
+    when: Now,
+) -> Step
+    requires { ⌜ Actable s (now rows) (now keys) (now line) (now answer) action when ⌝ }
+    ensures { λ r. ⌜ Acted s (now (rows .entry)) (now (keys .entry)) (now (line .entry)) (now (answer .entry)) action when r (now (rows .exit)) (now (keys .exit)) (now (answer .exit)) ⌝ }
 {
-    let state = state_of(s);
-    let v = judge::judge(rows, keys, line, state, action, instant);
-    carry_out(s, rows, keys, line, answer, v, instant, b"")
+    let v = judge::judge(rows, keys, line, s, action, when.judge);
+    carry_out(s, rows, keys, line, answer, v, when.stamp, b"")
 }
 
 // Room for a fate of each row.
@@ -109,43 +112,113 @@ fn no_fates() -> [u8; 1024]
 }
 
 // SWEEP needs rules and fates.
+fn sweep(
+    s: State,
+    rules: [Rule; 8],
+    rows: &mut [u64],
+    keys: &mut [u8],
+    line: &[u8],
+    answer: &mut [u8],
+    when: Now,
+) -> Step
+    requires { ⌜ SweepAsked s rules (now rows) (now keys) (now answer) when ⌝ }
+    ensures { λ r. ⌜ Swept s rules (now (rows .entry)) (now (keys .entry)) (now (line .entry)) (now (answer .entry)) when r (now (rows .exit)) (now (keys .exit)) (now (answer .exit)) ⌝ }
+{
+    let mut fates = no_fates();
+    let v = judge::judge_sweep(rows, keys, s, rules, when.judge, &mut fates);
+    carry_out(s, rows, keys, line, answer, v, when.stamp, &fates)
+}
+
+// The settings after a step.
+fn settle(s: Settings, step: Step) -> Served
+    ensures { λ r. ⌜ r ≡ served s step ⌝ }
+{
+    let after = settings::with_progress(s, step.time, step.used as u64, step.next);
+    Served {
+        number: step.number,
+        len: step.len,
+        settings: after,
+    }
+}
+
+// An action, and the settings after it.
+fn serve_action(
+    s: Settings,
+    rows: &mut [u64],
+    keys: &mut [u8],
+    line: &[u8],
+    answer: &mut [u8],
+    action: Action,
+    when: Now,
+) -> Served
+    requires { ⌜ Passing s (now rows) (now keys) (now line) (now answer) (verb.Act action) when ⌝ }
+    ensures { λ r. ⌜ outcomeFrom r (now (rows .exit)) (now (keys .exit)) (now (answer .exit)) ≡ outcome s (now (rows .entry)) (now (keys .entry)) (now (line .entry)) (now (answer .entry)) ⌝ }
+{
+    let state = settings::state_of(s);
+    let step = act(state, rows, keys, line, answer, action, when);
+    settle(s, step)
+}
+
+// SWEEP by the rules, and the settings after it.
 fn serve_sweep(
     s: Settings,
     rows: &mut [u64],
     keys: &mut [u8],
     line: &[u8],
     answer: &mut [u8],
-    instant: u64,
+    when: Now,
 ) -> Served
-    requires { ⌜ Passing s (now rows) (now keys) (now line) (now answer) verb.Sweep instant ⌝ }
+    requires { ⌜ Passing s (now rows) (now keys) (now line) (now answer) verb.Sweep when ⌝ }
     ensures { λ r. ⌜ outcomeFrom r (now (rows .exit)) (now (keys .exit)) (now (answer .exit)) ≡ outcome s (now (rows .entry)) (now (keys .entry)) (now (line .entry)) (now (answer .entry)) ⌝ }
 {
-    let state = state_of(s);
+    let state = settings::state_of(s);
     let rules = s.rules;
-    let mut fates = no_fates();
-    let v = judge::judge_sweep(rows, keys, state, rules, instant, &mut fates);
-    carry_out(s, rows, keys, line, answer, v, instant, &fates)
+    let step = sweep(state, rules, rows, keys, line, answer, when);
+    settle(s, step)
 }
 
 // DEFAULT and RULE leave the table as it is, whatever it holds.
-fn serve_setting(
-    s: Settings,
-    line: &[u8],
-    answer: &mut [u8],
-    setting: Setting,
-    instant: u64,
-) -> Served
+fn serve_setting(s: Settings, line: &[u8], answer: &mut [u8], setting: Setting, when: Now) -> Served
     requires { ⌜ Settable (now line) s setting ⌝ }
     requires { ⌜ 256 ≤ length (now answer) ⌝ }
-    ensures { λ r. ⌜ ((numbers keys : List ℕ) → Passing s numbers keys (now (line .entry)) (now (answer .entry)) (verb.Set setting) instant → outcomeFrom r numbers keys (now (answer .exit)) ≡ outcome s numbers keys (now (line .entry)) (now (answer .entry))) ⌝ }
+    ensures { λ r. ⌜ ((numbers keys : List ℕ) → Passing s numbers keys (now (line .entry)) (now (answer .entry)) (verb.Set setting) when → outcomeFrom r numbers keys (now (answer .exit)) ≡ outcome s numbers keys (now (line .entry)) (now (answer .entry))) ⌝ }
 {
     let len = answers::write_answer(answer, Answer::Done);
     let set = configure::configured(s, line, setting);
-    let after = settings::with_progress(set, instant, s.used, s.next);
+    let after = settings::with_progress(set, when.stamp, s.used, s.next);
     Served {
         number: 0,
         len,
         settings: after,
+    }
+}
+
+// What asks is judged and answered on the table as it is.
+fn serve_query(
+    s: Settings,
+    rows: &[u64],
+    keys: &[u8],
+    line: &[u8],
+    answer: &mut [u8],
+    query: Query,
+    when: Now,
+) -> Served
+    requires { ⌜ Passing s (now rows) (now keys) (now line) (now answer) (verb.Ask query) when ⌝ }
+    ensures { λ r. ⌜ outcomeFrom r (now (rows .entry)) (now (keys .entry)) (now (answer .exit)) ≡ outcome s (now (rows .entry)) (now (keys .entry)) (now (line .entry)) (now (answer .entry)) ⌝ }
+{
+    let state = settings::state_of(s);
+    match judge::judge_query(rows, keys, line, state, query, when) {
+        Verdict::Refused(n) => refused(n, s),
+        Verdict::Accepted(plan) => {
+            let text = plan.answer;
+            let len = answers::write_answer(answer, text);
+            let after = settings::with_progress(s, when.stamp, s.used, s.next);
+            Served {
+                number: 0,
+                len,
+                settings: after,
+            }
+        }
     }
 }
 
@@ -160,12 +233,14 @@ pub fn serve_whole(
     requires { ⌜ whole s (now rows) (now keys) ≡ true ⌝ }
     ensures { λ r. ⌜ outcomeFrom r (now (rows .exit)) (now (keys .exit)) (now (answer .exit)) ≡ outcome s (now (rows .entry)) (now (keys .entry)) (now (line .entry)) (now (answer .entry)) ⌝ }
 {
-    match screen::screen_line(s.time, line, answer.len()) {
+    let state = settings::state_of(s);
+    match screen::screen_line(state, line, answer.len()) {
         Screened::Refused(n) => refused(n, s),
-        Screened::Passed(verb, instant) => match verb {
-            Verb::Act(action) => serve_action(s, rows, keys, line, answer, action, instant),
-            Verb::Set(setting) => serve_setting(s, line, answer, setting, instant),
-            Verb::Sweep => serve_sweep(s, rows, keys, line, answer, instant),
+        Screened::Passed(verb, when) => match verb {
+            Verb::Act(action) => serve_action(s, rows, keys, line, answer, action, when),
+            Verb::Set(setting) => serve_setting(s, line, answer, setting, when),
+            Verb::Sweep => serve_sweep(s, rows, keys, line, answer, when),
+            Verb::Ask(query) => serve_query(s, rows, keys, line, answer, query, when),
         },
     }
 }

@@ -35,6 +35,8 @@ use Rattle.fields.specs.declared.PeriodRead.{PeriodRead}
 use Rattle.fields.specs.declared.PeriodRead.the-variants as period-read
 use Rattle.fields.specs.declared.RightsRead.{RightsRead}
 use Rattle.fields.specs.declared.RightsRead.the-variants as rights-read
+use Rattle.fields.specs.declared.Retention.{Retention}
+use Rattle.fields.specs.declared.Terms.{Terms}
 
 -- ## Values
 
@@ -54,6 +56,14 @@ abbrev pub holdMeans : Hold → Option Bool
 holdMeans hold.Missing = none
 holdMeans hold.Off = some false
 holdMeans hold.On = some true
+
+-- mode and date
+abbrev pub retentionMeans : Retention → model.Retention
+retentionMeans r = record { mode = modeMeans (r .mode); date = untilMeans (r .until) }
+
+-- the lock fields of a PUT or COPY
+abbrev pub termsMeans : Terms → model.Terms
+termsMeans t = record { retention = retentionMeans (t .retention); hold = holdMeans (t .hold) }
 
 -- a version number
 abbrev pub versionMeans : Version → Option model.Version

@@ -42,6 +42,18 @@ pub enum Period {
     Years(u64),
 }
 
+// The fields mode and date.
+pub struct Retention {
+    pub mode: Mode,
+    pub until: Until,
+}
+
+// The lock fields of a PUT or COPY.
+pub struct Terms {
+    pub retention: Retention,
+    pub hold: Hold,
+}
+
 // The letters r w d t h b c.
 pub struct Rights {
     pub r: bool,
@@ -177,7 +189,7 @@ pub fn read_version(text: &[u8]) -> VersionRead
     if text::is_word(text, b"-") {
         return VersionRead::Is(Version::Current);
     }
-    let Value::Is(n) = text::read_positive(text, 4294967295) else {
+    let Value::Is(n) = text::read_positive(text, model::LARGEST_NUMBER) else {
         return VersionRead::Bad;
     };
     VersionRead::Is(Version::Numbered(n))
@@ -266,13 +278,13 @@ pub fn read_period(text: &[u8]) -> PeriodRead
     }
     let last = text.len() - 1;
     if text[last] == b'd' {
-        let Value::Is(n) = text::read_positive(&text[0..last], 36500) else {
+        let Value::Is(n) = text::read_positive(&text[0..last], model::MOST_DAYS) else {
             return PeriodRead::Bad;
         };
         return PeriodRead::Is(Period::Days(n));
     }
     if text[last] == b'y' {
-        let Value::Is(n) = text::read_positive(&text[0..last], 100) else {
+        let Value::Is(n) = text::read_positive(&text[0..last], model::MOST_YEARS) else {
             return PeriodRead::Bad;
         };
         return PeriodRead::Is(Period::Years(n));
@@ -329,8 +341,8 @@ pub fn mode_number(m: Mode) -> u64
 {
     match m {
         Mode::Missing => 0,
-        Mode::Governance => 1,
-        Mode::Compliance => 2,
+        Mode::Governance => model::GOVERNANCE,
+        Mode::Compliance => model::COMPLIANCE,
     }
 }
 

@@ -15,10 +15,10 @@ use Rattle.buffers.proofs.Lists.{same-refl, same-path}
 use Rattle.text.specs.Numbers.{isDigit, numberOf}
 use Rattle.text.specs.Printing.{digits}
 use Rattle.text.proofs.RoundTrip.{number-back, digits-all}
+use Rattle.calendar.specs.declared.Now.{Now}
 use Rattle.model.specs.Rows.{isMarker}
 use Rattle.model.specs.Settings.{Bucket}
 use Rattle.model.specs.Requests.{numbered, name, Get, Verb, Put, Copy, Retain, Hold, AddMarker, DeleteVersion, Set, Sweep, Ask}
-use Rattle.model.specs.Time.{Now}
 use Rattle.model.specs.Effects.{rowOf}
 use Rattle.model.specs.Answers.{made, reply, givesNumber}
 use Rattle.model.proofs.Invariant.{removal-answers, shown-answers}

@@ -16,7 +16,6 @@ use Rattle.settings.specs.Bytes.{settingsOf}
 use Rattle.settings.specs.Meaning.{freshSettings}
 use Rattle.settings.proofs.RoundTrip.{settings-length}
 use Rattle.table.specs.Layout.{capacity}
-use Rattle.settings.specs.Meaning.{freshSettings}
 use Rattle.bucket.specs.Whole.{whole}
 use Rattle.bucket.proofs.Whole.{whole-parts}
 use Rattle.outcome.specs.Outcome.{Outcome, refused, refusalOf}

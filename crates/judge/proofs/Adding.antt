@@ -29,13 +29,14 @@ use Rattle.table.specs.declared.Numbers.{Numbers}
 use Rattle.table.specs.Layout.{capacity}
 use Rattle.table.specs.Places.{rowFrom}
 use Rattle.table.proofs.Held.{rows-length}
+use Rattle.settings.specs.declared.State.{State}
+use Rattle.settings.specs.State.{configBy}
 use Rattle.fields.specs.Meaning.{Inside}
 use Rattle.search.specs.Places as places
 use Rattle.search.proofs.Named.{insert-place}
 use Rattle.answers.specs.Text.{answerText}
 use Rattle.answers.specs.Meaning.{textOf}
 use Rattle.answers.specs.declared.Answer.the-variants.{Made, Marked}
-use Rattle.locks.specs.declared.State.{State}
 use Rattle.judge.specs.declared.Verdict.{Verdict}
 use Rattle.judge.specs.declared.Verdict.the-variants.{Refused, Accepted}
 use Rattle.judge.specs.declared.Change.the-variants.{Insert}
@@ -45,8 +46,7 @@ use Rattle.locks.specs.declared.NewLock.the-variants.{TooLate, Lock}
 use Rattle.judge.specs.declared.Named.{Named}
 use Rattle.judge.specs.declared.Named.the-variants as named
 use Rattle.outcome.specs.Decision.{tableDecision}
-use Rattle.locks.specs.State.{configBy}
-use Rattle.judge.specs.State.{bucketBy, rowsIn}
+use Rattle.judge.specs.State.{bucketBy, rowsIn, Ready}
 use Rattle.locks.specs.Locks.{Pair, newLock, lockMeans}
 use Rattle.judge.specs.Meaning.{Judged, changeMeans, changeTakes, Feasible, Judges}
 use Rattle.judge.proofs.Looking.{StandsData, stands-data}
@@ -54,7 +54,7 @@ use Rattle.judge.specs.Premises.{both, Asked, rowRefusal, JudgesBy, Judg
 use Rattle.judge.specs.Named.{dataNamed}
 use Rattle.judge.proofs.Deciding.{Open, refuse-10, refuse-11, refuse-12, accept, data-sound}
 use Rattle.judge.proofs.Leaves.{count-most}
-use Rattle.judge.proofs.Naming.{no-data}
+use Rattle.judge.proofs.Naming.{data-refused}
 
 -- ## The lock of a new row
 
@@ -94,9 +94,9 @@ record Spare (c used next : ℕ) : Type 0 where
   unspent : next ≡ spentNumber → ⊥
   free : used < c
 
-spare : (c used next k : ℕ) → k ≡ rowRefusal c used next → k ≡ 0 → Spare c used next
+has-spare : (c used next k : ℕ) → k ≡ rowRefusal c used next → k ≡ 0 → Spare c used next
 unfolding rowRefusal
-spare c used next k e z =
+has-spare c used next k e z =
     elim (either (eqb next spentNumber)) [
       | inl f ↦ let q : k ≡ 11 = e ∙ rw f in absurd (omega arith)
       | inr f ↦ elim (either (ltb used c)) [
@@ -168,7 +168,7 @@ module _ (s : State) (numbers keys line : List ℕ) (now : ℕ) (p : Place) (bod
     unfolding added rowsAfter reply inRange
     put-done key at h none-holds inside ek w eh =
         let z = rows-length numbers keys (s .used) in
-        let f = spare (capacity keys) (s .used) (s .next) k refusal none-holds in
+        let f = has-spare (capacity keys) (s .used) (s .next) k refusal none-holds in
         let left = f .unspent in
         let room = f .free in
         let l = lock-is (configBy s rules) now (t .retention) x (lock rules) m d e in
@@ -214,7 +214,7 @@ module _ (s : State) (numbers keys line : List ℕ) (now : ℕ) (m : Name) (p : 
       ≡ tableDecision (capacity keys) (bucketBy s rules (rowsIn s numbers keys)) (both now) (Put p (n .body) (n .size) t) = simp (e, ne-eqb (n .kind) 2 (source .no-marker)) in
       rw g (h rules fates)
 
-pub ruleset copy-ways = (refl, no-data, copy-asks, copy-puts)
+pub ruleset copy-ways = (refl, data-refused, copy-asks, copy-puts)
 
 -- ## DELETE with `-`
 
@@ -223,31 +223,31 @@ unfolding missing namesMarker barred tooLate
 marker-open s rules xs now k y = record { there = refl; no-marker = refl; unbarred = refl; in-time = refl }
 
 module _ (s : State) (numbers keys line : List ℕ) (now : ℕ) (p : Place) (y : Bool)
-    (asked : Asked s numbers keys now (AddMarker (partOf line p) y)) (rules : List Rule) (fates : List ℕ)
+    (ready : Ready s numbers keys) (is-key : isKey (partOf line p) ≡ true) (rules : List Rule) (fates : List ℕ)
     (k : ℕ) (refusal : k ≡ rowRefusal (capacity keys) (s .used) (s .next)) where
   pub marker-refused : (k ≡ 0 → ⊥) → JudgesBy s numbers keys line now rules fates (AddMarker (partOf line p) y) (Refused k)
   unfolding added rowsAfter
   marker-refused h =
       add-refused _ (capacity keys) s rules (rowsIn s numbers keys) now (AddMarker (partOf line p) y) _
       (marker-open s rules (rowsIn s numbers keys) now (partOf line p) y) refl refl
-      (s .used) k (rows-length numbers keys (s .used)) (asked .ready .next-fits) refusal h
+      (s .used) k (rows-length numbers keys (s .used)) (ready .next-fits) refusal h
 
   pub marker-done : (key : List ℕ) (at : ℕ) (n : Numbers) → k ≡ 0 → Inside line p
       → key ≡ partOf line p → Within at (places.keyPlace key (rowsIn s numbers keys)) (s .used) → ((l : List ℕ) → rowFrom n l ≡ marker now (s .next) l)
       → JudgesBy s numbers keys line now rules fates (AddMarker (partOf line p) y) (Accepted (record { change = Insert at n p; answer = Marked (s .next) }))
-  unfolding added rowsAfter reply inRange
+  unfolding added rowsAfter reply
   marker-done key at n none-holds inside ek w new =
       let z = rows-length numbers keys (s .used) in
-      let f = spare (capacity keys) (s .used) (s .next) k refusal none-holds in
+      let f = has-spare (capacity keys) (s .used) (s .next) k refusal none-holds in
       let left = f .unspent in
       let room = f .free in
       let row = marker now (s .next) (partOf line p) in
       add-done _ (capacity keys) s rules (rowsIn s numbers keys) now (AddMarker (partOf line p) y) row
       (marker-open s rules (rowsIn s numbers keys) now (partOf line p) y) refl refl
       (record { change = Insert at n p; answer = Marked (s .next) })
-      (omega (arith, asked .ready .next-fits)) (omega arith)
+      (omega (arith, ready .next-fits)) (omega arith)
       (rw (w .is, ek, new (partOf line p)) (sym (insert-place row (rowsIn s numbers keys))))
       refl refl
-      ((omega (arith, w .most), omega arith, key-short (partOf line p) (asked .in-range), inside .end), tt)
+      ((omega (arith, w .most), omega arith, key-short (partOf line p) is-key, inside .end), tt)
 
 pub ruleset marker-ways = (marker-refused, marker-done)

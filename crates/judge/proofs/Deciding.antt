@@ -8,10 +8,10 @@ use native.Mathlib.Omega.{arith}
 use lib.ListN.{length}
 use borrow.Author.Tests.{lt-ltb, le-ltb, le-leb, lt-leb, eq-eqb, ne-eqb}
 use Rattle.buffers.proofs.Lists.{all-first}
+use Rattle.calendar.specs.declared.Now.{Now}
 use Rattle.model.specs.Rows.{Row, soundRow, soundData}
 use Rattle.model.specs.Settings.{Rule, Bucket, spentNumber, fits}
 use Rattle.model.specs.Requests.{Name, Verb, nameOf}
-use Rattle.model.specs.Time.{Now}
 use Rattle.model.specs.Effects.{rowOf, added, rowsAfter}
 use Rattle.model.specs.Refusals.{removesVersion, missing, namesMarker, bars, barred, tooLate, spends, full}
 use Rattle.model.specs.Answers.{reply}
@@ -21,12 +21,12 @@ use Rattle.table.specs.declared.Numbers.{Numbers}
 use Rattle.table.specs.Layout.{capacity}
 use Rattle.table.specs.Places.{rowFrom}
 use Rattle.table.proofs.Held.{rows-length}
+use Rattle.settings.specs.declared.State.{State}
 use Rattle.answers.specs.Text.{answerText}
 use Rattle.answers.specs.Meaning.{textOf}
 use Rattle.judge.specs.declared.Plan.{Plan}
 use Rattle.judge.specs.declared.Verdict.the-variants.{Refused, Accepted}
 use Rattle.outcome.specs.Decision.{tableDecision}
-use Rattle.locks.specs.declared.State.{State}
 use Rattle.judge.specs.State.{bucketBy, rowsIn, Ready}
 use Rattle.judge.specs.Meaning.{Judged, keyHere, changeMeans, changeTakes, Feasible, Judges}
 use Rattle.judge.specs.Premises.{both}

@@ -1,19 +1,21 @@
 -- From an action's own judgement to that of any action.
 use Prim.Native.Nat.{ℕ}
 use mathlib.Core.Path.{_≡_, refl}
-use mathlib.Core.Bool.{Bool}
+use mathlib.Core.Bool.{Bool, true}
 use mathlib.Core.List.{List}
 use Rattle.text.specs.declared.Place.{Place}
+use Rattle.text.specs.Fields.{partOf}
+use Rattle.text.specs.Keys.{isKey}
 use Rattle.model.specs.Settings.{Rule}
 use Rattle.model.specs.Requests as model
+use Rattle.settings.specs.declared.State.{State}
 use Rattle.request.specs.declared.Name.{Name}
-use Rattle.request.specs.declared.Retention.{Retention}
-use Rattle.request.specs.declared.Terms.{Terms}
 use Rattle.request.specs.declared.Action.{Action}
 use Rattle.request.specs.declared.Action.the-variants as action
+use Rattle.fields.specs.declared.Retention.{Retention}
+use Rattle.fields.specs.declared.Terms.{Terms}
 use Rattle.fields.specs.Meaning.{Inside}
 use Rattle.request.specs.Meaning.{actionMeans, ActionInside}
-use Rattle.locks.specs.declared.State.{State}
 use Rattle.judge.specs.declared.Verdict.{Verdict}
 use Rattle.judge.specs.Premises.{Asked, JudgesBy, JudgesOn}
 
@@ -22,6 +24,11 @@ use Rattle.judge.specs.Premises.{Asked, JudgesBy, JudgesOn}
 pub asked-as : (s : State) (numbers keys line : List ℕ) (now : ℕ) (v u : Action) (w : model.Verb) → v ≡ u → Asked s numbers keys now (actionMeans line v)
     → actionMeans line u ≡ w → Asked s numbers keys now w
 asked-as s numbers keys line now v u w e asked q = rw (e, q) at asked
+
+pub marker-key : (s : State) (numbers keys line : List ℕ) (now : ℕ) (v : Action) (k : Place) (y : Bool) → v ≡ action.AddMarker k y → Asked s numbers keys now (actionMeans line v)
+    → isKey (partOf line k) ≡ true
+unfolding model.inRange
+marker-key s numbers keys line now v k y e asked = (rw e at asked) .in-range
 
 module _ (line : List ℕ) (v : Action) (inside : ActionInside line v) where
   pub put-inside : (k : Place) (body size : ℕ) (t : Terms) → v ≡ action.Put k body size t → Inside line k
@@ -45,9 +52,6 @@ module _ (line : List ℕ) (v : Action) (inside : ActionInside line v) where
   pub delete-inside : (k : Place) (n : ℕ) (y : Bool) → v ≡ action.DeleteVersion k n y → Inside line k
   delete-inside k n y e = rw e at inside
 
-  pub get-inside : (n : Name) → v ≡ action.Get n → Inside line (n .key)
-  get-inside n e = rw e at inside
-
 -- ## The verdict
 
 module _ (s : State) (numbers keys line : List ℕ) (now : ℕ) (rules : List Rule) (fates : List ℕ) (v : Action) (r : Verdict) where
@@ -57,9 +61,14 @@ module _ (s : State) (numbers keys line : List ℕ) (now : ℕ) (rules : List Ru
   pub judged-always : (u : Action) → v ≡ u → ((t : ℕ) → JudgesOn s numbers keys line t (actionMeans line u) r) → JudgesBy s numbers keys line now rules fates (actionMeans line v) r
   judged-always u e h = rw e (h now rules fates)
 
+  pub judged-either : (k : Place) (y : Bool) → v ≡ action.AddMarker k y → ((z : Bool) → JudgesOn s numbers keys line now (model.AddMarker (partOf line k) z) r)
+      → JudgesBy s numbers keys line now rules fates (actionMeans line v) r
+  judged-either k y e h = rw e (h y rules fates)
+
 pub ruleset action-ways = (
   refl,
   asked-as,
+  marker-key,
   put-inside,
   copy-source,
   copy-target,
@@ -67,7 +76,7 @@ pub ruleset action-ways = (
   hold-inside,
   marker-inside,
   delete-inside,
-  get-inside,
   judged-as,
   judged-always,
+  judged-either,
 )

@@ -23,7 +23,7 @@ use Rattle.search.specs.declared.Found.the-variants.{At, Place}
 use Rattle.search.specs.Places.{keyPlace, currentIn, placeFound}
 use Rattle.search.proofs.Named.{current-place}
 use Rattle.search.proofs.Positions.{current-used, current-free}
-use Rattle.locks.specs.declared.State.{State}
+use Rattle.settings.specs.declared.State.{State}
 use Rattle.judge.proofs.Looking.{ready-searchable}
 use Rattle.judge.specs.Premises.{Asked}
 

@@ -27,7 +27,7 @@ use Rattle.search.proofs.Named.{current-row, version-row}
 use Rattle.fields.specs.declared.Version as fields
 use Rattle.fields.specs.declared.Version.the-variants.{Current, Numbered}
 use Rattle.fields.specs.Meaning.{versionMeans}
-use Rattle.locks.specs.declared.State.{State}
+use Rattle.settings.specs.declared.State.{State}
 use Rattle.judge.specs.declared.Named.{Named}
 use Rattle.judge.specs.declared.Named.the-variants as named
 use Rattle.judge.specs.State.{rowsIn, Ready}
@@ -77,20 +77,20 @@ pub ruleset finding = (ready-searchable, not-found, found-fits, found-row)
 -- ## A row that is data
 
 module _ (xs : List Row) (m : Name) (r : Named) (e : r ≡ rowNamed xs m) where
-  pub no-row : (k : ℕ) → r ≡ named.Refused k → named.Refused k ≡ dataNamed xs m
+  pub still-refused : (k : ℕ) → r ≡ named.Refused k → named.Refused k ≡ dataNamed xs m
   unfolding dataNamed
-  no-row k t = rw (sym e ∙ t)
+  still-refused k t = rw (sym e ∙ t)
 
   module _ (i : ℕ) (n : Numbers) (t : r ≡ named.Row i n) where
-    pub a-marker : n .kind ≡ 2 → named.Refused 8 ≡ dataNamed xs m
+    pub marker-eight : n .kind ≡ 2 → named.Refused 8 ≡ dataNamed xs m
     unfolding dataNamed
-    a-marker h = simp (sym e ∙ t, eq-eqb (n .kind) 2 h)
+    marker-eight h = simp (sym e ∙ t, eq-eqb (n .kind) 2 h)
 
-    pub a-data-row : (n .kind ≡ 2 → ⊥) → named.Row i n ≡ dataNamed xs m
+    pub data-found : (n .kind ≡ 2 → ⊥) → named.Row i n ≡ dataNamed xs m
     unfolding dataNamed
-    a-data-row h = simp (sym e ∙ t, ne-eqb (n .kind) 2 h)
+    data-found h = simp (sym e ∙ t, ne-eqb (n .kind) 2 h)
 
-pub ruleset data-cases = (no-row, a-marker, a-data-row)
+pub ruleset data-cases = (still-refused, marker-eight, data-found)
 
 -- ## What the row is
 
@@ -108,7 +108,7 @@ pub record StandsData (xs : List Row) (m : Name) (i : ℕ) (n : Numbers) : Type 
 -- There is no such row.
 pub record Lacks (xs : List Row) (m : Name) (k : ℕ) : Type 0 where
   pub seven : k ≡ 7
-  pub no-row : rowOf xs m ≡ none
+  pub is-absent : rowOf xs m ≡ none
 
 abbrev Tells : List Row → Name → Named → Type 0
 Tells xs m (named.Refused k) = Lacks xs m k
@@ -123,12 +123,12 @@ module _ (xs : List Row) (k : List ℕ) (v : Option Version) (o : ordered xs ≡
   found-named f e = sym (named-found v) ∙ ap (places.rowFound xs) e
 
   tells-at : (i : ℕ) (x : Option Row) → rowOf xs (name k v) ≡ x → places.nthRow xs i ≡ x → Tells xs (name k v) (thenSome x (named.Refused 7) (λ y. named.Row i (numbersIn (numbersOfRow y))))
-  tells-at i none e q = record { seven = refl; no-row = e }
+  tells-at i none e q = record { seven = refl; is-absent = e }
   tells-at i (some y) e q = record { is-named = rw q e; is-there = rw q; below = row-below xs i y q }
 
   tells-found : (f : Found) → foundBy xs k v ≡ f → Tells xs (name k v) (rowFound xs f)
   tells-found (At i) e = tells-at i (places.nthRow xs i) (found-named (At i) e) refl
-  tells-found (Place i) e = record { seven = refl; no-row = found-named (Place i) e }
+  tells-found (Place i) e = record { seven = refl; is-absent = found-named (Place i) e }
 
 module _ (xs : List Row) (m : Name) (o : ordered xs ≡ true) where
   tells : (q : Named) → rowNamed xs m ≡ q → Tells xs m q

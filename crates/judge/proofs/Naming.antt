@@ -22,9 +22,9 @@ use Rattle.model.specs.Answers.{reply}
 use Rattle.table.specs.declared.Numbers.{Numbers}
 use Rattle.table.specs.Layout.{capacity}
 use Rattle.table.specs.Places.{rowFrom}
+use Rattle.settings.specs.declared.State.{State}
 use Rattle.search.proofs.Named.{change-named, remove-named}
 use Rattle.answers.specs.declared.Answer.the-variants.{Done, Removed, RemovedMarker, Got}
-use Rattle.locks.specs.declared.State.{State}
 use Rattle.judge.specs.declared.Verdict.the-variants.{Refused, Accepted}
 use Rattle.judge.specs.declared.Change.the-variants.{Keep, Rewrite, Remove}
 use Rattle.judge.specs.declared.Named.{Named}
@@ -40,11 +40,11 @@ use Rattle.judge.proofs.Deciding.{Open, refuse-7, refuse-8, refuse-9, s
 
 module _ (s : State) (numbers keys line : List ℕ) (now : ℕ) (v : Verb) (m : Name) (r : Named) (k : ℕ) (there : r ≡ named.Refused k)
     (is-name : nameOf v ≡ some m) (ready : Ready s numbers keys) (rules : List Rule) (fates : List ℕ) where
-  pub no-row : r ≡ rowNamed (rowsIn s numbers keys) m → JudgesBy s numbers keys line now rules fates v (Refused k)
-  no-row e =
+  pub row-refused : r ≡ rowNamed (rowsIn s numbers keys) m → JudgesBy s numbers keys line now rules fates v (Refused k)
+  row-refused e =
       let l = lacks (rowsIn s numbers keys) m (ready .in-order) k (sym e ∙ there) in
       rw (l .seven)
-      (refuse-7 _ (capacity keys) (bucketBy s rules (rowsIn s numbers keys)) (both now) v (absent (rowsIn s numbers keys) v m is-name (l .no-row)))
+      (refuse-7 _ (capacity keys) (bucketBy s rules (rowsIn s numbers keys)) (both now) v (absent (rowsIn s numbers keys) v m is-name (l .is-absent)))
 
   is-marker : removesVersion v ≡ false → (i : ℕ) (n : Numbers) → rowNamed (rowsIn s numbers keys) m ≡ named.Row i n → n .kind ≡ 2 → JudgesBy s numbers keys line now rules fates v (Refused 8)
   is-marker a i n e h =
@@ -53,14 +53,14 @@ module _ (s : State) (numbers keys line : List ℕ) (now : ℕ) (v : Verb) (m : 
       (present (rowsIn s numbers keys) v m is-name _ (at .is-named)) (marker-named (rowsIn s numbers keys) v m is-name _ (at .is-named) a h)
 
 -- What is named is no data.
-pub no-data : (s : State) (numbers keys line : List ℕ) (now : ℕ) (v : Verb) (m : Name) (r : Named) (k : ℕ) → r ≡ named.Refused k → nameOf v ≡ some m
+pub data-refused : (s : State) (numbers keys line : List ℕ) (now : ℕ) (v : Verb) (m : Name) (r : Named) (k : ℕ) → r ≡ named.Refused k → nameOf v ≡ some m
     → removesVersion v ≡ false → Ready s numbers keys → (rules : List Rule) (fates : List ℕ) → r ≡ dataNamed (rowsIn s numbers keys) m
     → JudgesBy s numbers keys line now rules fates v (Refused k)
 unfolding dataNamed
-no-data s numbers keys line now v m r k there is-name a ready rules fates e = go (rowNamed (rowsIn s numbers keys) m) refl (sym e ∙ there)
+data-refused s numbers keys line now v m r k there is-name a ready rules fates e = go (rowNamed (rowsIn s numbers keys) m) refl (sym e ∙ there)
   where
     go : (q : Named) → rowNamed (rowsIn s numbers keys) m ≡ q → butMarker q ≡ named.Refused k → JudgesBy s numbers keys line now rules fates v (Refused k)
-    go (named.Refused l) f g = no-row s numbers keys line now v m (rowNamed (rowsIn s numbers keys) m) k (f ∙ g) is-name ready rules fates refl
+    go (named.Refused l) f g = row-refused s numbers keys line now v m (rowNamed (rowsIn s numbers keys) m) k (f ∙ g) is-name ready rules fates refl
     go (named.Row i n) f g =
         elim (either (eqb (n .kind) 2)) [
           | inl h ↦
@@ -150,7 +150,7 @@ module _ (s : State) (numbers keys line : List ℕ) (now : ℕ) (m : Name) (i : 
       (data-open s numbers keys now rules (Ask (Get m)) m i n refl standing refl refl refl) refl refl refl (rw (at .is-named))
       (tt, shown-date s numbers keys m i n ready standing)
 
-pub ruleset data-ways = (refl, no-data, retain-barred, retain-done, hold-done, get-done)
+pub ruleset data-ways = (refl, data-refused, retain-barred, retain-done, hold-done, get-done)
 
 -- ## DELETE with a number
 
@@ -197,4 +197,4 @@ module _ (s : State) (numbers keys line : List ℕ) (now : ℕ) (k : List ℕ) (
         (sym (remove-named (rowsIn s numbers keys) (name k (some (numbered v))) i _ (ready .in-order) (version-at .is-named) (version-at .is-there)))
         refl (simp (version-at .is-named, ne-eqb (n .kind) 2 h)) (version-at .below, tt)
 
-pub ruleset delete-ways = (refl, no-row, delete-locked, delete-marker, delete-data)
+pub ruleset delete-ways = (refl, row-refused, delete-locked, delete-marker, delete-data)

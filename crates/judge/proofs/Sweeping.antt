@@ -24,6 +24,7 @@ use Rattle.model.specs.Answers.{reply}
 use Rattle.model.proofs.SoundRows.{row-parts}
 use Rattle.model.proofs.Room.{length-swept}
 use Rattle.settings.specs.declared.Rule.{Rule}
+use Rattle.settings.specs.declared.State.{State}
 use Rattle.settings.specs.Meaning.{rulesMean}
 use Rattle.table.specs.Layout.{rowAt, rowsOf, capacity}
 use Rattle.table.proofs.Held.{rows-length, held-numbers, held-keys, held-block, held-fit}
@@ -34,7 +35,6 @@ use Rattle.lifecycle.specs.Fates.{fatesIn}
 use Rattle.lifecycle.specs.Judging.{Judgeable, JudgedRows}
 use Rattle.lifecycle.proofs.Fates.{fates-after, after-long}
 use Rattle.answers.specs.declared.Answer.the-variants.{Done, Swept}
-use Rattle.locks.specs.declared.State.{State}
 use Rattle.judge.specs.declared.Verdict.the-variants.{Refused, Accepted}
 use Rattle.judge.specs.declared.Change.the-variants as change
 use Rattle.judge.specs.State.{bucketBy, rowsIn}

@@ -6,14 +6,14 @@ use mathlib.Core.List.{List}
 use lib.Dec.{eqb, ltb}
 use lib.ListN.{length}
 use Rattle.buffers.specs.Choices.{pick}
+use Rattle.calendar.specs.declared.Now.{Now}
 use Rattle.calendar.specs.Calendar.{latest}
 use Rattle.model.specs.Settings.{Rule, spentNumber, soundRules}
 use Rattle.model.specs.Requests.{Verb, inRange}
-use Rattle.model.specs.Time.{Now}
 use Rattle.settings.specs.declared.Rule as settings
+use Rattle.settings.specs.declared.State.{State}
 use Rattle.settings.specs.Meaning.{rulesMean, prefixesAre}
 use Rattle.table.specs.Layout.{capacity}
-use Rattle.locks.specs.declared.State.{State}
 use Rattle.judge.specs.declared.Verdict.{Verdict}
 use Rattle.outcome.specs.Decision.{tableDecision}
 use Rattle.judge.specs.State.{bucketBy, rowsIn, Ready}

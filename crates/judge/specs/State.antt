@@ -7,8 +7,8 @@ use Rattle.buffers.specs.Lists.{all}
 use Rattle.model.specs.Rows.{Row, ordered, soundRow}
 use Rattle.model.specs.Settings.{Rule, Bucket, spentNumber, soundDefault}
 use Rattle.table.specs.Layout.{rowsOf, capacity, Holds}
-use Rattle.locks.specs.declared.State.{State}
-use Rattle.locks.specs.State.{defaultBy, configBy}
+use Rattle.settings.specs.declared.State.{State}
+use Rattle.settings.specs.State.{defaultBy, configBy}
 
 -- the bucket of a state, with these rules and rows
 abbrev pub bucketBy : State → List Rule → List Row → Bucket

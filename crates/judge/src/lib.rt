@@ -3,33 +3,37 @@ mod lookup;
 
 use answers::Answer;
 use answers::Shown;
+use calendar::Now;
 use fields::Hold;
+use fields::Retention;
+use fields::Terms;
 use fields::Version;
 use locks::NewLock;
-use locks::State;
 use request::Action;
 use request::Name;
-use request::Retention;
-use request::Terms;
+use request::Query;
 use search::Found;
 use settings::Rule;
+use settings::State;
 use table::Numbers;
 use text::Place;
 ghost use mathlib.Core.Path.{_≡_};
+ghost use mathlib.Core.Bool.{Bool, true};
 ghost use mathlib.Core.List.{List};
 ghost use Prim.Native.Nat.{ℕ};
 ghost use Rattle.buffers.specs.Choices.{orZero};
 ghost use Rattle.buffers.specs.Ranges.{Within};
 ghost use Rattle.model.specs.Requests as model;
 ghost use Rattle.text.specs.Fields.{partOf};
+ghost use Rattle.text.specs.Keys.{isKey};
 ghost use Rattle.model.specs.Sweep.{marker};
 ghost use Rattle.model.specs.Effects.{newHold, holdNumber, setRetention, setHold};
 ghost use Rattle.settings.specs.Meaning.{rulesMean};
 ghost use Rattle.table.specs.Layout.{capacity};
 ghost use Rattle.table.specs.Places.{rowFrom};
 ghost use Rattle.search.specs.Places.{keyPlace};
-ghost use Rattle.fields.specs.Meaning.{modeMeans, untilMeans, holdMeans, Inside};
-ghost use Rattle.request.specs.Meaning.{nameMeans, retentionMeans, termsMeans, actionMeans, ActionInside};
+ghost use Rattle.fields.specs.Meaning.{modeMeans, untilMeans, holdMeans, Inside, retentionMeans, termsMeans};
+ghost use Rattle.request.specs.Meaning.{nameMeans, actionMeans, queryMeans, ActionInside, QueryInside};
 ghost use Rattle.lifecycle.specs.Fates.{fatesAfter};
 ghost use Rattle.judge.specs.State.{rowsIn, Ready};
 ghost use Rattle.judge.specs.Premises.{Asked, rowRefusal, Sweepable, JudgesBy, JudgesOn};
@@ -78,7 +82,7 @@ fn place_for(rows: &[u64], keys: &[u8], s: State, key: &[u8]) -> usize
 fn row_refusal(keys: &[u8], s: State) -> u64
     ensures { λ r. ⌜ r ≡ rowRefusal (capacity (now (keys .entry))) (s .used) (s .next) ⌝ }
 {
-    if s.next == settings::SPENT {
+    if s.next == model::SPENT {
         return 11;
     }
     if keys.len() / 64 <= s.used {
@@ -247,12 +251,20 @@ fn judge_hold(rows: &[u64], keys: &[u8], line: &[u8], s: State, name: Name, on: 
     }
 }
 
-// GET, at every instant alike.
-fn judge_get(rows: &[u64], keys: &[u8], line: &[u8], s: State, name: Name) -> Verdict
-    requires { ⌜ Ready s (now rows) (now keys) ⌝ }
-    requires { ⌜ Inside (now line) (name .key) ⌝ }
-    ensures { λ r. ⌜ ((instant : ℕ) → JudgesOn s (now (rows .entry)) (now (keys .entry)) (now (line .entry)) instant (model.Ask (model.Get (nameMeans (now (line .entry)) name))) r) ⌝ }
+// GET, at every instant alike: `when` stands for the contract, which is of the line's now.
+pub fn judge_query(
+    rows: &[u64],
+    keys: &[u8],
+    line: &[u8],
+    s: State,
+    query: Query,
+    when: Now,
+) -> Verdict
+    requires { ⌜ Asked s (now rows) (now keys) (when .judge) (model.Ask (queryMeans (now line) query)) ⌝ }
+    requires { ⌜ QueryInside (now line) query ⌝ }
+    ensures { λ r. ⌜ JudgesOn s (now (rows .entry)) (now (keys .entry)) (now (line .entry)) (when .judge) (model.Ask (queryMeans (now (line .entry)) query)) r ⌝ }
 {
+    let name = query.name;
     match lookup::data_named(rows, keys, line, s, name) {
         Named::Refused(refusal) => Verdict::Refused(refusal),
         Named::Row(_, n) => Verdict::Accepted(Plan {
@@ -269,19 +281,19 @@ fn judge_get(rows: &[u64], keys: &[u8], line: &[u8], s: State, name: Name) -> Ve
     }
 }
 
-// DELETE with `-`, which no lock bars: `bypass` stands for the contract, which is of the line's verb.
+// DELETE with `-`, which no lock bars, with or without bypass.
 fn judge_marker(
     rows: &[u64],
     keys: &[u8],
     line: &[u8],
     s: State,
     key: Place,
-    bypass: bool,
     instant: u64,
 ) -> Verdict
-    requires { ⌜ Asked s (now rows) (now keys) instant (model.AddMarker (partOf (now line) key) «bypass») ⌝ }
+    requires { ⌜ Ready s (now rows) (now keys) ⌝ }
+    requires { ⌜ isKey (partOf (now line) key) ≡ true ⌝ }
     requires { ⌜ Inside (now line) key ⌝ }
-    ensures { λ r. ⌜ JudgesOn s (now (rows .entry)) (now (keys .entry)) (now (line .entry)) instant (model.AddMarker (partOf (now (line .entry)) key) «bypass») r ⌝ }
+    ensures { λ r. ⌜ ((bypass : Bool) → JudgesOn s (now (rows .entry)) (now (keys .entry)) (now (line .entry)) instant (model.AddMarker (partOf (now (line .entry)) key) bypass) r) ⌝ }
 {
     let refusal = row_refusal(keys, s);
     if refusal != 0 {
@@ -353,7 +365,7 @@ pub fn judge_sweep(
     let n = lifecycle::judge_table(rows, keys, used, rules, instant, fates);
     let gone = n.removed;
     let new = n.added;
-    if settings::SPENT < s.next + new as u64 {
+    if model::SPENT < s.next + new as u64 {
         return Verdict::Refused(11);
     }
     if keys.len() / 64 < used - gone + new {
@@ -389,10 +401,9 @@ pub fn judge(
             judge_retain(rows, keys, line, s, name, retention, bypass, instant)
         }
         Action::SetHold(name, on) => judge_hold(rows, keys, line, s, name, on),
-        Action::AddMarker(key, bypass) => judge_marker(rows, keys, line, s, key, bypass, instant),
+        Action::AddMarker(key, _) => judge_marker(rows, keys, line, s, key, instant),
         Action::DeleteVersion(key, version, bypass) => {
             judge_delete(rows, keys, line, s, key, version, bypass, instant)
         }
-        Action::Get(name) => judge_get(rows, keys, line, s, name),
     }
 }

@@ -1,9 +1,9 @@
 // The row that a line names. The definitions are in specs/Named.antt.
 use crate::Named;
 use fields::Version;
-use locks::State;
 use request::Name;
 use search::Found;
+use settings::State;
 ghost use mathlib.Core.Path.{_≡_};
 ghost use Rattle.table.specs.Layout.{rowsOf};
 ghost use Rattle.search.specs.Searching.{Searchable};

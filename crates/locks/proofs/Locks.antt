@@ -11,13 +11,13 @@ use Rattle.calendar.specs.Periods.{periodEnd}
 use Rattle.model.specs.Settings.{Rule}
 use Rattle.model.specs.Time.{defaultEnd}
 use Rattle.model.specs.Locks.{noEarlier}
+use Rattle.settings.specs.declared.State.{State}
+use Rattle.settings.specs.State.{configBy}
 use Rattle.fields.specs.declared.Mode.{Mode}
 use Rattle.fields.specs.declared.Mode.the-variants.{Missing, Governance, Compliance}
 use Rattle.fields.specs.declared.Until.{Until}
 use Rattle.fields.specs.Meaning.{modeMeans, untilMeans}
-use Rattle.locks.specs.declared.State.{State}
 use Rattle.locks.specs.declared.NewLock.{NewLock}
-use Rattle.locks.specs.State.{configBy}
 use Rattle.locks.specs.Locks.{newLock, lockMeans}
 
 -- ## The lock of a new row

@@ -1,7 +1,8 @@
 // What is locked, what RETAIN's rule admits, and which lock a new row gets. The definitions are the model's; specs/ says how the code answers the last.
 use fields::Mode;
+use fields::Retention;
 use fields::Until;
-use request::Retention;
+use settings::State;
 use table::Numbers;
 ghost use mathlib.Core.Path.{_≡_};
 ghost use mathlib.Core.List.{List};
@@ -13,20 +14,9 @@ ghost use Rattle.model.specs.Requests.{isThe};
 ghost use Rattle.model.specs.Rows.{compliance};
 ghost use Rattle.model.specs.Locks.{locked, noEarlier, admits};
 ghost use Rattle.table.specs.Places.{rowFrom};
-ghost use Rattle.fields.specs.Meaning.{modeMeans, untilMeans};
-ghost use Rattle.request.specs.Meaning.{retentionMeans};
-ghost use Rattle.locks.specs.State.{configBy};
+ghost use Rattle.settings.specs.State.{configBy};
+ghost use Rattle.fields.specs.Meaning.{modeMeans, untilMeans, retentionMeans};
 ghost use Rattle.locks.specs.Locks.{newLock, lockMeans};
-
-// What of the settings a line is judged by. The contracts alone read `time`: no row was created after it.
-pub struct State {
-    pub time: u64,
-    pub used: usize,
-    pub next: u64,
-    pub mode: u64,
-    pub count: u64,
-    pub unit: u64,
-}
 
 // The mode and the date of a new row.
 pub enum NewLock {

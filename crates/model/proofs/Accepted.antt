@@ -7,10 +7,11 @@ use lib.Dec.{leb, ltb}
 use borrow.Author.Tests.{not-false}
 use Rattle.buffers.specs.Choices.{pick}
 use Rattle.buffers.proofs.Tests.{and-l, and-r}
+use Rattle.calendar.specs.declared.Now.{Now}
 use Rattle.calendar.specs.Calendar.{latest}
 use Rattle.model.specs.Settings.{Bucket, sound}
 use Rattle.model.specs.Requests.{Verb, Context, Request, reads, inRange}
-use Rattle.model.specs.Time.{Now, nowOf}
+use Rattle.model.specs.Time.{nowOf}
 use Rattle.model.specs.Refusals.{halfGiven, lacksRight, pastDate, missing, namesMarker, barred, tooLate, spends, full, refusal}
 
 -- What holds of an accepted line, a field for each condition.

@@ -10,10 +10,11 @@ use lib.Dec.{eqb, leb}
 use borrow.Author.Tests.{eqb-true, eqb-false, ne-eqb, leb-true, leb-false}
 use Rattle.buffers.specs.Choices.{pick, thenSome, isSome, orZero}
 use Rattle.buffers.proofs.Tests.{either}
+use Rattle.calendar.specs.declared.Now.{Now}
 use Rattle.model.specs.Rows.{Row, isMarker}
 use Rattle.model.specs.Settings.{Bucket, fresh}
 use Rattle.model.specs.Requests.{Version, Name, name, Terms, Get, Verb, Put, Copy, Retain, Hold, AddMarker, DeleteVersion, Set, Sweep, Ask, Context, Request}
-use Rattle.model.specs.Time.{Now, nowOf}
+use Rattle.model.specs.Time.{nowOf}
 use Rattle.model.specs.Effects.{rowOf, setRetention, setHold, holdNumber, newRow, added, rowsAfter, after}
 use Rattle.model.specs.Refusals.{missing, namesMarker}
 use Rattle.model.specs.Answers.{done, removed, removedMarker, shown, reply, answerTo, givesNumber}

@@ -10,6 +10,7 @@ use lib.Dec.{eqb}
 use borrow.Author.Tests.{eq-eqb, ne-eqb, not-false}
 use Rattle.buffers.specs.Choices.{thenSome, orZero}
 use Rattle.buffers.proofs.Tests.{either, and-l, and-r}
+use Rattle.calendar.specs.declared.Now.{Now}
 use Rattle.model.specs.Rows.{Row}
 use Rattle.model.specs.Settings.{Bucket}
 use Rattle.model.specs.Requests.{
@@ -34,7 +35,6 @@ use Rattle.model.specs.Requests.{
   isModeField,
   inRange,
 }
-use Rattle.model.specs.Time.{Now}
 use Rattle.model.specs.Locks.{locked, admits}
 use Rattle.model.specs.Effects.{rowOf, isNamed, setRetention, setHold, holdNumber, rowsAfter}
 use Rattle.model.specs.Refusals.{barred}

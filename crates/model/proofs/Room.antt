@@ -10,10 +10,10 @@ use lib.ListN.{length, length-append}
 use Rattle.buffers.specs.Lists.{all, keep, first, change}
 use Rattle.buffers.proofs.Tests.{either, and-l, and-r}
 use Rattle.buffers.proofs.Lists.{all-first, all-as}
+use Rattle.calendar.specs.declared.Now.{Now}
 use Rattle.model.specs.Rows.{Row, before, ahead, ordered}
 use Rattle.model.specs.Settings.{Rule, Bucket}
 use Rattle.model.specs.Requests.{name, Verb, Put, Copy, Retain, Hold, AddMarker, DeleteVersion, Set, Sweep, Ask}
-use Rattle.model.specs.Time.{Now}
 use Rattle.model.specs.Sweep.{Fate, stays, goes, gains, fate, inPlace, marks, removes, swept, counted}
 use Rattle.model.specs.Effects.{rowOf, sameVersion, isNamed, insertByKey, added, removed, rowsAfter}
 use Rattle.model.specs.Refusals.{missing}

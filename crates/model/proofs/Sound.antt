@@ -14,11 +14,12 @@ use Rattle.buffers.specs.Lists.{all}
 use Rattle.buffers.proofs.Tests.{either, and-i, and-l, and-r, or-r}
 use Rattle.buffers.proofs.Lists.{all-as, all-keep, all-first, all-set}
 use Rattle.text.specs.Keys.{isKey, isPrefix}
+use Rattle.calendar.specs.declared.Now.{Now}
 use Rattle.calendar.specs.Calendar.{latest}
 use Rattle.model.specs.Rows.{Row, isMode, ordered, soundData, soundRow, bodies, largestSize}
 use Rattle.model.specs.Settings.{Rule, Config, Bucket, fresh, absentRule, spentNumber, isDays, isSet, soundDefault, soundRule, soundRules, soundConfig, fits, sound}
 use Rattle.model.specs.Requests.{Name, Retention, Terms, Period, Setting, DefaultRetention, LifecycleRule, Verb, Put, Copy, Retain, Hold, AddMarker, DeleteVersion, Set, Sweep, Ask, Context, Request, Line, unreadable, reads, isModeField, isPeriodField, isName, isRetention, isSetting, inRange}
-use Rattle.model.specs.Time.{Now, nowOf}
+use Rattle.model.specs.Time.{nowOf}
 use Rattle.model.specs.Sweep.{marks, counted}
 use Rattle.model.specs.Effects.{rowOf, isNamed, setRetention, setHold, holdNumber, added, rowsAfter, defaultFrom, setConfig, configAfter, after}
 use Rattle.model.specs.Refusals.{oneOf, settingHalf, halfGiven, pastDate, missing, namesMarker, tooLate, spends, full, refusal}

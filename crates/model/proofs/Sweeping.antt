@@ -12,9 +12,9 @@ use Rattle.buffers.specs.Choices.{pick}
 use Rattle.buffers.specs.Lists.{all, same}
 use Rattle.buffers.proofs.Tests.{either, clash, and-i, and-l, and-r, or-l, or-r, or-one}
 use Rattle.buffers.proofs.Lists.{same-path, same-refl, all-as, all-append}
+use Rattle.calendar.specs.declared.Now.{Now}
 use Rattle.model.specs.Rows.{Row, before, ahead, ordered}
 use Rattle.model.specs.Settings.{Rule}
-use Rattle.model.specs.Time.{Now}
 use Rattle.model.specs.Locks.{locked}
 use Rattle.model.specs.Sweep.{marker, applying, due, Fate, stays, goes, gains, fate, inPlace, marks, swept, counted}
 use Rattle.model.proofs.Order.{before-trans, ahead-trans}

@@ -12,10 +12,10 @@ use Rattle.buffers.specs.Choices.{pick}
 use Rattle.buffers.specs.Lists.{keep, first, change, same}
 use Rattle.buffers.proofs.Tests.{either, and-i, and-r}
 use Rattle.buffers.proofs.Lists.{keep-yes, keep-no, keep-append, keep-head, keep-keep, keep-change, same-refl}
+use Rattle.calendar.specs.declared.Now.{Now}
 use Rattle.model.specs.Rows.{Row, isData, before}
 use Rattle.model.specs.Settings.{Rule}
 use Rattle.model.specs.Requests.{Name}
-use Rattle.model.specs.Time.{Now}
 use Rattle.model.specs.Locks.{locked}
 use Rattle.model.specs.Sweep.{marker, applying, due, Fate, stays, goes, gains, fate, inPlace, marks, swept, counted}
 use Rattle.model.specs.Effects.{rowOf, sameVersion, isNamed, insertByKey}

@@ -4,10 +4,11 @@ use mathlib.Core.Bool.{Bool, false}
 use mathlib.Core.Option.{some}
 use lib.Dec.{eqb}
 use Rattle.buffers.specs.Choices.{pick, thenSome}
+use Rattle.calendar.specs.declared.Now.{Now}
 use Rattle.model.specs.Rows.{Row, isMarker}
 use Rattle.model.specs.Settings.{Bucket}
 use Rattle.model.specs.Requests.{Version, numbered, name, Get, Verb, Put, Copy, Retain, Hold, AddMarker, DeleteVersion, Set, Sweep, Ask, Request}
-use Rattle.model.specs.Time.{Now, nowOf}
+use Rattle.model.specs.Time.{nowOf}
 use Rattle.model.specs.Effects.{rowOf, added}
 use Rattle.model.specs.Effects.{removed as rowsRemoved}
 

@@ -7,10 +7,11 @@ use lib.Dec.{eqb}
 use lib.ListN.{set}
 use Rattle.buffers.specs.Choices.{pick, thenSome, orZero}
 use Rattle.buffers.specs.Lists.{keep, first, change, same}
+use Rattle.calendar.specs.declared.Now.{Now}
 use Rattle.model.specs.Rows.{Row, before}
 use Rattle.model.specs.Settings.{Rule, Default, Config, Settings, Bucket, absentRule, isSet}
 use Rattle.model.specs.Requests.{Version, numbered, Name, Terms, Period, Setting, DefaultRetention, LifecycleRule, name, Verb, Put, Copy, Retain, Hold, AddMarker, DeleteVersion, Set, Sweep, Ask, Request, settingOf}
-use Rattle.model.specs.Time.{Now, nowOf, newMode, newUntil}
+use Rattle.model.specs.Time.{nowOf, newMode, newUntil}
 use Rattle.model.specs.Sweep.{marker, marks, removes, swept, counted}
 
 -- ## The row that a line names

@@ -6,10 +6,10 @@ use mathlib.Core.Option.{Option, some, none}
 use lib.Dec.{eqb, leb}
 use Rattle.buffers.specs.Choices.{pick}
 use Rattle.buffers.specs.Lists.{keep, any, same, begins}
+use Rattle.calendar.specs.declared.Now.{Now}
 use Rattle.calendar.specs.Periods.{expiresAt}
 use Rattle.model.specs.Rows.{Row, isData}
 use Rattle.model.specs.Settings.{Rule, isSet}
-use Rattle.model.specs.Time.{Now}
 use Rattle.model.specs.Locks.{locked}
 
 -- A delete marker.

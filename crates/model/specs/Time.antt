@@ -1,18 +1,18 @@
 -- 01, "Time and dates" and PUT: the now of a line, and the retention that a new row gets.
 use Prim.Native.Nat.{ℕ, max}
 use Rattle.buffers.specs.Choices.{pick, thenSome, orZero}
+use Rattle.calendar.specs.declared.Now.{Now}
 use Rattle.calendar.specs.Periods.{periodEnd}
 use Rattle.model.specs.Settings.{Bucket, Config, hasDefault}
 use Rattle.model.specs.Requests.{Context, Retention}
 
--- The now of a line: locks and expiry are judged by the one, creation and dates are taken from the other. They are the same.
-pub record Now : Type 0 where
-  pub judge : ℕ
-  pub stamp : ℕ
+-- The larger of the bucket's time and the line's reading, to judge by and to stamp with.
+abbrev pub nowAt : ℕ → ℕ → Now
+nowAt time clock = record { judge = max time clock; stamp = max time clock }
 
--- The larger of the bucket's time and the line's reading.
+-- The now of a line.
 abbrev pub nowOf : Bucket → Context → Now
-nowOf b g = record { judge = max (b .settings .time) (g .clock); stamp = max (b .settings .time) (g .clock) }
+nowOf b g = nowAt (b .settings .time) (g .clock)
 
 -- The date from the default: now plus its period.
 unfoldable pub defaultEnd : Config → ℕ → ℕ

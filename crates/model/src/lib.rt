@@ -1,1 +1,57 @@
-// The locked bucket as definitions and theorems, in specs/ and proofs/. This crate has no code.
+// The locked bucket as definitions and theorems, in specs/ and proofs/; the code's names for its numbers.
+
+// The twelve refusals.
+pub const UNSOUND: u64 = 1;
+
+pub const SHORT_ANSWER: u64 = 2;
+
+pub const UNREADABLE: u64 = 3;
+
+pub const HALF_GIVEN: u64 = 4;
+
+pub const NO_RIGHT: u64 = 5;
+
+pub const PAST_DATE: u64 = 6;
+
+pub const NO_ROW: u64 = 7;
+
+pub const IS_MARKER: u64 = 8;
+
+pub const LOCKED: u64 = 9;
+
+pub const DATE_TOO_LATE: u64 = 10;
+
+pub const NUMBERS_SPENT: u64 = 11;
+
+pub const TABLE_FULL: u64 = 12;
+
+// The kinds of a row.
+pub const DATA: u64 = 1;
+
+pub const MARKER: u64 = 2;
+
+// The modes of a retention.
+pub const GOVERNANCE: u64 = 1;
+
+pub const COMPLIANCE: u64 = 2;
+
+// The largest length of a body, in bytes.
+pub const LARGEST_SIZE: u64 = 5497558138880;
+
+// The largest version number, and the next version number that means spent.
+pub const LARGEST_NUMBER: u64 = 4294967295;
+
+pub const SPENT: u64 = 4294967296;
+
+// The longest period, in days and in years; a rule's days have the same limit.
+pub const MOST_DAYS: u64 = 36500;
+
+pub const MOST_YEARS: u64 = 100;
+
+// The largest capacity of a table.
+pub const MOST_ROWS: usize = 1024;
+
+// The least length of an answer buffer, and the longest answer of one line.
+pub const LEAST_ROOM: usize = 256;
+
+pub const LONGEST_ANSWER: usize = 256;

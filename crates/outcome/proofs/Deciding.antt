@@ -1,10 +1,11 @@
 -- The outcome of a line along its conditions: the first that holds refuses, else what is decided is done.
 use Prim.Native.Nat.{ℕ, _≤_, _<_}
-use mathlib.Core.Path.{_≡_, refl, sym}
+use mathlib.Core.Path.{_≡_, refl, sym, _∙_}
 use mathlib.Core.Logic.{inl, inr}
 use mathlib.Core.Bool.{Bool, true, false, not, _&&_}
 use mathlib.Core.List.{List, [], _∷_, _++_}
 use mathlib.Core.Option.{Option, some, none}
+use native.Mathlib.Omega.{arith}
 use lib.Dec.{eqb, leb}
 use lib.ListN.{length}
 use borrow.Author.Tests.{eq-eqb, not-true, lt-ltb, le-ltb}
@@ -19,7 +20,7 @@ use Rattle.settings.specs.declared.Settings.{Settings}
 use Rattle.table.specs.Layout.{capacity}
 use Rattle.bucket.specs.Whole.{bucketOf, whole}
 use Rattle.request.specs.Grammar.{Said, readLine, asked}
-use Rattle.outcome.specs.Decision.{Effect, refuses, decide, effect, decision}
+use Rattle.outcome.specs.Decision.{Effect, refuses, does, decide, effect, decision}
 use Rattle.outcome.specs.Outcome.{refused, refusalOf, outcome}
 use Rattle.outcome.specs.Steps.{carried, done}
 
@@ -43,6 +44,15 @@ decide-go (x ∷ xs) ys e h z =
     elim (either (x .holds)) [
       | inl t ↦ absurd (clash (eqb (x .number) 0) (eq-eqb (x .number) 0 (rw t at z)) (not-true (eqb (x .number) 0) (and-l (not (eqb (x .number) 0)) _ h)))
       | inr t ↦ simp t (decide-go xs ys e (and-r (not (eqb (x .number) 0)) _ h) (rw t at z))
+    ]
+
+-- Where something is done, none holds.
+pub decide-done : (xs : List Check) (e f : Effect) → does f ≡ decide xs e → f ≡ e
+decide-done [] e f h = cc
+decide-done (x ∷ xs) e f h =
+    elim (either (x .holds)) [
+      | inl t ↦ let g : does f ≡ refuses (x .number) = h ∙ simp t in let z : _≡_ {A = ℕ} 0 1 = cc in absurd (omega arith)
+      | inr t ↦ decide-done xs e f (h ∙ simp t)
     ]
 
 -- ## The outcome

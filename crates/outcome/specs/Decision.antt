@@ -2,10 +2,11 @@
 use Prim.Native.Nat.{ℕ}
 use mathlib.Core.List.{List, [], _∷_}
 use Rattle.buffers.specs.Choices.{pick}
+use Rattle.calendar.specs.declared.Now.{Now}
 use Rattle.model.specs.Rows.{Row}
 use Rattle.model.specs.Settings.{Bucket}
 use Rattle.model.specs.Requests.{Verb, Request}
-use Rattle.model.specs.Time.{Now, nowOf}
+use Rattle.model.specs.Time.{nowOf}
 use Rattle.model.specs.Effects.{added, rowsAfter}
 use Rattle.model.specs.Refusals.{Check, tableChecks, verbChecks}
 use Rattle.model.specs.Answers.{reply}

@@ -5,7 +5,7 @@ use mathlib.Core.List.{List}
 use mathlib.Core.Option.{none}
 use Rattle.model.specs.Requests.{settingOf}
 use Rattle.request.specs.declared.Action.{Action}
-use Rattle.request.specs.declared.Action.the-variants.{Put, Copy, Retain, SetHold, AddMarker, DeleteVersion, Get}
+use Rattle.request.specs.declared.Action.the-variants.{Put, Copy, Retain, SetHold, AddMarker, DeleteVersion}
 use Rattle.request.specs.Meaning.{actionMeans}
 
 pub action-unset : (line : List ℕ) (a : Action) → settingOf (actionMeans line a) ≡ none
@@ -15,4 +15,3 @@ action-unset line (Retain n r y) = refl
 action-unset line (SetHold n on) = refl
 action-unset line (AddMarker k y) = refl
 action-unset line (DeleteVersion k n y) = refl
-action-unset line (Get n) = refl

@@ -26,15 +26,15 @@ use Rattle.fields.specs.declared.Version.the-variants.{Current, Numbered}
 use Rattle.fields.specs.declared.Mode.{Mode}
 use Rattle.fields.specs.declared.Until.{Until}
 use Rattle.fields.specs.declared.Period.{Period}
+use Rattle.fields.specs.declared.Retention.{Retention}
+use Rattle.fields.specs.declared.Terms.{Terms}
 use Rattle.fields.specs.Fields.{readKey, readPrefix, readVersion, readMode, readUntil, readPeriod}
-use Rattle.fields.specs.Meaning.{modeMeans, untilMeans, versionMeans, periodMeans, Inside}
+use Rattle.fields.specs.Meaning.{modeMeans, untilMeans, versionMeans, periodMeans, Inside, retentionMeans}
 use Rattle.request.specs.declared.Name.{Name}
-use Rattle.request.specs.declared.Retention.{Retention}
-use Rattle.request.specs.declared.Terms.{Terms}
 use Rattle.request.specs.declared.Verb.{Verb}
 use Rattle.request.specs.declared.Verb.the-variants.{Act}
 use Rattle.request.specs.declared.Request.{Request}
-use Rattle.request.specs.Meaning.{nameMeans, retentionMeans, verbMeans, VerbInside}
+use Rattle.request.specs.Meaning.{nameMeans, verbMeans, VerbInside}
 use Rattle.request.specs.Grammar.{nameAt, retentionAt, termsAt, putOf, copyOf, retainOf, setHoldOf, deletes, deleteOf, defaultOf, ruleOf, sweepOf, getOf, otherByWord, verbByWord, requestIn, Said, readLine}
 
 -- this holds of whatever is read

@@ -21,7 +21,7 @@ use Rattle.fields.specs.declared.Version.the-variants.{Current}
 use Rattle.fields.specs.declared.Mode.the-variants as mode
 use Rattle.fields.specs.declared.Until.the-variants as until
 use Rattle.fields.specs.declared.Hold.the-variants as hold
-use Rattle.request.specs.declared.Terms.{Terms}
+use Rattle.fields.specs.declared.Terms.{Terms}
 use Rattle.request.specs.declared.Action.the-variants.{Copy}
 use Rattle.request.specs.declared.Verb.the-variants.{Act}
 use Rattle.request.specs.Grammar.{nameAt, retentionAt, termsAt, putOf, copyOf, deleteOf, defaultOf, getOf, otherByWord, verbByWord, requestIn, Said, readLine}

@@ -16,16 +16,16 @@ use Rattle.model.specs.Rows.{largestSize}
 use Rattle.model.specs.Requests as model
 use Rattle.fields.specs.declared.Version.{Version}
 use Rattle.fields.specs.declared.Version.the-variants.{Current, Numbered}
+use Rattle.fields.specs.declared.Retention.{Retention}
+use Rattle.fields.specs.declared.Terms.{Terms}
 use Rattle.fields.specs.Meaning.{rightsMeans}
 use Rattle.fields.specs.Fields.{readRights, readKey, readPrefix, readVersion, readMode, readUntil, readSwitch, readHold, readBypass, readPeriod}
 use Rattle.request.specs.declared.Name.{Name}
-use Rattle.request.specs.declared.Retention.{Retention}
-use Rattle.request.specs.declared.Terms.{Terms}
 use Rattle.request.specs.declared.Action.{Action}
-use Rattle.request.specs.declared.Action.the-variants.{Put, Copy, Retain, SetHold, AddMarker, DeleteVersion, Get}
+use Rattle.request.specs.declared.Action.the-variants.{Put, Copy, Retain, SetHold, AddMarker, DeleteVersion}
 use Rattle.request.specs.declared.Setting.the-variants.{Default, Rule}
 use Rattle.request.specs.declared.Verb.{Verb}
-use Rattle.request.specs.declared.Verb.the-variants.{Act, Set, Sweep}
+use Rattle.request.specs.declared.Verb.the-variants.{Act, Set, Sweep, Ask}
 use Rattle.request.specs.declared.Request.{Request}
 use Rattle.request.specs.Meaning.{verbMeans}
 
@@ -126,7 +126,7 @@ sweepOf s = pick (eqb (tabsIn s) 2) (some Sweep) none
 
 -- GET key, version
 unfoldable pub getOf : List ℕ → Option Verb
-getOf s = pick (eqb (tabsIn s) 4) (thenSome (nameAt s 3 4) none (λ n. some (Act (Get n)))) none
+getOf s = pick (eqb (tabsIn s) 4) (thenSome (nameAt s 3 4) none (λ n. some (Ask (record { name = n })))) none
 
 -- DEFAULT, RULE, SWEEP and GET by their word
 unfoldable pub otherByWord : List ℕ → List ℕ → Option Verb

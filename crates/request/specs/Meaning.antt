@@ -5,14 +5,12 @@ use mathlib.Core.Option.{Option, some, none}
 use Rattle.text.specs.Fields.{partOf}
 use Rattle.model.specs.Requests as model
 use Rattle.request.specs.declared.Name.{Name}
-use Rattle.request.specs.declared.Retention.{Retention}
-use Rattle.request.specs.declared.Terms.{Terms}
 use Rattle.request.specs.declared.Action.{Action}
-use Rattle.request.specs.declared.Action.the-variants.{Put, Copy, Retain, SetHold, AddMarker, DeleteVersion, Get}
+use Rattle.request.specs.declared.Action.the-variants.{Put, Copy, Retain, SetHold, AddMarker, DeleteVersion}
 use Rattle.request.specs.declared.Setting.{Setting}
 use Rattle.request.specs.declared.Setting.the-variants.{Default, Rule}
 use Rattle.request.specs.declared.Verb.{Verb}
-use Rattle.request.specs.declared.Verb.the-variants.{Act, Set, Sweep}
+use Rattle.request.specs.declared.Verb.the-variants.{Act, Set, Sweep, Ask}
 use Rattle.request.specs.declared.NameRead.{NameRead}
 use Rattle.request.specs.declared.NameRead.the-variants as name-read
 use Rattle.request.specs.declared.RetentionRead.{RetentionRead}
@@ -24,21 +22,16 @@ use Rattle.request.specs.declared.VerbRead.the-variants as verb-read
 use Rattle.request.specs.declared.Request.{Request}
 use Rattle.request.specs.declared.LineRead.{LineRead}
 use Rattle.request.specs.declared.LineRead.the-variants as line-read
-use Rattle.fields.specs.Meaning.{modeMeans, untilMeans, holdMeans, versionMeans, periodMeans, Inside}
+use Rattle.request.specs.declared.Query.{Query}
+use Rattle.fields.specs.declared.Retention.{Retention}
+use Rattle.fields.specs.declared.Terms.{Terms}
+use Rattle.fields.specs.Meaning.{modeMeans, retentionMeans, termsMeans, versionMeans, periodMeans, Inside}
 
 -- ## Values
 
 -- a key with its version
 abbrev pub nameMeans : List ℕ → Name → model.Name
 nameMeans s n = model.name (partOf s (n .key)) (versionMeans (n .version))
-
--- mode and date
-abbrev pub retentionMeans : Retention → model.Retention
-retentionMeans r = record { mode = modeMeans (r .mode); date = untilMeans (r .until) }
-
--- the lock fields of a PUT or COPY
-abbrev pub termsMeans : Terms → model.Terms
-termsMeans t = record { retention = retentionMeans (t .retention); hold = holdMeans (t .hold) }
 
 -- a verb on the rows of a key
 abbrev pub actionMeans : List ℕ → Action → model.Verb
@@ -48,18 +41,22 @@ actionMeans s (Retain n r y) = model.Retain (nameMeans s n) (retentionMeans r) y
 actionMeans s (SetHold n on) = model.Hold (nameMeans s n) on
 actionMeans s (AddMarker k y) = model.AddMarker (partOf s k) y
 actionMeans s (DeleteVersion k n y) = model.DeleteVersion (partOf s k) (model.numbered n) y
-actionMeans s (Get n) = model.Ask (model.Get (nameMeans s n))
 
 -- DEFAULT or RULE
 abbrev pub settingMeans : List ℕ → Setting → model.Setting
 settingMeans s (Default m p) = model.DefaultRetention (modeMeans m) (periodMeans p)
 settingMeans s (Rule i p current noncurrent) = model.LifecycleRule i (record { prefix = partOf s p; currentDays = current; noncurrentDays = noncurrent })
 
+-- GET
+abbrev pub queryMeans : List ℕ → Query → model.Query
+queryMeans s q = model.Get (nameMeans s (q .name))
+
 -- a verb with its fields
 abbrev pub verbMeans : List ℕ → Verb → model.Verb
 verbMeans s (Act a) = actionMeans s a
 verbMeans s (Set a) = model.Set (settingMeans s a)
 verbMeans s Sweep = model.Sweep
+verbMeans s (Ask a) = model.Ask (queryMeans s a)
 
 -- ## Answers of readers: the value, if the fields have one
 
@@ -98,15 +95,19 @@ ActionInside s (Retain n r y) = Inside s (n .key)
 ActionInside s (SetHold n on) = Inside s (n .key)
 ActionInside s (AddMarker k y) = Inside s k
 ActionInside s (DeleteVersion k n y) = Inside s k
-ActionInside s (Get n) = Inside s (n .key)
 
 -- the prefix of a RULE does
 abbrev pub SettingInside : List ℕ → Setting → Type 0
 SettingInside s (Default m p) = Unit
 SettingInside s (Rule i p current noncurrent) = Inside s p
 
+-- the key that a query names does
+abbrev pub QueryInside : List ℕ → Query → Type 0
+QueryInside s q = Inside s (q .name .key)
+
 -- so does every key and prefix of the verb
 abbrev pub VerbInside : List ℕ → Verb → Type 0
 VerbInside s (Act a) = ActionInside s a
 VerbInside s (Set a) = SettingInside s a
 VerbInside s Sweep = Unit
+VerbInside s (Ask a) = QueryInside s a

@@ -2,12 +2,12 @@
 mod verbs;
 
 use dates::DateRead;
-use fields::Hold;
 use fields::Mode;
 use fields::Period;
+use fields::Retention;
 use fields::Rights;
 use fields::RightsRead;
-use fields::Until;
+use fields::Terms;
 use fields::Version;
 use text::Place;
 ghost use mathlib.Core.Path.{_≡_};
@@ -23,18 +23,7 @@ pub struct Name {
     pub version: Version,
 }
 
-pub struct Retention {
-    pub mode: Mode,
-    pub until: Until,
-}
-
-// The lock fields of a PUT or COPY.
-pub struct Terms {
-    pub retention: Retention,
-    pub hold: Hold,
-}
-
-// The verbs on the rows of a key.
+// The verbs that alter the rows of a key.
 pub enum Action {
     // key, body, length
     Put(Place, u64, u64, Terms),
@@ -48,7 +37,6 @@ pub enum Action {
     AddMarker(Place, bool),
     // key, version, bypass
     DeleteVersion(Place, u64, bool),
-    Get(Name),
 }
 
 // The verbs that set what the settings hold.
@@ -58,10 +46,16 @@ pub enum Setting {
     Rule(u64, Place, u64, u64),
 }
 
+// What asks: GET alone.
+pub struct Query {
+    pub name: Name,
+}
+
 pub enum Verb {
     Act(Action),
     Set(Setting),
     Sweep,
+    Ask(Query),
 }
 
 pub struct Request {

@@ -2,10 +2,9 @@
 use crate::Action;
 use crate::Name;
 use crate::NameRead;
-use crate::Retention;
+use crate::Query;
 use crate::RetentionRead;
 use crate::Setting;
-use crate::Terms;
 use crate::TermsRead;
 use crate::Verb;
 use crate::VerbRead;
@@ -14,6 +13,8 @@ use fields::HoldRead;
 use fields::KeyRead;
 use fields::ModeRead;
 use fields::PeriodRead;
+use fields::Retention;
+use fields::Terms;
 use fields::UntilRead;
 use fields::Version;
 use fields::VersionRead;
@@ -24,6 +25,12 @@ ghost use Rattle.text.specs.Fields.{fieldOf, Split};
 ghost use Rattle.text.specs.Numbers.{valueOf, numberOf};
 ghost use Rattle.request.specs.Grammar.{nameAt, retentionAt, termsAt, putOf, copyOf, retainOf, setHoldOf, deleteOf, defaultOf, ruleOf, sweepOf, getOf, otherByWord, verbByWord};
 ghost use Rattle.request.specs.Meaning.{nameFrom, retentionFrom, termsFrom, verbFrom};
+
+// The largest body number.
+const LARGEST_BODY: u64 = 18446744073709551615;
+
+// The number of the last rule.
+const LAST_RULE: u64 = 7;
 
 // Key and version.
 fn read_name(line: &[u8], marks: &[usize], i: usize, j: usize) -> NameRead
@@ -89,10 +96,10 @@ fn read_put(line: &[u8], marks: &[usize]) -> VerbRead
     let KeyRead::Is(key) = fields::read_key(line, marks, 3) else {
         return VerbRead::Bad;
     };
-    let Value::Is(body) = read_number(line, marks, 4, 18446744073709551615) else {
+    let Value::Is(body) = read_number(line, marks, 4, LARGEST_BODY) else {
         return VerbRead::Bad;
     };
-    let Value::Is(size) = read_number(line, marks, 5, 5497558138880) else {
+    let Value::Is(size) = read_number(line, marks, 5, model::LARGEST_SIZE) else {
         return VerbRead::Bad;
     };
     let TermsRead::Is(terms) = read_terms(line, marks) else {
@@ -206,16 +213,16 @@ fn read_rule(line: &[u8], marks: &[usize]) -> VerbRead
     if text::tabs(line, marks) != 6 {
         return VerbRead::Bad;
     }
-    let Value::Is(number) = read_number(line, marks, 3, 7) else {
+    let Value::Is(number) = read_number(line, marks, 3, LAST_RULE) else {
         return VerbRead::Bad;
     };
     let KeyRead::Is(prefix) = fields::read_prefix(line, marks, 4) else {
         return VerbRead::Bad;
     };
-    let Value::Is(current) = read_number(line, marks, 5, 36500) else {
+    let Value::Is(current) = read_number(line, marks, 5, model::MOST_DAYS) else {
         return VerbRead::Bad;
     };
-    let Value::Is(noncurrent) = read_number(line, marks, 6, 36500) else {
+    let Value::Is(noncurrent) = read_number(line, marks, 6, model::MOST_DAYS) else {
         return VerbRead::Bad;
     };
     VerbRead::Is(Verb::Set(Setting::Rule(number, prefix, current, noncurrent)))
@@ -243,7 +250,7 @@ fn read_get(line: &[u8], marks: &[usize]) -> VerbRead
     let NameRead::Is(name) = read_name(line, marks, 3, 4) else {
         return VerbRead::Bad;
     };
-    VerbRead::Is(Verb::Act(Action::Get(name)))
+    VerbRead::Is(Verb::Ask(Query { name }))
 }
 
 // DEFAULT, RULE, SWEEP and GET by their word.

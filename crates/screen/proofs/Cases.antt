@@ -9,13 +9,14 @@ use Rattle.model.specs.Requests.{retentionOf}
 use Rattle.model.specs.Refusals.{oneOf, settingHalf, retentionHalf, halfGiven, needs, granted, lacksRight, isPast, pastDate}
 use Rattle.fields.specs.declared.Until.{Until}
 use Rattle.fields.specs.declared.Rights.{Rights}
-use Rattle.request.specs.declared.Retention.{Retention}
+use Rattle.fields.specs.declared.Retention.{Retention}
 use Rattle.request.specs.declared.Action.{Action}
 use Rattle.request.specs.declared.Setting.{Setting}
 use Rattle.request.specs.declared.Verb.{Verb}
-use Rattle.request.specs.declared.Verb.the-variants.{Act, Set, Sweep}
-use Rattle.fields.specs.Meaning.{untilMeans, rightsMeans}
-use Rattle.request.specs.Meaning.{retentionMeans, actionMeans, settingMeans, verbMeans}
+use Rattle.request.specs.declared.Verb.the-variants.{Act, Set, Sweep, Ask}
+use Rattle.request.specs.declared.Query.{Query}
+use Rattle.fields.specs.Meaning.{untilMeans, rightsMeans, retentionMeans}
+use Rattle.request.specs.Meaning.{actionMeans, settingMeans, verbMeans}
 use Rattle.request.proofs.Actions.{action-unset}
 use Rattle.screen.specs.Screen.{screened}
 
@@ -53,7 +54,11 @@ module _ (line : List ℕ) (v : Verb) (r : Bool) where
   unfolding halfGiven
   half-sweep e h = rw e h
 
-pub ruleset halves = (refl, half-act, half-set, half-sweep)
+  pub half-ask : (q : Query) → v ≡ Ask q → r ≡ false → r ≡ halfGiven (verbMeans line v)
+  unfolding halfGiven
+  half-ask q e h = rw e h
+
+pub ruleset halves = (refl, half-act, half-set, half-sweep, half-ask)
 
 -- ## 5
 
@@ -69,7 +74,11 @@ module _ (s : Config) (line : List ℕ) (a : Rights) (v : Verb) where
   unfolding lacksRight needs granted
   sweep-allowed e = rw e (ap not (and-true (a .c)))
 
-pub ruleset allowances = (act-allowed, set-allowed, sweep-allowed)
+  pub ask-allowed : (q : Query) → v ≡ Ask q → lacksRight s (rightsMeans a) (verbMeans line v) ≡ not (a .r)
+  unfolding lacksRight needs granted
+  ask-allowed q e = rw e (ap not (and-true (a .r)))
+
+pub ruleset allowances = (act-allowed, set-allowed, sweep-allowed, ask-allowed)
 
 -- ## 6
 
@@ -86,7 +95,11 @@ module _ (line : List ℕ) (now : ℕ) (v : Verb) (r : Bool) where
   unfolding pastDate
   past-sweep e h = rw e h
 
-pub ruleset dates = (refl, past-act, past-set, past-sweep)
+  pub past-ask : (q : Query) → v ≡ Ask q → r ≡ false → r ≡ pastDate now (verbMeans line v)
+  unfolding pastDate
+  past-ask q e h = rw e h
+
+pub ruleset dates = (refl, past-act, past-set, past-sweep, past-ask)
 
 -- ## The refusal
 

@@ -1,6 +1,6 @@
 -- A line by the length of the answer buffer, by what it reads as, and by its own fields.
 use Prim.Native.Nat.{ℕ, _≤_, _<_, max}
-use mathlib.Core.Path.{_≡_, refl, sym}
+use mathlib.Core.Path.{_≡_, refl, sym, ap, _∙_}
 use mathlib.Core.Bool.{Bool, true, false}
 use mathlib.Core.List.{List}
 use mathlib.Core.Option.{Option, some, none}
@@ -8,8 +8,10 @@ use native.Mathlib.Omega.{arith}
 use lib.Dec.{eqb, ltb}
 use borrow.Author.Tests.{lt-ltb, le-ltb, eq-eqb, ne-eqb, ltb-true, ltb-false, eqb-true, eqb-false}
 use Rattle.buffers.specs.Choices.{pick, thenSome}
+use Rattle.calendar.specs.declared.Now.{Now}
 use Rattle.model.specs.Settings.{Config}
 use Rattle.model.specs.Requests as model
+use Rattle.model.specs.Time.{nowAt}
 use Rattle.fields.specs.Meaning.{rightsMeans}
 use Rattle.request.specs.declared.Verb.{Verb}
 use Rattle.request.specs.declared.Request.{Request}
@@ -24,6 +26,9 @@ use Rattle.screen.specs.Screen.{screened, requestRefusal, screenedAs, sc
 
 -- ## The ways through the code
 
+pub now-is : (time clock i : ℕ) → i ≡ max time clock → record { judge = i; stamp = i } ≡ nowAt time clock
+now-is time clock i e = rw e
+
 module _ (s : Config) (time : ℕ) (line : List ℕ) (room : ℕ) where
   pub line-2 : room < 256 → Refused 2 ≡ screenedLine s time line room
   unfolding screenedLine
@@ -34,14 +39,17 @@ module _ (s : Config) (time : ℕ) (line : List ℕ) (room : ℕ) where
     unfolding screenedLine
     line-3 e = simp (le-ltb _ _ l, sym (rw e at d))
 
-    module _ (q : Request) (e : o ≡ Reads q) (now : ℕ) (t : now ≡ max time (q .clock)) (k : ℕ) (h : (g : Config) (line′ : List ℕ) → k ≡ screened g (rightsMeans (q .rights)) now (verbMeans line′ (q .verb))) where
+    module _ (q : Request) (e : o ≡ Reads q) (when : Now) (t : when ≡ nowAt time (q .clock)) (k : ℕ) (h : (g : Config) (line′ : List ℕ) → k ≡ screened g (rightsMeans (q .rights)) (when .stamp) (verbMeans line′ (q .verb))) where
+      refusal-is : k ≡ requestRefusal s time line q
+      refusal-is = h s line ∙ ap (λ (w : Now). screened s (rightsMeans (q .rights)) (w .stamp) (verbMeans line (q .verb))) t
+
       pub line-stops : (k ≡ 0 → ⊥) → Refused k ≡ screenedLine s time line room
       unfolding screenedLine
-      line-stops z = simp (le-ltb _ _ l, sym (rw e at d), sym t, sym (h s line), ne-eqb k 0 z)
+      line-stops z = simp (le-ltb _ _ l, sym (rw e at d), sym refusal-is, ne-eqb k 0 z)
 
-      pub line-passes : k ≡ 0 → Passed (q .verb) now ≡ screenedLine s time line room
+      pub line-passes : k ≡ 0 → Passed (q .verb) when ≡ screenedLine s time line room
       unfolding screenedLine
-      line-passes z = simp (le-ltb _ _ l, sym (rw e at d), sym t, sym (h s line), eq-eqb k 0 z)
+      line-passes z = simp (le-ltb _ _ l, sym (rw e at d), sym t, sym refusal-is, eq-eqb k 0 z)
 
 pub ruleset lines = (line-2, line-3, line-stops, line-passes)
 
@@ -52,48 +60,48 @@ pub data Comes (s : Config) (time : ℕ) (line : List ℕ) (room : ℕ) : Screen
   short : room < 256 → Comes s time line room (Refused 2)
   unread : 256 ≤ room → readLine line ≡ none → Comes s time line room (Refused 3)
   barred : 256 ≤ room → (q : Request) → requestIn line ≡ some q → (requestRefusal s time line q ≡ 0 → ⊥) → Comes s time line room (Refused (requestRefusal s time line q))
-  passed : 256 ≤ room → (q : Request) → requestIn line ≡ some q → requestRefusal s time line q ≡ 0 → Comes s time line room (Passed (q .verb) (max time (q .clock)))
+  passed : 256 ≤ room → (q : Request) → requestIn line ≡ some q → requestRefusal s time line q ≡ 0 → Comes s time line room (Passed (q .verb) (nowAt time (q .clock)))
 
 pub comes : (s : Config) (time : ℕ) (line : List ℕ) (room : ℕ) → Comes s time line room (screenedLine s time line room)
 unfolding screenedLine readLine
 comes s time line room = go (ltb room 256) refl (requestIn line) refl
   where
     read : (q : Request) (z : Bool) → 256 ≤ room → requestIn line ≡ some q → eqb (requestRefusal s time line q) 0 ≡ z
-        → Comes s time line room (pick z (Passed (q .verb) (max time (q .clock))) (Refused (requestRefusal s time line q)))
+        → Comes s time line room (pick z (Passed (q .verb) (nowAt time (q .clock))) (Refused (requestRefusal s time line q)))
     read q true l r z = passed l q r (eqb-true _ 0 z)
     read q false l r z = barred l q r (eqb-false _ 0 z)
 
     go : (t : Bool) → ltb room 256 ≡ t → (o : Option Request) → requestIn line ≡ o
-        → Comes s time line room (pick t (Refused 2) (thenSome o (Refused 3) (λ q. screenedAs (requestRefusal s time line q) (q .verb) (max time (q .clock)))))
+        → Comes s time line room (pick t (Refused 2) (thenSome o (Refused 3) (λ q. screenedAs (requestRefusal s time line q) (q .verb) (nowAt time (q .clock)))))
     go true t o r = short (ltb-true room 256 t)
     go false t none r = unread (ltb-false room 256 t) (rw r)
     go false t (some q) r = read q (eqb (requestRefusal s time line q) 0) (ltb-false room 256 t) r refl
 
 -- The line says this verb, this is its now, and none of 2 to 6 holds.
-pub record Passes (s : Config) (time : ℕ) (line : List ℕ) (room : ℕ) (v : Verb) (now : ℕ) : Type 0 where
+pub record Passes (s : Config) (time : ℕ) (line : List ℕ) (room : ℕ) (v : Verb) (when : Now) : Type 0 where
   pub room-fits : 256 ≤ room
   pub clock : ℕ
   pub who : model.Rights
   pub says : readLine line ≡ some (record { clock = clock; who = who; verb = verbMeans line v })
   pub inside : VerbInside line v
-  pub now-is : now ≡ max time clock
-  pub passes : 0 ≡ screened s who now (verbMeans line v)
+  pub now-is : when ≡ nowAt time clock
+  pub passes : 0 ≡ screened s who (when .stamp) (verbMeans line v)
 
-module _ (s : Config) (time : ℕ) (line : List ℕ) (room : ℕ) (v : Verb) (now : ℕ) where
-  clash : (n : ℕ) → Passed v now ≡ Refused n → ⊥
+module _ (s : Config) (time : ℕ) (line : List ℕ) (room : ℕ) (v : Verb) (when : Now) where
+  clash : (n : ℕ) → Passed v when ≡ Refused n → ⊥
   clash n e = let z : _≡_ {A = ℕ} 0 1 = cc in omega arith
 
-  pub line-passed : Passed v now ≡ screenedLine s time line room → Passes s time line room v now
+  pub line-passed : Passed v when ≡ screenedLine s time line room → Passes s time line room v when
   unfolding readLine
   line-passed = go (screenedLine s time line room) (comes s time line room)
     where
-      go : (r : Screened) → Comes s time line room r → Passed v now ≡ r → Passes s time line room v now
+      go : (r : Screened) → Comes s time line room r → Passed v when ≡ r → Passes s time line room v when
       go r (short l) e = absurd (clash 2 e)
       go r (unread l f) e = absurd (clash 3 e)
       go r (barred l q f z) e = absurd (clash _ e)
       go r (passed l q f z) e =
           let ev : v ≡ q .verb = cc in
-          let en : now ≡ max time (q .clock) = cc in
+          let en : when ≡ nowAt time (q .clock) = cc in
           record {
             room-fits = l;
             clock = q .clock;

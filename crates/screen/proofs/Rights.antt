@@ -11,13 +11,13 @@ use Rattle.model.specs.Settings.{Config}
 use Rattle.model.specs.Requests.{Letter, deleting, retaining, holding, bypassing, has}
 use Rattle.model.specs.Refusals.{Need, needIf, need, putNeeds, needs, granted, lacksRight}
 use Rattle.fields.specs.declared.Rights.{Rights}
+use Rattle.fields.specs.declared.Retention.{Retention}
+use Rattle.fields.specs.declared.Terms.{Terms}
 use Rattle.request.specs.declared.Name.{Name}
-use Rattle.request.specs.declared.Retention.{Retention}
-use Rattle.request.specs.declared.Terms.{Terms}
 use Rattle.request.specs.declared.Action.{Action}
-use Rattle.request.specs.declared.Action.the-variants.{Put, Copy, Retain, SetHold, AddMarker, DeleteVersion, Get}
-use Rattle.fields.specs.Meaning.{modeMeans, holdMeans, rightsMeans}
-use Rattle.request.specs.Meaning.{termsMeans, actionMeans}
+use Rattle.request.specs.declared.Action.the-variants.{Put, Copy, Retain, SetHold, AddMarker, DeleteVersion}
+use Rattle.fields.specs.Meaning.{modeMeans, holdMeans, rightsMeans, termsMeans}
+use Rattle.request.specs.Meaning.{actionMeans}
 use Rattle.screen.specs.Screen.{mayPut}
 
 -- All of these needs are held.
@@ -69,8 +69,4 @@ module _ (s : Config) (line : List ℕ) (a : Rights) (x : Action) where
   unfolding lacksRight needs granted
   act-delete k u y b e h = rw (e, h) (ap not (bypass-held a deleting (partOf line k) y))
 
-  pub act-get : (n : Name) → x ≡ Get n → lacksRight s (rightsMeans a) (actionMeans line x) ≡ not (a .r)
-  unfolding lacksRight needs granted
-  act-get n e = rw e (ap not (and-true (a .r)))
-
-pub ruleset acts = (act-put, act-copy, act-retain, act-hold, act-marker, act-delete, act-get)
+pub ruleset acts = (act-put, act-copy, act-retain, act-hold, act-marker, act-delete)

@@ -1,16 +1,19 @@
 -- Refusals 2 to 6, by the definitions of the model.
-use Prim.Native.Nat.{ℕ, max}
+use Prim.Native.Nat.{ℕ}
 use mathlib.Core.Path.{_≡_}
 use mathlib.Core.Bool.{Bool, true, _&&_}
 use mathlib.Core.List.{List}
 use lib.Dec.{eqb, ltb}
 use Rattle.buffers.specs.Choices.{pick, thenSome, isSome}
+use Rattle.calendar.specs.declared.Now.{Now}
 use Rattle.model.specs.Settings.{Config}
 use Rattle.model.specs.Requests as model
 use Rattle.model.specs.Refusals.{firstOf, fieldChecks}
+use Rattle.model.specs.Time.{nowAt}
+use Rattle.settings.specs.declared.State.{State}
 use Rattle.fields.specs.declared.Rights.{Rights}
+use Rattle.fields.specs.declared.Terms.{Terms}
 use Rattle.fields.specs.Meaning.{modeMeans, holdMeans, rightsMeans}
-use Rattle.request.specs.declared.Terms.{Terms}
 use Rattle.request.specs.declared.Verb.{Verb}
 use Rattle.request.specs.declared.Request.{Request}
 use Rattle.request.specs.Grammar.{requestIn}
@@ -30,24 +33,24 @@ screened s who now v = firstOf (fieldChecks s who now v)
 
 -- the first of 4, 5 and 6 that holds of a request, or 0
 abbrev pub requestRefusal : Config → ℕ → List ℕ → Request → ℕ
-requestRefusal s time line q = screened s (rightsMeans (q .rights)) (max time (q .clock)) (verbMeans line (q .verb))
+requestRefusal s time line q = screened s (rightsMeans (q .rights)) (nowAt time (q .clock) .stamp) (verbMeans line (q .verb))
 
 -- a refusal, or where it is 0 the verb and its now
-abbrev pub screenedAs : ℕ → Verb → ℕ → Screened
-screenedAs n v now = pick (eqb n 0) (Passed v now) (Refused n)
+abbrev pub screenedAs : ℕ → Verb → Now → Screened
+screenedAs n v when = pick (eqb n 0) (Passed v when) (Refused n)
 
 -- what a line comes to by refusals 2 to 6
 unfoldable pub screenedLine : Config → ℕ → List ℕ → ℕ → Screened
 screenedLine s time line room =
     pick (ltb room 256) (Refused 2)
     (thenSome (requestIn line) (Refused 3) (λ q.
-    screenedAs (requestRefusal s time line q) (q .verb) (max time (q .clock))))
+    screenedAs (requestRefusal s time line q) (q .verb) (nowAt time (q .clock))))
 
 -- its number in 01: the first of 2 to 6 that holds, or 0
 abbrev pub lineRefusal : Screened → ℕ
 lineRefusal (Refused n) = n
-lineRefusal (Passed v now) = 0
+lineRefusal (Passed v when) = 0
 
--- the line comes to this, whatever the settings: no right depends on them
-pub record Screens (time : ℕ) (line : List ℕ) (room : ℕ) (r : Screened) : Type 0 where
-  pub is : (s : Config) → r ≡ screenedLine s time line room
+-- the line comes to this, whatever the config: no right depends on it
+pub record Screens (s : State) (line : List ℕ) (room : ℕ) (r : Screened) : Type 0 where
+  pub is : (config : Config) → r ≡ screenedLine config (s .time) line room

@@ -1,14 +1,16 @@
 // Refusals 2 to 6: those that are decided without the table. The definitions are in the model and in specs/.
+use calendar::Now;
 use fields::Mode;
+use fields::Retention;
 use fields::Rights;
+use fields::Terms;
 use fields::Until;
 use request::Action;
 use request::LineRead;
 use request::Request;
-use request::Retention;
 use request::Setting;
-use request::Terms;
 use request::Verb;
+use settings::State;
 ghost use mathlib.Core.Path.{_≡_};
 ghost use mathlib.Core.List.{List};
 ghost use Prim.Native.Nat.{ℕ, max};
@@ -17,14 +19,15 @@ ghost use Rattle.buffers.specs.Choices.{pick};
 ghost use Rattle.model.specs.Settings.{Config};
 ghost use Rattle.model.specs.Requests.{noRetention, retentionOf};
 ghost use Rattle.model.specs.Refusals.{oneOf, settingHalf, retentionHalf, halfGiven, lacksRight, isPast, pastDate};
-ghost use Rattle.fields.specs.Meaning.{untilMeans, rightsMeans};
-ghost use Rattle.request.specs.Meaning.{retentionMeans, actionMeans, settingMeans, verbMeans};
+ghost use Rattle.model.specs.Time.{nowAt};
+ghost use Rattle.fields.specs.Meaning.{untilMeans, rightsMeans, retentionMeans};
+ghost use Rattle.request.specs.Meaning.{actionMeans, settingMeans, verbMeans};
 ghost use Rattle.screen.specs.Screen.{mayPut, screened, Screens};
 
 // What a line comes to before the table is looked at: its refusal, or its verb and its now.
 pub enum Screened {
     Refused(u64),
-    Passed(Verb, u64),
+    Passed(Verb, Now),
 }
 
 // Exactly one of two fields is given.
@@ -74,7 +77,6 @@ fn retention_of(a: Action) -> Retention
         Action::SetHold(_, _) => no_retention(),
         Action::AddMarker(_, _) => no_retention(),
         Action::DeleteVersion(_, _, _) => no_retention(),
-        Action::Get(_) => no_retention(),
     }
 }
 
@@ -88,6 +90,7 @@ fn is_half_given(verb: Verb) -> bool
         }
         Verb::Set(s) => is_half_setting(s),
         Verb::Sweep => false,
+        Verb::Ask(_) => false,
     }
 }
 
@@ -121,7 +124,6 @@ fn may_act(a: Rights, action: Action) -> bool
         Action::SetHold(_, _) => a.h,
         Action::AddMarker(_, y) => a.d & holds_if(y, a.b),
         Action::DeleteVersion(_, _, y) => a.d & holds_if(y, a.b),
-        Action::Get(_) => a.r,
     }
 }
 
@@ -132,6 +134,7 @@ fn is_allowed(a: Rights, verb: Verb) -> bool
         Verb::Act(action) => may_act(a, action),
         Verb::Set(_) => a.c,
         Verb::Sweep => a.c,
+        Verb::Ask(_) => a.r,
     }
 }
 
@@ -155,6 +158,7 @@ fn is_past_date(verb: Verb, instant: u64) -> bool
         }
         Verb::Set(_) => false,
         Verb::Sweep => false,
+        Verb::Ask(_) => false,
     }
 }
 
@@ -165,15 +169,15 @@ fn screen(q: Request, instant: u64) -> u64
     let a = q.rights;
     let verb = q.verb;
     if is_half_given(verb) {
-        return 4;
+        return model::HALF_GIVEN;
     }
     if is_allowed(a, verb) {
         if is_past_date(verb, instant) {
-            return 6;
+            return model::PAST_DATE;
         }
         return 0;
     }
-    5
+    model::NO_RIGHT
 }
 
 fn larger(a: u64, b: u64) -> u64
@@ -185,21 +189,32 @@ fn larger(a: u64, b: u64) -> u64
     a
 }
 
-// Refusals 2 to 6 of a line, by the bucket's time and the length of the answer buffer.
-pub fn screen_line(time: u64, line: &[u8], room: usize) -> Screened
-    ensures { λ r. ⌜ Screens time (now (line .entry)) room r ⌝ }
+// The now of a line, by the bucket's time and the line's reading.
+fn now_at(time: u64, clock: u64) -> Now
+    ensures { λ r. ⌜ r ≡ nowAt time clock ⌝ }
 {
-    if room < 256 {
-        return Screened::Refused(2);
+    let instant = larger(time, clock);
+    Now {
+        judge: instant,
+        stamp: instant,
+    }
+}
+
+// Refusals 2 to 6 of a line, by the settings and the length of the answer buffer.
+pub fn screen_line(s: State, line: &[u8], room: usize) -> Screened
+    ensures { λ r. ⌜ Screens s (now (line .entry)) room r ⌝ }
+{
+    if room < model::LEAST_ROOM {
+        return Screened::Refused(model::SHORT_ANSWER);
     }
     let LineRead::Reads(q) = request::read_line(line) else {
-        return Screened::Refused(3);
+        return Screened::Refused(model::UNREADABLE);
     };
-    let instant = larger(time, q.clock);
-    let n = screen(q, instant);
+    let when = now_at(s.time, q.clock);
+    let n = screen(q, when.stamp);
     if n != 0 {
         return Screened::Refused(n);
     }
     let verb = q.verb;
-    Screened::Passed(verb, instant)
+    Screened::Passed(verb, when)
 }

@@ -11,9 +11,7 @@ ghost use Rattle.model.specs.Effects.{stored};
 ghost use Rattle.settings.specs.Meaning.{rulesMean, ruleFrom, freshSettings, prefixesAre, settingsSound};
 ghost use Rattle.settings.specs.Changes.{ruleSound, withDefault, withProgress, withRule};
 ghost use Rattle.settings.specs.Bytes.{ruleAt, settingsOf, rulesBytes, settingsBytes};
-
-// The next version number that means spent.
-pub const SPENT: u64 = 4294967296;
+ghost use Rattle.settings.specs.State.{stateOf};
 
 // A lifecycle rule; its prefix is 64 bytes like a key, with length 0 allowed.
 #[repr(C)]
@@ -32,6 +30,16 @@ pub struct Settings {
     pub count: u64,
     pub unit: u64,
     pub rules: [Rule; 8],
+}
+
+// What of the settings a line is judged by: all but the rules.
+pub struct State {
+    pub time: u64,
+    pub used: usize,
+    pub next: u64,
+    pub mode: u64,
+    pub count: u64,
+    pub unit: u64,
 }
 
 // The 64 bytes from `at` on.
@@ -164,9 +172,10 @@ fn is_sound_default(mode: u64, count: u64, unit: u64) -> bool
     ensures { λ r. ⌜ r ≡ soundDefault (record { mode = mode; count = count; unit = unit }) ⌝ }
 {
     let absent = (mode == 0) & ((count == 0) & (unit == 0));
-    let days = (unit == 1) & (count <= 36500);
-    let years = (unit == 2) & (count <= 100);
-    absent | (((mode == 1) | (mode == 2)) & ((1 <= count) & (days | years)))
+    let days = (unit == 1) & (count <= model::MOST_DAYS);
+    let years = (unit == 2) & (count <= model::MOST_YEARS);
+    let is_mode = (mode == model::GOVERNANCE) | (mode == model::COMPLIANCE);
+    absent | (is_mode & ((1 <= count) & (days | years)))
 }
 
 // Whether a rule has a prefix and days within their limits, and is all zero where it has no action.
@@ -175,7 +184,9 @@ fn is_sound_rule(prefix: [u8; 64], current: u64, noncurrent: u64) -> bool
 {
     let is_prefix = blocks::is_prefix_block(&prefix);
     let is_set = !((current == 0) & (noncurrent == 0));
-    is_prefix & ((current <= 36500) & ((noncurrent <= 36500) & (is_set | (prefix[0] == 0))))
+    is_prefix
+        & ((current <= model::MOST_DAYS)
+            & ((noncurrent <= model::MOST_DAYS) & (is_set | (prefix[0] == 0))))
 }
 
 // Whether every rule is sound.
@@ -202,7 +213,21 @@ pub fn is_sound(s: Settings) -> bool
     let rules = s.rules;
     let default = is_sound_default(s.mode, s.count, s.unit);
     let config = default & are_sound(rules);
-    (s.time <= calendar::LATEST) & ((1 <= s.next) & ((s.next <= SPENT) & config))
+    (s.time <= calendar::LATEST) & ((1 <= s.next) & ((s.next <= model::SPENT) & config))
+}
+
+// What of the settings a line is judged by.
+pub fn state_of(s: Settings) -> State
+    ensures { λ r. ⌜ r ≡ stateOf s ⌝ }
+{
+    State {
+        time: s.time,
+        used: s.used as usize,
+        next: s.next,
+        mode: s.mode,
+        count: s.count,
+        unit: s.unit,
+    }
 }
 
 // The settings with another default retention.

@@ -3,7 +3,7 @@ use Prim.Native.Nat.{_+_, _-_}
 use lib.ListN.{length}
 use Rattle.outcome.specs.Calls.{lent}
 use Rattle.bucketrun.specs.Course.{BetweenLines}
-use Rattle.bucketrun.proofs.Serving.{first-line, line-room, now-whole, next-line, answer-most, lines-done, lines-stopped}
+use Rattle.bucketrun.proofs.Serving.{first-line, line-room, next-line, answer-most, lines-done, lines-stopped}
 use borrow.Author.Needs.{needs}
 use Rattle.bucketrun.proofs.serve_some.Statement.{statement}
 use Rattle.bucketrun.proofs.serve_some.Tie as tie

@@ -9,11 +9,9 @@ carry-out-spec =
     tie.close
     (tie.spec
     (λ c. search needs)
-    (λ c κs. search needs)
     (λ c. search needs)
     (λ c κs. search (needs, verdicts))
     (λ c κs. search (needs, verdicts))
-    (λ c κs. search needs)
     (λ c. search (needs, verdicts))
     (λ c. search needs)
     (λ c. search needs)

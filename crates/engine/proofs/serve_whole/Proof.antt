@@ -9,6 +9,7 @@ serve-whole-spec =
     tie.close
     (tie.spec
     (λ c κs. search needs)
+    (λ c κs. search needs)
     (λ c. search needs)
     (λ c κs. search needs)
     (λ c. search needs)
@@ -18,6 +19,8 @@ serve-whole-spec =
     (λ c κs. search (needs, lines))
     (λ c. search needs)
     (λ c κs. search (needs, lines))
+    (λ c. search needs)
+    (λ c κs. search (needs, lines))
     (λ c. search (needs, lines))
     (λ c. search needs)
     (λ c. search needs)
@@ -25,6 +28,10 @@ serve-whole-spec =
     (λ c. search needs)
     (λ c. search needs)
     (λ c. search (needs, lines))
+    (λ c. search needs)
+    (λ c. search needs)
+    (λ c. search needs)
+    (λ c. search needs)
     (λ c. search needs)
     (λ c. search needs)
     (λ c. search needs)

@@ -14,4 +14,6 @@ is-allowed-spec =
     (λ c. search (needs, allowances))
     (λ c. search (needs, allowances))
     (λ c. search (needs, allowances))
+    (λ c. search (needs, allowances))
+    (λ c. search (needs, allowances))
     (λ c. search (needs, allowances)))

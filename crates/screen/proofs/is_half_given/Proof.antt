@@ -14,6 +14,8 @@ is-half-given-spec =
     (λ c. search needs)
     (λ c κs. search needs)
     (λ c. search needs)
+    (λ c. search needs)
+    (λ c. search (needs, halves))
     (λ c. search (needs, halves))
     (λ c. search (needs, halves))
     (λ c. search (needs, halves)))

@@ -15,4 +15,6 @@ is-past-date-spec =
     (λ c. search (needs, dates))
     (λ c. search (needs, dates))
     (λ c. search (needs, dates))
+    (λ c. search (needs, dates))
+    (λ c. search (needs, dates))
     (λ c. search (needs, dates)))

@@ -19,8 +19,6 @@ may-act-spec =
     (λ c κs. search needs)
     (λ c. search needs)
     (λ c κs. search needs)
-    (λ c. search needs)
-    (λ c. search (needs, acts))
     (λ c. search (needs, acts))
     (λ c. search (needs, acts))
     (λ c. search (needs, acts))

@@ -1,0 +1,15 @@
+-- `judge_query` meets its contract.
+use Rattle.judge.proofs.Naming.{data-ways}
+use borrow.Author.Needs.{needs}
+use Rattle.judge.proofs.judge_query.Statement.{statement}
+use Rattle.judge.proofs.judge_query.Tie as tie
+
+pub judge-query-spec : {M : Type 1} → statement M
+judge-query-spec =
+    tie.close
+    (tie.spec
+    (λ c κs. search needs)
+    (λ c. search needs)
+    (λ c. search needs)
+    (λ c us fs. search (needs, data-ways))
+    (λ c us fs. search (needs, data-ways)))
