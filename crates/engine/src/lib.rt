@@ -210,8 +210,8 @@ fn serve_query(
     match judge::judge_query(rows, keys, line, state, query, when) {
         Verdict::Refused(n) => refused(n, s),
         Verdict::Accepted(plan) => {
-            let text = plan.answer;
-            let len = answers::write_answer(answer, text);
+            let shown = plan.answer;
+            let len = answers::write_answer(answer, shown);
             let after = settings::with_progress(s, when.stamp, s.used, s.next);
             Served {
                 number: 0,
@@ -258,5 +258,5 @@ pub fn serve(
     if bucket::is_whole(s, rows, keys) {
         return serve_whole(s, rows, keys, line, answer);
     }
-    refused(1, s)
+    refused(model::UNSOUND, s)
 }
