@@ -1,3 +1,4 @@
 pub mod Ready
-pub mod Settling
+pub mod Carrying
+pub mod Configuring
 pub mod Serving

@@ -25,7 +25,6 @@ use Rattle.request.proofs.Ranges.{read-in-range}
 use Rattle.screen.proofs.Lines.{Passes, line-passed}
 use Rattle.judge.specs.State.{Ready}
 use Rattle.judge.specs.Premises.{Asked}
-use Rattle.perform.specs.Steps.{SoundRules}
 use Rattle.engine.specs.Served.{Passing}
 
 config-parts : (s : Settings) → soundConfig (settingsMean s .config) ≡ true → (soundDefault (settingsMean s .config .default) ≡ true) × (soundRules (settingsMean s .config .rules) ≡ true)
@@ -48,11 +47,10 @@ ready s n b e =
     }
 
 -- The rules of a whole bucket are sound.
-pub whole-rules : (s : Settings) (n b : List ℕ) → whole s n b ≡ true → SoundRules (s .rules)
+pub whole-rules : (s : Settings) (n b : List ℕ) → whole s n b ≡ true → soundRules (settingsMean s .config .rules) ≡ true
 whole-rules s n b e =
     let p = whole-parts s n b e in
-    let w = sound-whole (capacity b) (bucketOf s n b) (p .is-sound) in
-    record { prefixes = p .prefixes; sound = (config-parts s (w .config-sound)) .1 }
+    (config-parts s ((sound-whole (capacity b) (bucketOf s n b) (p .is-sound)) .config-sound)) .1
 
 -- A line that passes the screen is judged on such a bucket.
 module _ (s : Settings) (n b line a : List ℕ) (v : Verb) (when : Now) (p : Passing s n b line a v when) where

@@ -1,20 +1,21 @@
--- A line served: refused, set, or a step and the settings after it.
-use Prim.Native.Nat.{ℕ, _≤_, max}
+-- A line served: refused, judged and carried out, or set.
+use Prim.Native.Nat.{ℕ, _+_, _≤_, max}
 use mathlib.Core.Path.{_≡_, refl, sym, _∙_, ap, subst⁻¹}
 use mathlib.Core.Bool.{Bool, true, false}
 use mathlib.Core.List.{List, []}
-use mathlib.Core.Option.{some}
+use mathlib.Core.Option.{some, none}
 use native.Mathlib.Omega.{arith}
 use lib.Dec.{leb}
-use lib.ListN.{length}
+use lib.ListN.{length, replicate, length-replicate}
 use Rattle.buffers.specs.Writes.{Wrote}
 use Rattle.buffers.proofs.Tests.{and-r}
 use Rattle.calendar.specs.declared.Now.{Now}
 use Rattle.calendar.specs.Calendar.{latest}
 use Rattle.model.specs.Requests as model
 use Rattle.model.specs.Requests.{Set, Sweep, Ask, inRange}
+use Rattle.model.specs.Effects.{added, rowsAfter, configAfter}
 use Rattle.model.specs.Refusals.{fieldChecks, tableChecks}
-use Rattle.model.specs.Effects.{added, rowsAfter}
+use Rattle.settings.specs.declared.Rule.{Rule}
 use Rattle.settings.specs.declared.Settings.{Settings}
 use Rattle.settings.specs.declared.State.{State}
 use Rattle.settings.specs.Meaning.{rulesMean, settingsMean, prefixesAre}
@@ -25,39 +26,39 @@ use Rattle.bucket.specs.Whole.{bucketOf, whole}
 use Rattle.bucket.proofs.Whole.{whole-parts}
 use Rattle.request.specs.declared.Action.{Action}
 use Rattle.request.specs.declared.Setting.{Setting}
+use Rattle.request.specs.declared.Query.{Query}
 use Rattle.request.specs.declared.Verb.{Verb}
 use Rattle.request.specs.declared.Verb.the-variants as verb
-use Rattle.request.specs.declared.Query.{Query}
 use Rattle.request.specs.Grammar.{Said, saidBy, readLine}
-use Rattle.request.specs.Meaning.{actionMeans, settingMeans, queryMeans, verbMeans, QueryInside}
+use Rattle.request.specs.Meaning.{actionMeans, settingMeans, queryMeans, verbMeans, ActionInside, QueryInside}
 use Rattle.request.proofs.Ranges.{read-in-range}
 use Rattle.request.proofs.Actions.{action-unset}
-use Rattle.answers.specs.declared.Answer.{Answer}
-use Rattle.answers.specs.Meaning.{textOf, Printable}
 use Rattle.screen.specs.declared.Screened.{Screened}
 use Rattle.screen.specs.declared.Screened.the-variants as screened
 use Rattle.screen.specs.Screen.{screened as fieldRefusal, screenedLine, Screens, lineRefusal}
 use Rattle.screen.proofs.Lines.{Comes, short, unread, barred, passed, comes}
-use Rattle.outcome.specs.Decision.{Effect, Decision, refuses, does, effect, tableDecision}
+use Rattle.answers.specs.declared.Answer.{Answer}
+use Rattle.answers.specs.declared.Answer.the-variants as answer
+use Rattle.answers.specs.Meaning.{textOf, Printable}
+use Rattle.judge.specs.declared.Change.the-variants as change
 use Rattle.judge.specs.declared.Plan.{Plan}
 use Rattle.judge.specs.declared.Verdict.{Verdict}
 use Rattle.judge.specs.declared.Verdict.the-variants as verdict
-use Rattle.judge.specs.State.{bucketBy, rowsIn}
-use Rattle.judge.specs.Meaning.{verdictMeans}
-use Rattle.judge.specs.Premises.{both, Asked, JudgesOn}
+use Rattle.judge.specs.Meaning.{planMeans, verdictMeans}
+use Rattle.judge.specs.Premises.{both, Asked, Sweepable, JudgesBy, JudgesOn}
+use Rattle.judge.proofs.Sweeping as judge
 use Rattle.apply.specs.Applied.{judged}
+use Rattle.outcome.specs.Decision.{Effect, Decision, does, effect, tableDecision}
 use Rattle.outcome.specs.Outcome.{Outcome, refused, outcome}
 use Rattle.outcome.specs.Steps.{done}
 use Rattle.outcome.proofs.Room.{outcome-fits}
 use Rattle.outcome.proofs.Deciding.{decide-stop, decide-go, decide-done, outcome-1, outcome-2, outcome-3, outcome-said}
-use Rattle.configure.specs.Configured.{Settable}
-use Rattle.perform.specs.declared.Step.{Step}
-use Rattle.perform.specs.declared.Step.the-variants.{Refused, Accepted}
-use Rattle.perform.specs.Steps.{TableOutcome, tableOutcome, stepOf, Actable, Acted, SoundRules}
+use Rattle.engine.specs.Configured.{Settable, configuredBy}
 use Rattle.engine.specs.declared.Served.{Served}
-use Rattle.engine.specs.Served.{outcomeFrom, Passing, settled, Settles, Sets}
+use Rattle.engine.specs.declared.Step.{Step}
+use Rattle.engine.specs.Served.{outcomeFrom, served, Passing, Carriable, CarriedOut, Actable, Acted, SweepAsked, Swept}
 use Rattle.engine.proofs.Ready.{whole-rules, line-says, line-judge, line-stamp, line-ranges, line-asked}
-use Rattle.engine.proofs.Settling.{refused-is, kept-done, setting-acted}
+use Rattle.engine.proofs.Carrying.{refused-is, kept-is, settings-after}
 
 -- ## Refusals
 
@@ -101,74 +102,100 @@ module _ (s : Settings) (n b line a : List ℕ) (w : whole s n b ≡ true) where
 
 -- ## A line that passes
 
--- What is settled of a decision is what is done of it.
-settled-done : (s : Settings) (n b a : List ℕ) (now : ℕ) (v : model.Verb) (d : Decision) → settled s now v (stepOf (stateOf s) n b a d) ≡ done s n b now v a d
-settled-done s n b a now v (refuses k) = refl
-settled-done s n b a now v (does e) = refl
-
 module _ (s : Settings) (n b line a : List ℕ) (v : Verb) (when : Now) (p : Passing s n b line a v when) where
   prefixes : prefixesAre (s .rules) ≡ true
   prefixes = (whole-parts s n b (p .is-whole)) .prefixes
 
+  room : 256 ≤ length a
+  room = (line-says s n b line a v when p) .room-fits
+
   asks : Asked (stateOf s) n b (when .judge) (verbMeans line v)
   asks = line-asked s n b line a v when p
 
-  -- What is decided of it on the table, done, is its outcome.
-  decided : done s n b (when .judge) (verbMeans line v) a (tableDecision (capacity b) (bucketOf s n b) (both (when .judge)) (verbMeans line v)) ≡ outcome s n b line a
-  decided =
+  -- What the table decides of it, done, is its outcome.
+  decided : (d : Decision) → d ≡ tableDecision (capacity b) (bucketOf s n b) (both (when .judge)) (verbMeans line v) → done s n b (when .judge) (verbMeans line v) a d ≡ outcome s n b line a
+  decided d e =
       let q = line-says s n b line a v when p in
-      said-passes s n b line a (p .is-whole) _ (when .judge) (q .room-fits) (q .says) (line-judge s n b line a v when p)
+      ap (λ (x : Decision). done s n b (when .judge) (verbMeans line v) a x) e
+      ∙ said-passes s n b line a (p .is-whole) _ (when .judge) (q .room-fits) (q .says) (line-judge s n b line a v when p)
       (q .passes ∙ ap (λ (t : ℕ). fieldRefusal (settingsMean s .config) (q .who) t (verbMeans line v)) (line-stamp s n b line a v when p))
 
-  -- What a step comes to is what the table decides.
-  stepped : (x : Outcome) (y : TableOutcome) → x ≡ settled s (when .judge) (verbMeans line v) y
-      → y ≡ stepOf (stateOf s) n b a (tableDecision (capacity b) (bucketOf s n b) (both (when .judge)) (verbMeans line v)) → x ≡ outcome s n b line a
-  stepped x y g i =
-      g ∙ ap (λ (z : TableOutcome). settled s (when .judge) (verbMeans line v) z) i
-      ∙ settled-done s n b a (when .judge) (verbMeans line v) (tableDecision (capacity b) (bucketOf s n b) (both (when .judge)) (verbMeans line v))
-      ∙ decided
+-- ## An action
 
-  -- Both readings of its now are the same.
-  settles-judged : (step : Step) (r : Served) → Settles s (when .stamp) step r → Settles s (when .judge) step r
-  settles-judged step r g = rw (line-stamp s n b line a v when p) at g
+module _ (s : State) (n b line a : List ℕ) (x : Action) (when : Now) (h : Actable s n b line a x when) where
+  pub act-asked : Asked s n b (when .judge) (actionMeans line x)
+  act-asked = h .asked
 
--- An action.
+  pub act-inside : ActionInside line x
+  act-inside = h .inside
+
+  module _ (o : Verdict) (fates : List ℕ) (j : JudgesOn s n b line (when .judge) (actionMeans line x) o) where
+    pub act-can : Carriable s n b line a o (when .stamp) fates
+    act-can = rw (h .one-now) (record { ready = h .asked .ready; feasible = (j [] fates) .feasible; room = h .room })
+
+    pub act-done : (y : Step) (n′ b′ a′ : List ℕ) → CarriedOut s n b line a o (when .stamp) fates y n′ b′ a′ → Acted s n b line a x when y n′ b′ a′
+    act-done y n′ b′ a′ g =
+        record {
+          is = λ t e p. (rw (h .one-now) at g) .is t (actionMeans line x) e (prefixes t n b line a (verb.Act x) when p) (action-unset line x)
+              ∙ decided t n b line a (verb.Act x) when p _ ((rw e at j (rulesMean (t .rules)) fates) .is);
+        }
+
+pub ruleset actions = (act-asked, act-inside, act-can, act-done)
+
 module _ (s : Settings) (n b line a : List ℕ) (x : Action) (when : Now) (p : Passing s n b line a (verb.Act x) when) (st : State) (e : st ≡ stateOf s) where
-  pub line-actable : Actable line st n b a x (when .judge)
-  line-actable = rw e (record { judgeable = asks s n b line a (verb.Act x) when p; inside = (line-says s n b line a (verb.Act x) when p) .inside; room = (line-says s n b line a (verb.Act x) when p) .room-fits })
+  pub line-actable : Actable st n b line a x when
+  line-actable = rw e (record { asked = asks s n b line a (verb.Act x) when p; inside = (line-says s n b line a (verb.Act x) when p) .inside; room = room s n b line a (verb.Act x) when p; one-now = line-stamp s n b line a (verb.Act x) when p })
 
-  pub line-acted : (step : Step) (n′ b′ a′ : List ℕ) (r : Served) → Acted st n b a (actionMeans line x) (when .judge) (tableOutcome step n′ b′ a′) → Settles s (when .stamp) step r → outcomeFrom r n′ b′ a′ ≡ outcome s n b line a
-  line-acted step n′ b′ a′ r i g =
-      stepped s n b line a (verb.Act x) when p (outcomeFrom r n′ b′ a′) (tableOutcome step n′ b′ a′)
-      (settles-judged s n b line a (verb.Act x) when p step r g .is (actionMeans line x) n′ b′ a′ (action-unset line x) (prefixes s n b line a (verb.Act x) when p))
-      ((rw e at i) .is (rulesMean (s .rules)))
+  pub line-acted : (y : Step) (r : Served) (n′ b′ a′ : List ℕ) → Acted st n b line a x when y n′ b′ a′ → r ≡ served s y → outcomeFrom r n′ b′ a′ ≡ outcome s n b line a
+  line-acted y r n′ b′ a′ g q = rw q (g .is s e p)
 
--- SWEEP.
-module _ (s : Settings) (n b line a : List ℕ) (when : Now) (p : Passing s n b line a verb.Sweep when) where
-  pub line-rules : SoundRules (s .rules)
-  line-rules = whole-rules s n b (p .is-whole)
+pub ruleset acted-lines = (line-actable, line-acted)
 
-  pub line-room : 256 ≤ length a
-  line-room = (line-says s n b line a verb.Sweep when p) .room-fits
+-- ## SWEEP
 
-  module _ (st : State) (e : st ≡ stateOf s) where
-    pub line-sweeps : Asked st n b (when .judge) Sweep
-    line-sweeps = rw e (asks s n b line a verb.Sweep when p)
+module _ (s : State) (rules : List Rule) (n b line a : List ℕ) (when : Now) (h : SweepAsked s rules n b a when) where
+  pub sweep-asked : Asked s n b (when .judge) Sweep
+  sweep-asked = h .asked
 
-    pub line-swept : (step : Step) (n′ b′ a′ : List ℕ) (r : Served) → tableOutcome step n′ b′ a′ ≡ stepOf st n b a (tableDecision (capacity b) (bucketBy st (rulesMean (s .rules)) (rowsIn st n b)) (both (when .judge)) Sweep)
-        → Settles s (when .stamp) step r → outcomeFrom r n′ b′ a′ ≡ outcome s n b line a
-    line-swept step n′ b′ a′ r i g =
-        stepped s n b line a verb.Sweep when p (outcomeFrom r n′ b′ a′) (tableOutcome step n′ b′ a′)
-        (settles-judged s n b line a verb.Sweep when p step r g .is Sweep n′ b′ a′ refl (prefixes s n b line a verb.Sweep when p)) (rw e at i)
+  pub sweep-rules : (fates : List ℕ) → fates ≡ replicate 1024 0 → Sweepable s rules fates
+  sweep-rules fates f =
+      let l : length fates ≡ 1024 = ap length f ∙ length-replicate {A = ℕ} 1024 0 in
+      record { prefixes = h .prefixes; rules-sound = h .rules-sound; long = omega (arith, h .asked .ready .used-fits, h .asked .ready .capacity-fits) }
 
-pub ruleset actions = (line-actable, line-acted)
+  module _ (o : Verdict) (fates : List ℕ) (j : (l : List ℕ) → JudgesBy s n b l (when .judge) (rulesMean rules) fates Sweep o) where
+    pub sweep-can : Carriable s n b line a o (when .stamp) fates
+    sweep-can = rw (h .one-now) (record { ready = h .asked .ready; feasible = (j line) .feasible; room = h .room })
 
-pub ruleset sweeps = (line-rules, line-room, line-sweeps, line-swept)
+    pub sweep-done : (y : Step) (n′ b′ a′ : List ℕ) → CarriedOut s n b line a o (when .stamp) fates y n′ b′ a′ → Swept s rules n b line a when y n′ b′ a′
+    sweep-done y n′ b′ a′ g =
+        record {
+          is = λ t e q p. (rw (h .one-now) at g) .is t Sweep e (prefixes t n b line a verb.Sweep when p) refl
+              ∙ decided t n b line a verb.Sweep when p _ ((rw (e, sym q) at (j line)) .is);
+        }
 
--- What asks.
+pub ruleset sweeps = (sweep-asked, sweep-rules, sweep-can, sweep-done)
+
+module _ (s : Settings) (n b line a : List ℕ) (when : Now) (p : Passing s n b line a verb.Sweep when) (st : State) (e : st ≡ stateOf s) where
+  pub line-sweeps : SweepAsked st (s .rules) n b a when
+  line-sweeps =
+      rw e (record {
+        asked = asks s n b line a verb.Sweep when p;
+        prefixes = prefixes s n b line a verb.Sweep when p;
+        rules-sound = whole-rules s n b (p .is-whole);
+        room = room s n b line a verb.Sweep when p;
+        one-now = line-stamp s n b line a verb.Sweep when p;
+      })
+
+  pub line-swept : (y : Step) (r : Served) (n′ b′ a′ : List ℕ) → Swept st (s .rules) n b line a when y n′ b′ a′ → r ≡ served s y → outcomeFrom r n′ b′ a′ ≡ outcome s n b line a
+  line-swept y r n′ b′ a′ g q = rw q (g .is s e refl p)
+
+pub ruleset swept-lines = (line-sweeps, line-swept)
+
+-- ## What asks
+
 module _ (s : Settings) (n b line a : List ℕ) (x : Query) (when : Now) (p : Passing s n b line a (verb.Ask x) when) where
   pub query-room : 256 ≤ length a
-  query-room = (line-says s n b line a (verb.Ask x) when p) .room-fits
+  query-room = room s n b line a (verb.Ask x) when p
 
   pub query-inside : QueryInside line x
   query-inside = (line-says s n b line a (verb.Ask x) when p) .inside
@@ -180,7 +207,7 @@ module _ (s : Settings) (n b line a : List ℕ) (x : Query) (when : Now) (p : Pa
     module _ (o : Verdict) (j : JudgesOn st n b line (when .judge) (Ask (queryMeans line x)) o) where
       -- The verdict, done, is the outcome.
       judged-done : done s n b (when .judge) (Ask (queryMeans line x)) a (verdictMeans (judged line (s .next) (when .judge) []) (rowsOf n b (s .used)) o) ≡ outcome s n b line a
-      judged-done = ap (λ (d : Decision). done s n b (when .judge) (Ask (queryMeans line x)) a d) (((rw e at j) (rulesMean (s .rules)) []) .is) ∙ decided s n b line a (verb.Ask x) when p
+      judged-done = decided s n b line a (verb.Ask x) when p _ (((rw e at j) (rulesMean (s .rules)) []) .is)
 
       pub query-refused : (k : ℕ) (r : Served) → o ≡ verdict.Refused k → r .number ≡ k → r .len ≡ 0 → r .settings ≡ s → outcomeFrom r n b a ≡ outcome s n b line a
       query-refused k r t f g h = refused-is r k s n b a f g h ∙ (rw t at judged-done)
@@ -194,40 +221,50 @@ module _ (s : Settings) (n b line a : List ℕ) (x : Query) (when : Now) (p : Pa
         unfolding added rowsAfter
         query-answered a′ len text after h w g =
             let same : _ ≡ effect (bucketOf s n b) (both (when .judge)) (Ask (queryMeans line x)) = decide-done (tableChecks (capacity b) (bucketOf s n b) (both (when .judge)) (Ask (queryMeans line x))) _ _ (((rw (e, t) at j) (rulesMean (s .rules)) []) .is) in
-            kept-done s n b (when .judge) (Ask (queryMeans line x)) a a′ len after _ refl (prefixes s n b line a (verb.Ask x) when p) ((asks s n b line a (verb.Ask x) when p) .ready .holds)
-            (ap (λ (f : Effect). f .rows) same) (ap (λ (f : Effect). f .taken) same) (rw (sym h) at w) (rw (line-stamp s n b line a (verb.Ask x) when p) at g)
+            kept-is s n b (when .judge) (Ask (queryMeans line x)) a _ len after a′ (rw (sym h) at w)
+            (rw (line-stamp s n b line a (verb.Ask x) when p) at g ∙ settings-after s (Ask (queryMeans line x)) (when .judge) (s .used) (s .next) refl (prefixes s n b line a (verb.Ask x) when p))
+            ((asks s n b line a (verb.Ask x) when p) .ready .holds)
+            (ap (λ (f : Effect). f .rows) same) (ap (λ (f : Effect). f .taken) same)
             ∙ (rw t at judged-done)
 
 pub ruleset queries = (query-room, query-inside, query-asked, query-refused, query-prints, query-answered)
 
--- A line that the screen passes, by its verb.
+-- ## DEFAULT and RULE
+
+pub set-done : (s : Settings) (line a a′ : List ℕ) (x : Setting) (when : Now) (len : ℕ) (u after : Settings) (n b : List ℕ) → Wrote a 0 (textOf answer.Done) 256 a′ len → u ≡ configuredBy s (settingMeans line x)
+    → after ≡ withProgress u (when .stamp) (s .used) (s .next) → Passing s n b line a (verb.Set x) when → outcomeFrom (record { number = 0; len = len; settings = after }) n b a′ ≡ outcome s n b line a
+unfolding configAfter
+set-done s line a a′ x when len u after n b w c g p =
+    let h = asks s n b line a (verb.Set x) when p in
+    let plan : Plan = record { change = change.Keep; answer = answer.Done } in
+    kept-is s n b (when .judge) (Set (settingMeans line x)) a (planMeans (judged line (s .next) (when .judge) []) (rowsOf n b (s .used)) plan) len after a′ w
+    (rw (g, c, line-stamp s n b line a (verb.Set x) when p))
+    (h .ready .holds) refl refl
+    ∙ decided s n b line a (verb.Set x) when p (does (planMeans (judged line (s .next) (when .judge) []) (rowsOf n b (s .used)) plan))
+    ((judge.set-done (stateOf s) n b line (when .judge) (rulesMean (s .rules)) [] (settingMeans line x) h) .is)
+
+-- ## A line that the screen passes, by its verb
+
 module _ (s : Settings) (n b line a : List ℕ) (w : whole s n b ≡ true) (st : State) (i : st ≡ stateOf s) (o : Screened) (h : Screens st line (length a) o) (v : Verb) (when : Now) (e : o ≡ screened.Passed v when) where
   pub line-passes : (u : Verb) → v ≡ u → Passing s n b line a u when
   line-passes u f = record { is-whole = w; passes = rw f at (sym e ∙ (rw i at h) .is (settingsMean s .config)) }
 
   pub line-fits : 256 ≤ length a
-  line-fits = (line-says s n b line a v when (line-passes v refl)) .room-fits
+  line-fits = room s n b line a v when (line-passes v refl)
 
-  -- DEFAULT and RULE.
   module _ (x : Setting) (f : v ≡ verb.Set x) where
-    p : Passing s n b line a (verb.Set x) when
-    p = line-passes (verb.Set x) f
-
     pub line-settable : Settable line s x
     unfolding inRange
     line-settable =
+        let p = line-passes (verb.Set x) f in
         record {
           prefixes = prefixes s n b line a (verb.Set x) when p;
           in-range = and-r (leb ((line-says s n b line a (verb.Set x) when p) .clock) latest) _ (line-ranges s n b line a (verb.Set x) when p);
           inside = (line-says s n b line a (verb.Set x) when p) .inside;
         }
 
-    pub line-set : (r : Served) (a′ : List ℕ) → Sets s (when .stamp) (Set (settingMeans line x)) a r a′ → outcomeFrom r n b a′ ≡ outcome s n b line a
-    line-set r a′ g =
-        let k : Sets s (when .judge) (Set (settingMeans line x)) a r a′ = rw (line-stamp s n b line a (verb.Set x) when p) at g in
-        stepped s n b line a (verb.Set x) when p (outcomeFrom r n b a′) (tableOutcome (Accepted (record { len = r .len; used = s .used; next = s .next })) n b a′)
-        (rw (k .number-is, k .settings-are))
-        ((setting-acted (stateOf s) n b (when .judge) a a′ (r .len) (settingMeans line x) (asks s n b line a (verb.Set x) when p) (k .wrote)) .is (rulesMean (s .rules)))
+    pub line-set : (r : Served) (a′ : List ℕ) → ((n b : List ℕ) → Passing s n b line a (verb.Set x) when → outcomeFrom r n b a′ ≡ outcome s n b line a) → outcomeFrom r n b a′ ≡ outcome s n b line a
+    line-set r a′ g = g n b (line-passes (verb.Set x) f)
 
 pub ruleset lines = (line-stopped, line-passes, line-fits, line-settable, line-set)
 

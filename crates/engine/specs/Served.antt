@@ -1,59 +1,83 @@
--- What a call returned and left, as an outcome, and what a step comes to with the settings.
-use Prim.Native.Nat.{ℕ}
+-- What a call returned and left, as an outcome; what its parts ask, and what they come to with the settings.
+use Prim.Native.Nat.{ℕ, _≤_}
 use mathlib.Core.Path.{_≡_}
 use mathlib.Core.Bool.{true}
 use mathlib.Core.List.{List}
 use mathlib.Core.Option.{none}
 use lib.ListN.{length}
-use Rattle.buffers.specs.Writes.{Wrote}
 use Rattle.calendar.specs.declared.Now.{Now}
-use Rattle.model.specs.Requests.{Verb, settingOf}
-use Rattle.model.specs.Effects.{configAfter}
+use Rattle.model.specs.Settings.{soundRules}
+use Rattle.model.specs.Requests as model
+use Rattle.settings.specs.declared.Rule.{Rule}
 use Rattle.settings.specs.declared.Settings.{Settings}
-use Rattle.settings.specs.Meaning.{settingsMean, settingsFrom, prefixesAre}
+use Rattle.settings.specs.declared.State.{State}
+use Rattle.settings.specs.Meaning.{settingsMean, rulesMean, prefixesAre}
+use Rattle.settings.specs.State.{stateOf}
+use Rattle.settings.specs.Changes.{withProgress}
+use Rattle.table.specs.Layout.{rowsOf, capacity}
 use Rattle.bucket.specs.Whole.{whole}
-use Rattle.request.specs.declared.Verb as request
+use Rattle.request.specs.declared.Action.{Action}
+use Rattle.request.specs.declared.Verb.{Verb}
+use Rattle.request.specs.declared.Verb.the-variants as verb
+use Rattle.request.specs.Meaning.{actionMeans, ActionInside}
 use Rattle.screen.specs.declared.Screened.the-variants.{Passed}
 use Rattle.screen.specs.Screen.{screenedLine}
-use Rattle.answers.specs.declared.Answer.the-variants.{Done}
-use Rattle.answers.specs.Meaning.{textOf}
-use Rattle.outcome.specs.Outcome.{Outcome, refused}
-use Rattle.perform.specs.declared.Step.{Step}
-use Rattle.perform.specs.declared.Step.the-variants.{Refused, Accepted}
-use Rattle.perform.specs.Steps.{TableOutcome}
+use Rattle.judge.specs.declared.Verdict.{Verdict}
+use Rattle.judge.specs.Meaning.{verdictMeans, Feasible}
+use Rattle.judge.specs.State.{rowsIn, Ready}
+use Rattle.judge.specs.Premises.{Asked}
+use Rattle.apply.specs.Applied.{judged}
+use Rattle.outcome.specs.Outcome.{Outcome, outcome}
+use Rattle.outcome.specs.Steps.{done}
 use Rattle.engine.specs.declared.Served.{Served}
+use Rattle.engine.specs.declared.Step.{Step}
 
 abbrev pub outcomeFrom : Served → List ℕ → List ℕ → List ℕ → Outcome
 outcomeFrom r numbers keys answer =
     record { number = r .number; len = r .len; settings = r .settings; numbers = numbers; keys = keys; answer = answer }
 
+-- what a call returns after a step
+abbrev pub served : Settings → Step → Served
+served s x = record { number = x .number; len = x .len; settings = withProgress s (x .time) (x .used) (x .next) }
+
 -- The bucket is whole, and the line passes the screen: it says this verb, and this is its now.
-pub record Passing (s : Settings) (numbers keys line answer : List ℕ) (v : request.Verb) (when : Now) : Type 0 where
+pub record Passing (s : Settings) (numbers keys line answer : List ℕ) (v : Verb) (when : Now) : Type 0 where
   pub is-whole : whole s numbers keys ≡ true
   pub passes : Passed v when ≡ screenedLine (settingsMean s .config) (s .time) line (length answer)
 
--- what a call returns and leaves after a request came to a step; an accepted line makes now the bucket's time
-abbrev pub settle : Settings → ℕ → Verb → Step → List ℕ → List ℕ → List ℕ → Outcome
-settle s now v (Refused n) numbers keys answer = refused n s numbers keys answer
-settle s now v (Accepted d) numbers keys answer =
-    record {
-      number = 0;
-      len = d .len;
-      settings = settingsFrom (record { time = now; next = d .next; config = configAfter (settingsMean s .config) v }) (d .used);
-      numbers = numbers;
-      keys = keys;
-      answer = answer;
-    }
+-- ## A verdict
 
-abbrev pub settled : Settings → ℕ → Verb → TableOutcome → Outcome
-settled s now v l = settle s now v (l .step) (l .numbers) (l .keys) (l .answer)
+-- The state is ready, the verdict can be carried out on it, and there is room for the answer.
+pub record Carriable (s : State) (numbers keys line answer : List ℕ) (v : Verdict) (now : ℕ) (fates : List ℕ) : Type 0 where
+  pub ready : Ready s numbers keys
+  pub feasible : Feasible (judged line (s .next) now fates) (capacity keys) (rowsIn s numbers keys) v
+  pub room : 256 ≤ length answer
 
--- A step is settled, where the verb sets nothing.
-pub record Settles (s : Settings) (now : ℕ) (step : Step) (r : Served) : Type 0 where
-  pub is : (v : Verb) (numbers keys answer : List ℕ) → settingOf v ≡ none → prefixesAre (s .rules) ≡ true → outcomeFrom r numbers keys answer ≡ settle s now v step numbers keys answer
+-- With any settings of that state, what is returned and left is the verdict's decision, done, where the verb sets nothing.
+pub record CarriedOut (s : State) (numbers keys line answer : List ℕ) (v : Verdict) (now : ℕ) (fates : List ℕ) (x : Step) (numbers′ keys′ answer′ : List ℕ) : Type 0 where
+  pub is : (settings : Settings) (u : model.Verb) → s ≡ stateOf settings → prefixesAre (settings .rules) ≡ true → model.settingOf u ≡ none
+      → outcomeFrom (served settings x) numbers′ keys′ answer′ ≡ done settings numbers keys now u answer (verdictMeans (judged line (settings .next) now fates) (rowsOf numbers keys (settings .used)) v)
 
--- The settings have what the verb sets, and the answer says so.
-pub record Sets (s : Settings) (now : ℕ) (v : Verb) (answer : List ℕ) (r : Served) (answer′ : List ℕ) : Type 0 where
-  pub number-is : r .number ≡ 0
-  pub wrote : Wrote answer 0 (textOf Done) 256 answer′ (r .len)
-  pub settings-are : r .settings ≡ settingsFrom (record { time = now; next = s .next; config = configAfter (settingsMean s .config) v }) (s .used)
+-- ## An action, and SWEEP
+
+-- An action that can be judged, and room for its answer.
+pub record Actable (s : State) (numbers keys line answer : List ℕ) (x : Action) (when : Now) : Type 0 where
+  pub asked : Asked s numbers keys (when .judge) (actionMeans line x)
+  pub inside : ActionInside line x
+  pub room : 256 ≤ length answer
+  pub one-now : when .stamp ≡ when .judge
+
+-- With the settings of a line that passes, what is returned and left is what comes of the line.
+pub record Acted (s : State) (numbers keys line answer : List ℕ) (action : Action) (when : Now) (x : Step) (numbers′ keys′ answer′ : List ℕ) : Type 0 where
+  pub is : (settings : Settings) → s ≡ stateOf settings → Passing settings numbers keys line answer (verb.Act action) when → outcomeFrom (served settings x) numbers′ keys′ answer′ ≡ outcome settings numbers keys line answer
+
+-- A sweep that can be judged by these rules, and room for its answer.
+pub record SweepAsked (s : State) (rules : List Rule) (numbers keys answer : List ℕ) (when : Now) : Type 0 where
+  pub asked : Asked s numbers keys (when .judge) model.Sweep
+  pub prefixes : prefixesAre rules ≡ true
+  pub rules-sound : soundRules (rulesMean rules) ≡ true
+  pub room : 256 ≤ length answer
+  pub one-now : when .stamp ≡ when .judge
+
+pub record Swept (s : State) (rules : List Rule) (numbers keys line answer : List ℕ) (when : Now) (x : Step) (numbers′ keys′ answer′ : List ℕ) : Type 0 where
+  pub is : (settings : Settings) → s ≡ stateOf settings → settings .rules ≡ rules → Passing settings numbers keys line answer verb.Sweep when → outcomeFrom (served settings x) numbers′ keys′ answer′ ≡ outcome settings numbers keys line answer

@@ -1,31 +1,42 @@
-// The engine: a line is read, screened, set or carried out, and answered. The definitions are in outcome.
+// The engine: a line is screened, judged, carried out or set, and answered. The definitions are in outcome.
+mod configure;
+
 use answers::Answer;
 use calendar::Now;
 use judge::Verdict;
-use perform::Step;
 use request::Action;
 use request::Query;
 use request::Setting;
 use request::Verb;
 use screen::Screened;
+use settings::Rule;
 use settings::Settings;
+use settings::State;
 ghost use mathlib.Core.Path.{_≡_};
 ghost use mathlib.Core.Bool.{true};
-ghost use Prim.Native.Nat.{_≤_};
-ghost use lib.ListN.{length};
+ghost use mathlib.Core.List.{List};
+ghost use Prim.Native.Nat.{ℕ, _≤_};
+ghost use lib.ListN.{length, replicate};
 ghost use Rattle.bucket.specs.Whole.{whole};
-ghost use Rattle.model.specs.Requests.{Set};
 ghost use Rattle.request.specs.declared.Verb.the-variants as verb;
-ghost use Rattle.request.specs.Meaning.{settingMeans};
 ghost use Rattle.outcome.specs.Outcome.{outcome};
-ghost use Rattle.configure.specs.Configured.{Settable};
-ghost use Rattle.engine.specs.Served.{outcomeFrom, Passing, Settles, Sets};
+ghost use Rattle.engine.specs.Configured.{Settable};
+ghost use Rattle.engine.specs.Served.{outcomeFrom, served, Passing, Carriable, CarriedOut, Actable, Acted, SweepAsked, Swept};
 
 // What a call returns: 0 or the refusal, the answer's length, and the settings afterwards.
 pub struct Served {
     pub number: u64,
     pub len: usize,
     pub settings: Settings,
+}
+
+// The same with just what of the settings a line can move: the bucket's time, the used rows and the next version number.
+struct Step {
+    number: u64,
+    len: usize,
+    time: u64,
+    used: usize,
+    next: u64,
 }
 
 fn refused(number: u64, settings: Settings) -> Served
@@ -38,40 +49,99 @@ fn refused(number: u64, settings: Settings) -> Served
     }
 }
 
-// A refusal leaves the settings as they are; an accepted line moves the bucket's time.
-fn settle(s: Settings, step: Step, instant: u64) -> Served
-    ensures { λ r. ⌜ Settles s instant step r ⌝ }
+// Does what a verdict says: a refusal leaves everything as it is; a plan is carried out and answered, and now is the bucket's time.
+fn carry_out(
+    s: State,
+    rows: &mut [u64],
+    keys: &mut [u8],
+    line: &[u8],
+    answer: &mut [u8],
+    v: Verdict,
+    instant: u64,
+    fates: &[u8],
+) -> Step
+    requires { ⌜ Carriable s (now rows) (now keys) (now line) (now answer) v instant (now fates) ⌝ }
+    ensures { λ r. ⌜ CarriedOut s (now (rows .entry)) (now (keys .entry)) (now (line .entry)) (now (answer .entry)) v instant (now (fates .entry)) r (now (rows .exit)) (now (keys .exit)) (now (answer .exit)) ⌝ }
 {
-    match step {
-        Step::Refused(n) => refused(n, s),
-        Step::Accepted(done) => {
-            let after = settings::with_progress(s, instant, done.used as u64, done.next);
-            Served {
+    match v {
+        Verdict::Refused(n) => Step {
+            number: n,
+            len: 0,
+            time: s.time,
+            used: s.used,
+            next: s.next,
+        },
+        Verdict::Accepted(plan) => {
+            let change = plan.change;
+            let text = plan.answer;
+            let p = apply::apply_change(rows, keys, line, s.used, s.next, change, instant, fates);
+            let len = answers::write_answer(answer, text);
+            Step {
                 number: 0,
-                len: done.len,
-                settings: after,
+                len,
+                time: instant,
+                used: p.used,
+                next: p.next,
             }
         }
     }
 }
 
-// DEFAULT and RULE leave the table as it is.
-fn serve_setting(s: Settings, line: &[u8], answer: &mut [u8], setting: Setting, when: Now) -> Served
-    requires { ⌜ Settable (now line) s setting ⌝ }
-    requires { ⌜ 256 ≤ length (now answer) ⌝ }
-    ensures { λ r. ⌜ Sets s (when .stamp) (Set (settingMeans (now (line .entry)) setting)) (now (answer .entry)) r (now (answer .exit)) ⌝ }
+// An action needs no fates.
+fn act(
+    s: State,
+    rows: &mut [u64],
+    keys: &mut [u8],
+    line: &[u8],
+    answer: &mut [u8],
+    action: Action,
+    when: Now,
+) -> Step
+    requires { ⌜ Actable s (now rows) (now keys) (now line) (now answer) action when ⌝ }
+    ensures { λ r. ⌜ Acted s (now (rows .entry)) (now (keys .entry)) (now (line .entry)) (now (answer .entry)) action when r (now (rows .exit)) (now (keys .exit)) (now (answer .exit)) ⌝ }
 {
-    let len = answers::write_answer(answer, Answer::Done);
-    let set = configure::configured(s, line, setting);
-    let after = settings::with_progress(set, when.stamp, s.used, s.next);
+    let v = judge::judge(rows, keys, line, s, action, when.judge);
+    carry_out(s, rows, keys, line, answer, v, when.stamp, b"")
+}
+
+// Room for a fate of each row.
+fn no_fates() -> [u8; 1024]
+    ensures { λ r. ⌜ r ≡ replicate 1024 0 ⌝ }
+{
+    [0u8; 1024]
+}
+
+// SWEEP needs rules and fates.
+fn sweep(
+    s: State,
+    rules: [Rule; 8],
+    rows: &mut [u64],
+    keys: &mut [u8],
+    line: &[u8],
+    answer: &mut [u8],
+    when: Now,
+) -> Step
+    requires { ⌜ SweepAsked s rules (now rows) (now keys) (now answer) when ⌝ }
+    ensures { λ r. ⌜ Swept s rules (now (rows .entry)) (now (keys .entry)) (now (line .entry)) (now (answer .entry)) when r (now (rows .exit)) (now (keys .exit)) (now (answer .exit)) ⌝ }
+{
+    let mut fates = no_fates();
+    let v = judge::judge_sweep(rows, keys, s, rules, when.judge, &mut fates);
+    carry_out(s, rows, keys, line, answer, v, when.stamp, &fates)
+}
+
+// The settings after a step.
+fn settle(s: Settings, step: Step) -> Served
+    ensures { λ r. ⌜ r ≡ served s step ⌝ }
+{
+    let after = settings::with_progress(s, step.time, step.used as u64, step.next);
     Served {
-        number: 0,
-        len,
+        number: step.number,
+        len: step.len,
         settings: after,
     }
 }
 
-// An action is performed on the table.
+// An action, and the settings after it.
 fn serve_action(
     s: Settings,
     rows: &mut [u64],
@@ -85,11 +155,11 @@ fn serve_action(
     ensures { λ r. ⌜ outcomeFrom r (now (rows .exit)) (now (keys .exit)) (now (answer .exit)) ≡ outcome s (now (rows .entry)) (now (keys .entry)) (now (line .entry)) (now (answer .entry)) ⌝ }
 {
     let state = settings::state_of(s);
-    let step = perform::act(state, rows, keys, line, answer, action, when.judge);
-    settle(s, step, when.stamp)
+    let step = act(state, rows, keys, line, answer, action, when);
+    settle(s, step)
 }
 
-// SWEEP is performed on the table, by the rules.
+// SWEEP by the rules, and the settings after it.
 fn serve_sweep(
     s: Settings,
     rows: &mut [u64],
@@ -103,8 +173,24 @@ fn serve_sweep(
 {
     let state = settings::state_of(s);
     let rules = s.rules;
-    let step = perform::act_sweep(state, rules, rows, keys, line, answer, when.judge);
-    settle(s, step, when.stamp)
+    let step = sweep(state, rules, rows, keys, line, answer, when);
+    settle(s, step)
+}
+
+// DEFAULT and RULE leave the table as it is, whatever it holds.
+fn serve_setting(s: Settings, line: &[u8], answer: &mut [u8], setting: Setting, when: Now) -> Served
+    requires { ⌜ Settable (now line) s setting ⌝ }
+    requires { ⌜ 256 ≤ length (now answer) ⌝ }
+    ensures { λ r. ⌜ ((numbers keys : List ℕ) → Passing s numbers keys (now (line .entry)) (now (answer .entry)) (verb.Set setting) when → outcomeFrom r numbers keys (now (answer .exit)) ≡ outcome s numbers keys (now (line .entry)) (now (answer .entry))) ⌝ }
+{
+    let len = answers::write_answer(answer, Answer::Done);
+    let set = configure::configured(s, line, setting);
+    let after = settings::with_progress(set, when.stamp, s.used, s.next);
+    Served {
+        number: 0,
+        len,
+        settings: after,
+    }
 }
 
 // What asks is judged and answered on the table as it is.
@@ -124,8 +210,8 @@ fn serve_query(
     match judge::judge_query(rows, keys, line, state, query, when) {
         Verdict::Refused(n) => refused(n, s),
         Verdict::Accepted(plan) => {
-            let text = plan.answer;
-            let len = answers::write_answer(answer, text);
+            let shown = plan.answer;
+            let len = answers::write_answer(answer, shown);
             let after = settings::with_progress(s, when.stamp, s.used, s.next);
             Served {
                 number: 0,
@@ -172,5 +258,5 @@ pub fn serve(
     if bucket::is_whole(s, rows, keys) {
         return serve_whole(s, rows, keys, line, answer);
     }
-    refused(1, s)
+    refused(model::UNSOUND, s)
 }

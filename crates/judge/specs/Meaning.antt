@@ -15,9 +15,10 @@ use Rattle.lifecycle.specs.Fates.{fatesIn}
 use Rattle.answers.specs.Meaning.{textOf, Printable}
 use Rattle.judge.specs.declared.Change.{Change}
 use Rattle.judge.specs.declared.Change.the-variants.{Keep, Insert, Rewrite, Remove, Sweep}
+use Rattle.judge.specs.declared.Plan.{Plan}
 use Rattle.judge.specs.declared.Verdict.{Verdict}
 use Rattle.judge.specs.declared.Verdict.the-variants.{Refused, Accepted}
-use Rattle.outcome.specs.Decision.{Decision, refuses, does}
+use Rattle.outcome.specs.Decision.{Effect, Decision, refuses, does}
 
 -- ## Verdicts
 
@@ -48,9 +49,13 @@ changeTakes (Rewrite i n) = 0
 changeTakes (Remove i) = 0
 changeTakes (Sweep gone new) = new
 
+-- what a plan leaves in the table, the version numbers that it takes, and its answer
+abbrev pub planMeans : Judged → List Row → Plan → Effect
+planMeans j xs p = record { rows = changeMeans j xs (p .change); taken = changeTakes (p .change); text = textOf (p .answer) }
+
 abbrev pub verdictMeans : Judged → List Row → Verdict → Decision
 verdictMeans j xs (Refused n) = refuses n
-verdictMeans j xs (Accepted p) = does (record { rows = changeMeans j xs (p .change); taken = changeTakes (p .change); text = textOf (p .answer) })
+verdictMeans j xs (Accepted p) = does (planMeans j xs p)
 
 -- ## What a plan needs
 

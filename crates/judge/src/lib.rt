@@ -9,12 +9,12 @@ use fields::Retention;
 use fields::Terms;
 use fields::Version;
 use locks::NewLock;
-use settings::State;
 use request::Action;
 use request::Name;
 use request::Query;
 use search::Found;
 use settings::Rule;
+use settings::State;
 use table::Numbers;
 use text::Place;
 ghost use mathlib.Core.Path.{_≡_};
@@ -83,10 +83,10 @@ fn row_refusal(keys: &[u8], s: State) -> u64
     ensures { λ r. ⌜ r ≡ rowRefusal (capacity (now (keys .entry))) (s .used) (s .next) ⌝ }
 {
     if s.next == model::SPENT {
-        return 11;
+        return model::NUMBERS_SPENT;
     }
     if keys.len() / 64 <= s.used {
-        return 12;
+        return model::TABLE_FULL;
     }
     0
 }
@@ -133,7 +133,7 @@ fn marker_numbers(number: u64, instant: u64) -> Numbers
 {
     Numbers {
         number,
-        kind: 2,
+        kind: model::MARKER,
         created: instant,
         body: 0,
         size: 0,
@@ -162,7 +162,7 @@ fn judge_new(
     let retention = terms.retention;
     let hold = terms.hold;
     let NewLock::Lock(mode, until) = locks::new_lock(s, retention, instant) else {
-        return Verdict::Refused(10);
+        return Verdict::Refused(model::DATE_TOO_LATE);
     };
     let refusal = row_refusal(keys, s);
     if refusal != 0 {
@@ -171,7 +171,7 @@ fn judge_new(
     let at = place_for(rows, keys, s, text::part(line, key));
     let n = Numbers {
         number: s.next,
-        kind: 1,
+        kind: model::DATA,
         created: instant,
         body,
         size,
@@ -231,7 +231,7 @@ fn judge_retain(
                     answer: Answer::Done,
                 });
             }
-            Verdict::Refused(9)
+            Verdict::Refused(model::LOCKED)
         }
     }
 }
@@ -330,10 +330,10 @@ fn judge_delete(
         Named::Refused(refusal) => Verdict::Refused(refusal),
         Named::Row(i, n) => {
             if locks::is_locked(n, instant, bypass) {
-                return Verdict::Refused(9);
+                return Verdict::Refused(model::LOCKED);
             }
             let change = Change::Remove(i);
-            if n.kind == 2 {
+            if n.kind == model::MARKER {
                 return Verdict::Accepted(Plan {
                     change,
                     answer: Answer::RemovedMarker(version),
@@ -366,10 +366,10 @@ pub fn judge_sweep(
     let gone = n.removed;
     let new = n.added;
     if model::SPENT < s.next + new as u64 {
-        return Verdict::Refused(11);
+        return Verdict::Refused(model::NUMBERS_SPENT);
     }
     if keys.len() / 64 < used - gone + new {
-        return Verdict::Refused(12);
+        return Verdict::Refused(model::TABLE_FULL);
     }
     Verdict::Accepted(Plan {
         change: Change::Sweep(gone, new),

@@ -1,9 +1,9 @@
 // The row that a line names. The definitions are in specs/Named.antt.
 use crate::Named;
 use fields::Version;
-use settings::State;
 use request::Name;
 use search::Found;
+use settings::State;
 ghost use mathlib.Core.Path.{_≡_};
 ghost use Rattle.table.specs.Layout.{rowsOf};
 ghost use Rattle.search.specs.Searching.{Searchable};
@@ -35,7 +35,7 @@ pub fn row_named(rows: &[u64], keys: &[u8], line: &[u8], s: State, name: Name) -
     let found = find_named(rows, keys, used, text::part(line, key), version);
     match found {
         Found::At(i) => Named::Row(i, table::numbers_at(rows, i)),
-        Found::Place(_) => Named::Refused(7),
+        Found::Place(_) => Named::Refused(model::NO_ROW),
     }
 }
 
@@ -48,8 +48,8 @@ pub fn data_named(rows: &[u64], keys: &[u8], line: &[u8], s: State, name: Name) 
     match row_named(rows, keys, line, s, name) {
         Named::Refused(refusal) => Named::Refused(refusal),
         Named::Row(i, n) => {
-            if n.kind == 2 {
-                return Named::Refused(8);
+            if n.kind == model::MARKER {
+                return Named::Refused(model::IS_MARKER);
             }
             Named::Row(i, n)
         }

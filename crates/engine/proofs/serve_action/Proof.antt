@@ -1,5 +1,5 @@
 -- `serve_action` meets its contract: each way through it is one of the cited laws.
-use Rattle.engine.proofs.Serving.{actions}
+use Rattle.engine.proofs.Serving.{acted-lines}
 use borrow.Author.Needs.{needs}
 use Rattle.engine.proofs.serve_action.Statement.{statement}
 use Rattle.engine.proofs.serve_action.Tie as tie
@@ -9,9 +9,9 @@ serve-action-spec =
     tie.close
     (tie.spec
     (λ c κs. search needs)
-    (λ c κs. search (needs, actions))
+    (λ c κs. search (needs, acted-lines))
     (λ c κs. search needs)
     (λ c. search needs)
     (λ c. search needs)
     (λ c. search needs)
-    (λ c. search (needs, actions)))
+    (λ c. search (needs, acted-lines)))

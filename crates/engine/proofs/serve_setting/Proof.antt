@@ -1,5 +1,5 @@
 -- `serve_setting` meets its contract.
-use Rattle.engine.proofs.Settling.{sets-done}
+use Rattle.engine.proofs.Serving.{set-done}
 use borrow.Author.Needs.{needs}
 use Rattle.engine.proofs.serve_setting.Statement.{statement}
 use Rattle.engine.proofs.serve_setting.Tie as tie
@@ -12,4 +12,4 @@ serve-setting-spec =
     (λ c κs. search needs)
     (λ c κs. search needs)
     (λ c. search needs)
-    (λ c. search (needs, sets-done)))
+    (λ c. search (needs, set-done)))

@@ -1,5 +1,5 @@
 -- `serve_sweep` meets its contract: each way through it is one of the cited laws.
-use Rattle.engine.proofs.Serving.{sweeps}
+use Rattle.engine.proofs.Serving.{swept-lines}
 use borrow.Author.Needs.{needs}
 use Rattle.engine.proofs.serve_sweep.Statement.{statement}
 use Rattle.engine.proofs.serve_sweep.Tie as tie
@@ -9,9 +9,9 @@ serve-sweep-spec =
     tie.close
     (tie.spec
     (λ c κs. search needs)
-    (λ c κs. search (needs, sweeps))
+    (λ c κs. search (needs, swept-lines))
     (λ c κs. search needs)
     (λ c. search needs)
     (λ c. search needs)
     (λ c. search needs)
-    (λ c. search (needs, sweeps)))
+    (λ c. search (needs, swept-lines)))

@@ -3,7 +3,7 @@ use request::Setting;
 use settings::Settings;
 ghost use mathlib.Core.Path.{_≡_};
 ghost use Rattle.request.specs.Meaning.{settingMeans};
-ghost use Rattle.configure.specs.Configured.{Settable, configuredBy};
+ghost use Rattle.engine.specs.Configured.{Settable, configuredBy};
 
 // The settings with what DEFAULT or RULE sets.
 pub fn configured(s: Settings, line: &[u8], setting: Setting) -> Settings

@@ -24,7 +24,7 @@ use Rattle.request.specs.declared.Setting.{Setting}
 use Rattle.request.specs.declared.Setting.the-variants as setting
 use Rattle.fields.specs.Meaning.{modeMeans, periodMeans, Inside}
 use Rattle.request.specs.Meaning.{settingMeans}
-use Rattle.configure.specs.Configured.{Settable, configuredBy}
+use Rattle.engine.specs.Configured.{Settable, configuredBy}
 
 module _ (s r : Settings) (line : List ℕ) (x : Setting) where
   pub default-set : (m : Mode) (p : Period) (mode count unit : ℕ) → x ≡ setting.Default m p → Settable line s x

@@ -1,8 +1,8 @@
 -- `configured` meets its contract: each way through it is one of the cited laws.
-use Rattle.configure.proofs.Configuring.{sets}
+use Rattle.engine.proofs.Configuring.{sets}
 use borrow.Author.Needs.{needs}
-use Rattle.configure.proofs.configured.Statement.{statement}
-use Rattle.configure.proofs.configured.Tie as tie
+use Rattle.engine.proofs.configure.configured.Statement.{statement}
+use Rattle.engine.proofs.configure.configured.Tie as tie
 
 pub configured-spec : {M : Type 1} → statement M
 configured-spec =

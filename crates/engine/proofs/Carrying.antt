@@ -1,0 +1,106 @@
+-- A verdict carried out: what is returned and left is its decision, done.
+use Prim.Native.Nat.{ℕ, _+_}
+use mathlib.Core.Path.{_≡_, sym, _∙_, ap}
+use mathlib.Core.Bool.{true}
+use mathlib.Core.List.{List, _++_}
+use mathlib.Core.Option.{none}
+use native.Mathlib.Omega.{arith}
+use lib.ListN.{length, drop}
+use Rattle.buffers.specs.Writes.{Wrote}
+use Rattle.model.specs.Requests.{Verb, settingOf}
+use Rattle.model.specs.Effects.{configAfter}
+use Rattle.settings.specs.declared.Settings.{Settings}
+use Rattle.settings.specs.declared.State.{State}
+use Rattle.settings.specs.Meaning.{settingsMean, settingsFrom, prefixesAre}
+use Rattle.settings.specs.Changes.{withProgress}
+use Rattle.settings.proofs.Back.{means-back}
+use Rattle.table.specs.Layout.{rowsOf, capacity, Holds}
+use Rattle.table.proofs.Held.{rows-length}
+use Rattle.answers.specs.declared.Answer.{Answer}
+use Rattle.answers.specs.Meaning.{textOf, Printable}
+use Rattle.judge.specs.declared.Change.{Change}
+use Rattle.judge.specs.declared.Plan.{Plan}
+use Rattle.judge.specs.declared.Verdict.{Verdict}
+use Rattle.judge.specs.declared.Verdict.the-variants as verdict
+use Rattle.judge.specs.Meaning.{planMeans, Feasible}
+use Rattle.judge.specs.State.{rowsIn}
+use Rattle.apply.specs.declared.Progress.{Progress}
+use Rattle.apply.specs.Applied.{judged, Applicable, Applied}
+use Rattle.outcome.specs.Decision.{Effect}
+use Rattle.outcome.specs.Outcome.{refused, written}
+use Rattle.outcome.specs.Steps.{settingsAfter, carried}
+use Rattle.engine.specs.declared.Served.{Served}
+use Rattle.engine.specs.declared.Step.{Step}
+use Rattle.engine.specs.Served.{outcomeFrom, served, Carriable, CarriedOut}
+
+-- ## Outcomes by their parts
+
+-- A refusal of the code.
+pub refused-is : (r : Served) (k : ℕ) (s : Settings) (n b a : List ℕ) → r .number ≡ k → r .len ≡ 0 → r .settings ≡ s → outcomeFrom r n b a ≡ refused k s n b a
+refused-is r k s n b a e f g = rw (e, f, g)
+
+same-outcome : (l m : ℕ) (s t : Settings) (n n′ b b′ a a′ : List ℕ) → l ≡ m → s ≡ t → n ≡ n′ → b ≡ b′ → a ≡ a′
+    → outcomeFrom (record { number = 0; len = l; settings = s }) n b a ≡ outcomeFrom (record { number = 0; len = m; settings = t }) n′ b′ a′
+same-outcome l m s t n n′ b b′ a a′ e1 e2 e3 e4 e5 = rw (e1, e2, e3, e4, e5)
+
+-- An effect, carried out.
+pub carried-is : (s : Settings) (b : List ℕ) (now : ℕ) (v : Verb) (a : List ℕ) (e : Effect) (len : ℕ) (after : Settings) (n′ b′ a′ : List ℕ) → Wrote a 0 (e .text) 256 a′ len
+    → after ≡ settingsFrom (settingsAfter (settingsMean s) now (e .taken) v) (length (e .rows)) → Holds (capacity b) (e .rows) n′ b′
+    → outcomeFrom (record { number = 0; len = len; settings = after }) n′ b′ a′ ≡ carried s b now v a e
+carried-is s b now v a e len after n′ b′ a′ w q h =
+    let z : 0 + length (e .text) ≡ length (e .text) = omega arith in
+    same-outcome len (length (e .text)) after _ n′ _ b′ _ a′ (written (e .text) a)
+    (omega (arith, w .next))
+    q
+    (h .numbers-are)
+    (h .keys-are)
+    (w .holds ∙ ap (λ (k : ℕ). e .text ++ drop k a) z)
+
+-- An effect that keeps the rows and takes no number leaves the buffers as they are.
+pub kept-is : (s : Settings) (n b : List ℕ) (now : ℕ) (v : Verb) (a : List ℕ) (e : Effect) (len : ℕ) (after : Settings) (a′ : List ℕ) → Wrote a 0 (e .text) 256 a′ len
+    → after ≡ settingsFrom (record { time = now; next = s .next; config = configAfter (settingsMean s .config) v }) (s .used) → Holds (capacity b) (rowsOf n b (s .used)) n b
+    → e .rows ≡ rowsOf n b (s .used) → e .taken ≡ 0 → outcomeFrom (record { number = 0; len = len; settings = after }) n b a′ ≡ carried s b now v a e
+kept-is s n b now v a e len after a′ w q h er et =
+    let z : s .next + 0 ≡ s .next = omega arith in
+    carried-is s b now v a e len after n b a′ w (rw (er, et, z, rows-length n b (s .used)) q) (rw er h)
+
+-- The settings after a step.
+pub settle-done : (s : Settings) (x : Step) (after : Settings) → after ≡ withProgress s (x .time) (x .used) (x .next) → record { number = x .number; len = x .len; settings = after } ≡ served s x
+settle-done s x after e = rw e
+
+-- ## A verdict
+
+-- The settings, where the verb sets nothing: now, the used rows and the next number.
+pub settings-after : (s : Settings) (v : Verb) (now used next : ℕ) → settingOf v ≡ none → prefixesAre (s .rules) ≡ true
+    → withProgress s now used next ≡ settingsFrom (record { time = now; next = next; config = configAfter (settingsMean s .config) v }) used
+unfolding configAfter
+settings-after s v now used next e h = rw e (sym (means-back (withProgress s now used next) h))
+
+module _ (s : State) (n b line a : List ℕ) (o : Verdict) (now : ℕ) (fates : List ℕ) where
+  pub verdict-refused : (k : ℕ) → o ≡ verdict.Refused k → CarriedOut s n b line a o now fates (record { number = k; len = 0; time = s .time; used = s .used; next = s .next }) n b a
+  verdict-refused k e = record { is = λ t v q h c. rw (e, q) }
+
+  module _ (p : Carriable s n b line a o now fates) (plan : Plan) (e : o ≡ verdict.Accepted plan) where
+    feasible : Feasible (judged line (s .next) now fates) (capacity b) (rowsIn s n b) (verdict.Accepted plan)
+    feasible = rw e at (p .feasible)
+
+    pub plan-can : Applicable (judged line (s .next) now fates) n b (s .used) (plan .change)
+    plan-can =
+        let r = p .ready in
+        record { held = r .holds; can = feasible .0; small = r .capacity-fits; used-small = omega (arith, r .used-fits, r .capacity-fits); next-fits = r .next-fits }
+
+    pub plan-prints : Printable (plan .answer)
+    plan-prints = feasible .1
+
+    pub plan-done : (change : Change) (text : Answer) (n′ b′ a′ : List ℕ) (g : Progress) (len : ℕ) → plan .change ≡ change → plan .answer ≡ text
+        → Applied (judged line (s .next) now fates) (capacity b) (rowsOf n b (s .used)) change n′ b′ g → Wrote a 0 (textOf text) 256 a′ len
+        → CarriedOut s n b line a o now fates (record { number = 0; len = len; time = now; used = g .used; next = g .next }) n′ b′ a′
+    plan-done change text n′ b′ a′ g len pc pt d w =
+        record {
+          is = λ t v q h c. let i = rw q at d in
+              rw (e, pc, pt) (carried-is t b now v a (planMeans (judged line (t .next) now fates) (rowsOf n b (t .used)) (record { change = change; answer = text })) len (withProgress t now (g .used) (g .next)) n′ b′ a′ w
+              (rw (i .used-is, i .next-is) (settings-after t v now _ _ c h))
+              (i .held));
+        }
+
+pub ruleset verdicts = (verdict-refused, plan-can, plan-prints, plan-done)
