@@ -26,7 +26,7 @@ use Rattle.outcome.specs.Calls.{Lent, lent}
 use Rattle.bucketrun.specs.declared.Block.{Block}
 use Rattle.bucketrun.specs.declared.Came.{Came}
 use Rattle.bucketrun.specs.declared.Rest.{Rest}
-use Rattle.bucketrun.specs.Program.{leftBy, endOf, endedLines, begunLine, Waiting, waiting, afterBlock, afterBlocks, closed}
+use Rattle.bucketrun.specs.Program.{leftBy, endedLength, endedLines, begunLine, Waiting, waiting, afterBlock, afterBlocks, feedEnded}
 use Rattle.bucketrun.specs.Course.{ServedAll, CameBehind, TookBlock, Startable, BetweenBlocks, Ran}
 use Rattle.bucketrun.proofs.Lines.{rest-none, none-take, closed-some, closed-lines}
 use Rattle.bucketrun.proofs.Cutting.{blocks-left}
@@ -54,7 +54,7 @@ module _ (input : List ℕ) (kept : ℕ) (ys : List ℕ) (h : kept < length inpu
 
   pub came-none : kept ≡ 0 → CameBehind input kept (putMid kept (length input - kept) input ys) (record { end = 0; over = true })
   came-none e =
-      record { span = record { from = omega arith; to = omega arith }; stays = filled-stays; ends = λ x. sym (ap (λ (k : ℕ). closed (take k input)) e) }
+      record { span = record { from = omega arith; to = omega arith }; stays = filled-stays; ends = λ x. sym (ap (λ (k : ℕ). feedEnded (take k input)) e) }
 
   pub came-end : (kept ≡ 0 → ⊥) → CameBehind input kept (set (putMid kept (length input - kept) input ys) kept 10) (record { end = kept + 1; over = true })
   came-end q =
@@ -121,7 +121,7 @@ module _ (h : Lent) (input : List ℕ) (end : ℕ) (l : end ≤ length input) (r
     where
       taken : r .told ≡ true → waiting (lent (r .settings) n′ b′) (take k input′) ≡ afterBlock (waiting h []) (take end input)
       taken t =
-          let a : r .served ≡ endOf (take end input) = block-served .all t in
+          let a : r .served ≡ endedLength (take end input) = block-served .all t in
           let f : Wrote input 0 (begunLine (take end input)) 513 input′ k = rw a at e in
           ap (λ (x : Lent). waiting x (take k input′)) (block-served .through .leads ∙ ap (λ (j : ℕ). leftBy h (linesOf (take j (take end input)))) a)
           ∙ ap (waiting (leftBy h (endedLines (take end input)))) (kept-begun input end input′ k f)
@@ -205,7 +205,7 @@ module _ (h : Lent) (input₀ n₀ b₀ out₀ : List ℕ) (s : Settings) (input
               ∙ sym (after-more (waiting h []) (g .blocks) (take (a .end - kept) (drop kept filled)));
           servable = record { is-whole = d .is-whole; long = lo ∙ g .servable .long };
           few = d .few;
-          no-feed = ap (λ (w : Waiting). contains (w .begun) 10) q ∙ none-take 513 (drop (endOf (take (a .end) filled)) (take (a .end) filled)) (rest-none (take (a .end) filled));
+          no-feed = ap (λ (w : Waiting). contains (w .begun) 10) q ∙ none-take 513 (drop (endedLength (take (a .end) filled)) (take (a .end) filled)) (rest-none (take (a .end) filled));
           input-long = li ∙ lf ∙ g .input-long;
           input-same = li ∙ lf ∙ g .input-same;
           numbers-same = ln ∙ g .numbers-same;

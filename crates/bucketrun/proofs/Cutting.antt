@@ -17,7 +17,7 @@ use Rattle.request.specs.Grammar.{requestIn, readLine}
 use Rattle.outcome.specs.Outcome.{Outcome}
 use Rattle.outcome.specs.Calls.{Lent, leaves}
 use Rattle.outcome.specs.Printed.{printedOf}
-use Rattle.bucketrun.specs.Program.{answerRoom, servedLine, leftBy, printedBy, endOf, endedLines, begunLine, waiting, afterBlocks, printedBlocks, joined, CutAnywhere}
+use Rattle.bucketrun.specs.Program.{answerRoom, servedLine, leftBy, printedBy, endedLength, endedLines, begunLine, waiting, afterBlocks, printedBlocks, joined, CutAnywhere}
 use Rattle.bucketrun.proofs.Lines.{end-cut, end-most, rest-none, none-take, lines-append, lines-begun}
 use Rattle.bucketrun.proofs.Outcomes.{same-read}
 
@@ -70,23 +70,23 @@ module _ (h : Lent) (s u : List ℕ) (e : contains s 10 ≡ false) where
 -- ## Blocks
 
 -- The lines of a text are those that end in it, and those of the rest with what comes behind it.
-text-lines : (t u : List ℕ) → linesOf (t ++ u) ≡ endedLines t ++ linesOf (drop (endOf t) t ++ u)
+text-lines : (t u : List ℕ) → linesOf (t ++ u) ≡ endedLines t ++ linesOf (drop (endedLength t) t ++ u)
 text-lines t u =
-    let n : length (take (endOf t) t) ≡ endOf t = length-take-le (endOf t) t (end-most t) in
-    ap (λ (x : List ℕ). linesOf (x ++ u)) (sym (take-append-drop (endOf t) t))
-    ∙ ap linesOf (append-assoc (take (endOf t) t) (drop (endOf t) t) u)
-    ∙ lines-append (take (endOf t) t) (drop (endOf t) t ++ u) (end-cut t ∙ sym n)
+    let n : length (take (endedLength t) t) ≡ endedLength t = length-take-le (endedLength t) t (end-most t) in
+    ap (λ (x : List ℕ). linesOf (x ++ u)) (sym (take-append-drop (endedLength t) t))
+    ∙ ap linesOf (append-assoc (take (endedLength t) t) (drop (endedLength t) t) u)
+    ∙ lines-append (take (endedLength t) t) (drop (endedLength t) t ++ u) (end-cut t ∙ sym n)
 
 block-printed : (h : Lent) (t u : List ℕ) → printedBy h (endedLines t) ++ printedBy (leftBy h (endedLines t)) (linesOf (begunLine t ++ u)) ≡ printedBy h (linesOf (t ++ u))
 block-printed h t u =
-    ap (λ (x : List ℕ). printedBy h (endedLines t) ++ x) (cut-printed (leftBy h (endedLines t)) (drop (endOf t) t) u (rest-none t))
-    ∙ sym (printed-append h (endedLines t) (linesOf (drop (endOf t) t ++ u)))
+    ap (λ (x : List ℕ). printedBy h (endedLines t) ++ x) (cut-printed (leftBy h (endedLines t)) (drop (endedLength t) t) u (rest-none t))
+    ∙ sym (printed-append h (endedLines t) (linesOf (drop (endedLength t) t ++ u)))
     ∙ ap (printedBy h) (sym (text-lines t u))
 
 block-left : (h : Lent) (t u : List ℕ) → leftBy (leftBy h (endedLines t)) (linesOf (begunLine t ++ u)) ≡ leftBy h (linesOf (t ++ u))
 block-left h t u =
-    cut-left (leftBy h (endedLines t)) (drop (endOf t) t) u (rest-none t)
-    ∙ sym (left-append h (endedLines t) (linesOf (drop (endOf t) t ++ u)))
+    cut-left (leftBy h (endedLines t)) (drop (endedLength t) t) u (rest-none t)
+    ∙ sym (left-append h (endedLines t) (linesOf (drop (endedLength t) t ++ u)))
     ∙ ap (leftBy h) (sym (text-lines t u))
 
 blocks-printed : (h : Lent) (begun : List ℕ) (xs : List (List ℕ)) → printedBlocks (waiting h begun) xs ≡ printedBy h (linesOf (begun ++ joined xs))

@@ -13,7 +13,7 @@ use Rattle.text.specs.Fields.{onFirst}
 use Rattle.text.specs.Lines.{linesOf, feedAt}
 use Rattle.text.specs.Keys.{contains}
 use Rattle.text.proofs.Lines.{lines-next}
-use Rattle.bucketrun.specs.Program.{endOf, endedLines, closed}
+use Rattle.bucketrun.specs.Program.{endedLength, endedLines, feedEnded}
 
 -- ## Texts without a line feed
 
@@ -37,7 +37,7 @@ none-take zero s e = refl
 none-take (suc n) [] e = refl
 none-take (suc n) (b ∷ s) e = let p = or-none (eqb b 10) (contains s 10) e in rw (p .0) (none-take n s (p .1))
 
-pub none-end : (s : List ℕ) → contains s 10 ≡ false → endOf s ≡ 0
+pub none-end : (s : List ℕ) → contains s 10 ≡ false → endedLength s ≡ 0
 none-end [] e = refl
 none-end (b ∷ s) e = rw e
 
@@ -52,14 +52,14 @@ some-left (b ∷ s) u e =
 -- ## The last line feed
 
 -- Where it ends the text, that has one.
-some-ended : (b : ℕ) (s : List ℕ) (k : ℕ) → endOf (b ∷ s) ≡ suc k → (contains (b ∷ s) 10 ≡ true) × (endOf s ≡ k)
+some-ended : (b : ℕ) (s : List ℕ) (k : ℕ) → endedLength (b ∷ s) ≡ suc k → (contains (b ∷ s) 10 ≡ true) × (endedLength s ≡ k)
 some-ended b s k e =
     elim (either (contains (b ∷ s) 10)) [
-      | inl t ↦ (t, let z : suc (endOf s) ≡ suc k = rw t at e in omega arith)
+      | inl t ↦ (t, let z : suc (endedLength s) ≡ suc k = rw t at e in omega arith)
       | inr t ↦ let z : 0 ≡ suc k = rw t at e in absurd (omega arith)
     ]
 
-pub end-most : (s : List ℕ) → endOf s ≤ length s
+pub end-most : (s : List ℕ) → endedLength s ≤ length s
 end-most [] = omega arith
 end-most (b ∷ s) =
     elim (either (contains (b ∷ s) 10)) [
@@ -67,7 +67,7 @@ end-most (b ∷ s) =
       | inr t ↦ rw t (omega arith)
     ]
 
-pub rest-none : (s : List ℕ) → contains (drop (endOf s) s) 10 ≡ false
+pub rest-none : (s : List ℕ) → contains (drop (endedLength s) s) 10 ≡ false
 rest-none [] = refl
 rest-none (b ∷ s) =
     elim (either (contains (b ∷ s) 10)) [
@@ -75,7 +75,7 @@ rest-none (b ∷ s) =
       | inr t ↦ simp t
     ]
 
-some-cut : (s : List ℕ) → contains s 10 ≡ true → contains (take (endOf s) s) 10 ≡ true
+some-cut : (s : List ℕ) → contains s 10 ≡ true → contains (take (endedLength s) s) 10 ≡ true
 some-cut [] e = e
 some-cut (b ∷ s) e =
     elim (either (eqb b 10)) [
@@ -83,16 +83,16 @@ some-cut (b ∷ s) e =
       | inr t ↦ rw (e, t) (some-cut s (rw t at e))
     ]
 
-cut-long : (b : ℕ) (s : List ℕ) → contains (b ∷ s) 10 ≡ true → take (endOf (b ∷ s)) (b ∷ s) ≡ b ∷ take (endOf s) s
+cut-long : (b : ℕ) (s : List ℕ) → contains (b ∷ s) 10 ≡ true → take (endedLength (b ∷ s)) (b ∷ s) ≡ b ∷ take (endedLength s) s
 cut-long b s e = rw e
 
-pub end-cut : (s : List ℕ) → endOf (take (endOf s) s) ≡ endOf s
+pub end-cut : (s : List ℕ) → endedLength (take (endedLength s) s) ≡ endedLength s
 end-cut [] = refl
 end-cut (b ∷ s) =
     elim (either (contains (b ∷ s) 10)) [
       | inl t ↦
-          let x : contains (b ∷ take (endOf s) s) 10 ≡ true = rw t at (some-cut (b ∷ s) t) in
-          ap endOf (cut-long b s t) ∙ rw (x, t) (ap suc (end-cut s))
+          let x : contains (b ∷ take (endedLength s) s) 10 ≡ true = rw t at (some-cut (b ∷ s) t) in
+          ap endedLength (cut-long b s t) ∙ rw (x, t) (ap suc (end-cut s))
       | inr t ↦ simp t
     ]
 
@@ -101,7 +101,7 @@ end-cut (b ∷ s) =
 first-append : (b : ℕ) (f : List ℕ) (fs gs hs : List (List ℕ)) → gs ≡ f ∷ fs → onFirst b (gs ++ hs) ≡ onFirst b gs ++ hs
 first-append b f fs gs hs e = rw e
 
-pub lines-append : (s u : List ℕ) → endOf s ≡ length s → linesOf (s ++ u) ≡ linesOf s ++ linesOf u
+pub lines-append : (s u : List ℕ) → endedLength s ≡ length s → linesOf (s ++ u) ≡ linesOf s ++ linesOf u
 lines-append [] u e = refl
 lines-append (b ∷ []) u e =
     let p = some-ended b [] 0 e in
@@ -117,7 +117,7 @@ lines-append (b ∷ c ∷ s) u e =
       | inr t ↦ rw t (ap (onFirst b) x ∙ first-append b _ _ (linesOf (c ∷ s)) (linesOf u) (lines-next c s))
     ]
 
-pub end-append : (s u : List ℕ) → endOf s ≡ length s → endOf (s ++ u) ≡ length s + endOf u
+pub end-append : (s u : List ℕ) → endedLength s ≡ length s → endedLength (s ++ u) ≡ length s + endedLength u
 end-append [] u e = omega arith
 end-append (b ∷ s) u e =
     let p = some-ended b s (length s) e in
@@ -126,11 +126,11 @@ end-append (b ∷ s) u e =
 
 -- ## The first line that ends
 
-some-end : (s : List ℕ) (k : ℕ) → endOf s ≡ suc k → contains s 10 ≡ true
+some-end : (s : List ℕ) (k : ℕ) → endedLength s ≡ suc k → contains s 10 ≡ true
 some-end [] k e = absurd (omega arith)
 some-end (b ∷ s) k e = some-ended b s k e .0
 
-pub end-first : (s : List ℕ) → feedAt s < length s → endOf (take (suc (feedAt s)) s) ≡ suc (feedAt s)
+pub end-first : (s : List ℕ) → feedAt s < length s → endedLength (take (suc (feedAt s)) s) ≡ suc (feedAt s)
 end-first [] h = absurd (omega arith)
 end-first (b ∷ s) h =
     elim (either (eqb b 10)) [
@@ -172,7 +172,7 @@ some-last (b ∷ s) =
       | inr t ↦ rw t (some-last s)
     ]
 
-end-last : (s : List ℕ) → endOf (s ++ 10 ∷ []) ≡ length (s ++ 10 ∷ [])
+end-last : (s : List ℕ) → endedLength (s ++ 10 ∷ []) ≡ length (s ++ 10 ∷ [])
 end-last [] = refl
 end-last (b ∷ s) = rw (some-last (b ∷ s)) (ap suc (end-last s))
 
@@ -180,11 +180,11 @@ end-last (b ∷ s) = rw (some-last (b ∷ s)) (ap suc (end-last s))
 line-last : (s : List ℕ) → contains s 10 ≡ false → 0 < length s → linesOf (s ++ 10 ∷ []) ≡ linesOf s
 line-last s e h = lines-begun s (10 ∷ []) e h ∙ sym (lines-begun s [] e h) ∙ ap linesOf (append-nil s)
 
-pub closed-some : (s : List ℕ) → 0 < length s → closed s ≡ s ++ 10 ∷ []
+pub closed-some : (s : List ℕ) → 0 < length s → feedEnded s ≡ s ++ 10 ∷ []
 closed-some [] h = absurd (omega arith)
 closed-some (b ∷ s) h = refl
 
-pub closed-lines : (s : List ℕ) → contains s 10 ≡ false → endedLines (closed s) ≡ linesOf s
+pub closed-lines : (s : List ℕ) → contains s 10 ≡ false → endedLines (feedEnded s) ≡ linesOf s
 closed-lines [] e = refl
 closed-lines (b ∷ s) e =
     ap (λ (k : ℕ). linesOf (take k (b ∷ s ++ 10 ∷ []))) (end-last (b ∷ s))

@@ -23,7 +23,7 @@ use Rattle.engine.specs.declared.Served.{Served}
 use Rattle.engine.specs.Served.{outcomeFrom}
 use Rattle.engine.proofs.Serving.{answer-fits}
 use Rattle.bucketrun.specs.declared.Course.{Course as After}
-use Rattle.bucketrun.specs.Program.{answerRoom, servedLine, leftBy, printedBy, endOf}
+use Rattle.bucketrun.specs.Program.{answerRoom, servedLine, leftBy, printedBy, endedLength}
 use Rattle.bucketrun.specs.Course.{Servable, Through, ServedSome, BetweenLines, ServedAll, BetweenParts}
 use Rattle.bucketrun.proofs.Lines.{none-feed, none-end, end-append, end-first, lines-append, lines-first}
 use Rattle.bucketrun.proofs.Outcomes.{same-left, same-printed, same-behind}
@@ -36,17 +36,17 @@ module _ (h : Lent) (block : List ℕ) where
   through-none s n b w = record { is-whole = w; leads = refl; inside = omega arith; cut = refl }
 
   module _ (i j : ℕ) (s : Settings) (n b : List ℕ) (g : Through h block i s n b) (s′ : Settings) (n′ b′ : List ℕ) (d : Through (lent s n b) (drop i block) j s′ n′ b′) where
-    ended : endOf (take i block) ≡ length (take i block)
-    ended = g .cut ∙ sym (length-take-le i block (g .inside))
+    feedEnded : endedLength (take i block) ≡ length (take i block)
+    feedEnded = g .cut ∙ sym (length-take-le i block (g .inside))
 
     lines-both : linesOf (take (i + j) block) ≡ linesOf (take i block) ++ linesOf (take j (drop i block))
-    lines-both = ap linesOf (take-add i j block) ∙ lines-append (take i block) (take j (drop i block)) ended
+    lines-both = ap linesOf (take-add i j block) ∙ lines-append (take i block) (take j (drop i block)) feedEnded
 
     pub through-both : Through h block (i + j) s′ n′ b′
     through-both =
         let m = length-take-le i block (g .inside) in
         let l = length-drop i block in
-        let e = end-append (take i block) (take j (drop i block)) ended in
+        let e = end-append (take i block) (take j (drop i block)) feedEnded in
         let y = d .inside in
         let z = d .cut in
         record {
@@ -55,7 +55,7 @@ module _ (h : Lent) (block : List ℕ) where
               d .leads ∙ ap (λ (x : Lent). leftBy x (linesOf (take j (drop i block)))) (g .leads)
               ∙ sym (ap (leftBy h) lines-both ∙ left-append h (linesOf (take i block)) (linesOf (take j (drop i block))));
           inside = omega (arith, g .inside);
-          cut = ap endOf (take-add i j block) ∙ omega arith;
+          cut = ap endedLength (take-add i j block) ∙ omega arith;
         }
 
     pub printed-both : printedBy h (linesOf (take (i + j) block)) ≡ printedBy h (linesOf (take i block)) ++ printedBy (lent s n b) (linesOf (take j (drop i block)))
@@ -64,13 +64,13 @@ module _ (h : Lent) (block : List ℕ) where
         ∙ ap (λ (x : Lent). printedBy h (linesOf (take i block)) ++ printedBy x (linesOf (take j (drop i block)))) (sym (g .leads))
 
   -- Behind the last line feed nothing more ends.
-  pub through-all : (i : ℕ) (s : Settings) (n b : List ℕ) → Through h block i s n b → length block ≤ i + feedAt (drop i block) → feedAt (drop i block) ≤ length (drop i block) → i ≡ endOf block
+  pub through-all : (i : ℕ) (s : Settings) (n b : List ℕ) → Through h block i s n b → length block ≤ i + feedAt (drop i block) → feedAt (drop i block) ≤ length (drop i block) → i ≡ endedLength block
   through-all i s n b g q m =
       let t = length-take-le i block (g .inside) in
       let l = length-drop i block in
       let x = none-end (drop i block) (none-feed (drop i block) (omega (arith, g .inside))) in
       let e = end-append (take i block) (drop i block) (g .cut ∙ sym t) in
-      omega (arith, ap endOf (take-append-drop i block))
+      omega (arith, ap endedLength (take-append-drop i block))
 
 -- ## What a line leaves in its part of the output
 
@@ -304,4 +304,4 @@ module _ (h : Lent) (block n₀ b₀ out₀ : List ℕ) (s : Settings) (n b out 
         let t = length-take-le i block (g .inside) in
         let e = end-append (take i block) (drop i block) (g .through .cut ∙ sym t) in
         let x = d .all q in
-        record { through = part-through; all = λ y. omega (arith, on, ap endOf (take-append-drop i block)) }
+        record { through = part-through; all = λ y. omega (arith, on, ap endedLength (take-append-drop i block)) }

@@ -15,7 +15,7 @@ use Rattle.bucketrun.specs.declared.Course.{Course as After}
 use Rattle.bucketrun.specs.declared.Block.{Block}
 use Rattle.bucketrun.specs.declared.Came.{Came}
 use Rattle.bucketrun.specs.declared.Rest.{Rest}
-use Rattle.bucketrun.specs.Program.{leftBy, printedBy, endOf, waiting, afterBlock, afterBlocks, closed, joined}
+use Rattle.bucketrun.specs.Program.{leftBy, printedBy, endedLength, waiting, afterBlock, afterBlocks, feedEnded, joined}
 
 -- ## The lines of a block
 
@@ -29,14 +29,14 @@ pub record Through (h : Lent) (block : List ℕ) (i : ℕ) (s : Settings) (numbe
   pub is-whole : whole s numbers keys ≡ true
   pub leads : lent s numbers keys ≡ leftBy h (linesOf (take i block))
   pub inside : i ≤ length block
-  pub cut : endOf (take i block) ≡ i
+  pub cut : endedLength (take i block) ≡ i
 
 -- Some lines from a place on are served, and what they print stands at the output's start; where there is room for more, they are all that a line feed ends.
 pub record ServedSome (h : Lent) (block : List ℕ) (from : ℕ) (out : List ℕ) (r : After) (numbers keys out′ : List ℕ) : Type 0 where
   pub span : Span from (r .served) (length block)
   pub through : Through h (drop from block) (r .served - from) (r .settings) numbers keys
   pub prints : Wrote out 0 (printedBy h (linesOf (take (r .served - from) (drop from block)))) 131072 out′ (r .at)
-  pub all : r .at ≤ 65536 → r .served - from ≡ endOf (drop from block)
+  pub all : r .at ≤ 65536 → r .served - from ≡ endedLength (drop from block)
 
 -- Between two of them; the lists with ₀ are those that came.
 pub record BetweenLines (h : Lent) (block : List ℕ) (from : ℕ) (numbers₀ keys₀ out₀ : List ℕ) (s : Settings) (numbers keys out : List ℕ) (at i : ℕ) : Type 0 where
@@ -51,7 +51,7 @@ pub record BetweenLines (h : Lent) (block : List ℕ) (from : ℕ) (numbers₀ k
 -- Lines are served and written: all that a line feed ends, where all output was taken.
 pub record ServedAll (h : Lent) (block : List ℕ) (r : Block) (numbers keys : List ℕ) : Type 0 where
   pub through : Through h block (r .served) (r .settings) numbers keys
-  pub all : r .told ≡ true → r .served ≡ endOf block
+  pub all : r .told ≡ true → r .served ≡ endedLength block
 
 -- Between two parts of a block, each of which is written once it is served.
 pub record BetweenParts (h : Lent) (block numbers₀ keys₀ out₀ : List ℕ) (s : Settings) (numbers keys out : List ℕ) (i : ℕ) : Type 0 where
@@ -68,7 +68,7 @@ pub record BetweenParts (h : Lent) (block numbers₀ keys₀ out₀ : List ℕ) 
 pub record CameBehind (input : List ℕ) (kept : ℕ) (exit : List ℕ) (r : Came) : Type 0 where
   pub span : Span kept (r .end) (length input)
   pub stays : take kept exit ≡ take kept input
-  pub ends : r .over ≡ true → take (r .end) exit ≡ closed (take kept input)
+  pub ends : r .over ≡ true → take (r .end) exit ≡ feedEnded (take kept input)
 
 -- A block is served, and the start of a line may be kept: what stands then is what the block leaves, where all output was taken.
 pub record TookBlock (h : Lent) (block : List ℕ) (r : Rest) (numbers keys input′ : List ℕ) : Type 0 where

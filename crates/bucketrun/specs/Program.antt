@@ -33,17 +33,17 @@ printedBy h (l ∷ ls) = printedOf (servedLine h l) ++ printedBy (leaves (served
 -- ## Blocks
 
 -- the bytes up to the last line feed: how many
-abbrev pub endOf : List ℕ → ℕ
-endOf [] = 0
-endOf (b ∷ s) = pick (contains (b ∷ s) 10) (suc (endOf s)) 0
+abbrev pub endedLength : List ℕ → ℕ
+endedLength [] = 0
+endedLength (b ∷ s) = pick (contains (b ∷ s) 10) (suc (endedLength s)) 0
 
 -- the lines that a line feed ends
 abbrev pub endedLines : List ℕ → List (List ℕ)
-endedLines t = linesOf (take (endOf t) t)
+endedLines t = linesOf (take (endedLength t) t)
 
 -- the line that has begun behind the last line feed: its first 513 bytes are kept, which are unreadable like the whole of it
 abbrev pub begunLine : List ℕ → List ℕ
-begunLine t = take 513 (drop (endOf t) t)
+begunLine t = take 513 (drop (endedLength t) t)
 
 -- Between two reads: the bucket, and what is kept of a line that has begun.
 pub record Waiting : Type 0 where
@@ -62,9 +62,9 @@ afterBlocks w [] = w
 afterBlocks w (x ∷ xs) = afterBlocks (afterBlock w x) xs
 
 -- at the input's end a line feed ends the line that has begun, if there is one
-abbrev pub closed : List ℕ → List ℕ
-closed [] = []
-closed (b ∷ s) = b ∷ s ++ 10 ∷ []
+abbrev pub feedEnded : List ℕ → List ℕ
+feedEnded [] = []
+feedEnded (b ∷ s) = b ∷ s ++ 10 ∷ []
 
 -- What blocks print as they are read; at the input's end what is kept is a line.
 abbrev pub printedBlocks : Waiting → List (List ℕ) → List ℕ

@@ -31,7 +31,7 @@ use Rattle.outcome.specs.Outcome.{refused, written}
 use Rattle.outcome.specs.Steps.{settingsAfter, carried}
 use Rattle.engine.specs.declared.Served.{Served}
 use Rattle.engine.specs.declared.Step.{Step}
-use Rattle.engine.specs.Served.{outcomeFrom, served, Carriable, CarriedOut}
+use Rattle.engine.specs.Served.{outcomeFrom, served, CanCarryOut, CarriedOut}
 
 -- ## Outcomes by their parts
 
@@ -80,7 +80,7 @@ module _ (s : State) (n b line a : List ℕ) (o : Verdict) (now : ℕ) (fates : 
   pub verdict-refused : (k : ℕ) → o ≡ verdict.Refused k → CarriedOut s n b line a o now fates (record { number = k; len = 0; time = s .time; used = s .used; next = s .next }) n b a
   verdict-refused k e = record { is = λ t v q h c. rw (e, q) }
 
-  module _ (p : Carriable s n b line a o now fates) (plan : Plan) (e : o ≡ verdict.Accepted plan) where
+  module _ (p : CanCarryOut s n b line a o now fates) (plan : Plan) (e : o ≡ verdict.Accepted plan) where
     feasible : Feasible (judged line (s .next) now fates) (capacity b) (rowsIn s n b) (verdict.Accepted plan)
     feasible = rw e at (p .feasible)
 

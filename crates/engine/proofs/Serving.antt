@@ -56,7 +56,7 @@ use Rattle.outcome.proofs.Deciding.{decide-stop, decide-go, decide-done, outcom
 use Rattle.engine.specs.Configured.{Settable, configuredBy}
 use Rattle.engine.specs.declared.Served.{Served}
 use Rattle.engine.specs.declared.Step.{Step}
-use Rattle.engine.specs.Served.{outcomeFrom, served, Passing, Carriable, CarriedOut, Actable, Acted, SweepAsked, Swept}
+use Rattle.engine.specs.Served.{outcomeFrom, served, Passing, CanCarryOut, CarriedOut, Actable, Acted, SweepAsked, Swept}
 use Rattle.engine.proofs.Ready.{whole-rules, line-says, line-judge, line-stamp, line-ranges, line-asked}
 use Rattle.engine.proofs.Carrying.{refused-is, kept-is, settings-after}
 
@@ -130,7 +130,7 @@ module _ (s : State) (n b line a : List ℕ) (x : Action) (when : Now) (h : Acta
   act-inside = h .inside
 
   module _ (o : Verdict) (fates : List ℕ) (j : JudgesOn s n b line (when .judge) (actionMeans line x) o) where
-    pub act-can : Carriable s n b line a o (when .stamp) fates
+    pub act-can : CanCarryOut s n b line a o (when .stamp) fates
     act-can = rw (h .one-now) (record { ready = h .asked .ready; feasible = (j [] fates) .feasible; room = h .room })
 
     pub act-done : (y : Step) (n′ b′ a′ : List ℕ) → CarriedOut s n b line a o (when .stamp) fates y n′ b′ a′ → Acted s n b line a x when y n′ b′ a′
@@ -163,7 +163,7 @@ module _ (s : State) (rules : List Rule) (n b line a : List ℕ) (when : Now) (h
       record { prefixes = h .prefixes; rules-sound = h .rules-sound; long = omega (arith, h .asked .ready .used-fits, h .asked .ready .capacity-fits) }
 
   module _ (o : Verdict) (fates : List ℕ) (j : (l : List ℕ) → JudgesBy s n b l (when .judge) (rulesMean rules) fates Sweep o) where
-    pub sweep-can : Carriable s n b line a o (when .stamp) fates
+    pub sweep-can : CanCarryOut s n b line a o (when .stamp) fates
     sweep-can = rw (h .one-now) (record { ready = h .asked .ready; feasible = (j line) .feasible; room = h .room })
 
     pub sweep-done : (y : Step) (n′ b′ a′ : List ℕ) → CarriedOut s n b line a o (when .stamp) fates y n′ b′ a′ → Swept s rules n b line a when y n′ b′ a′

@@ -48,7 +48,7 @@ pub record Passing (s : Settings) (numbers keys line answer : List ℕ) (v : Ver
 -- ## A verdict
 
 -- The state is ready, the verdict can be carried out on it, and there is room for the answer.
-pub record Carriable (s : State) (numbers keys line answer : List ℕ) (v : Verdict) (now : ℕ) (fates : List ℕ) : Type 0 where
+pub record CanCarryOut (s : State) (numbers keys line answer : List ℕ) (v : Verdict) (now : ℕ) (fates : List ℕ) : Type 0 where
   pub ready : Ready s numbers keys
   pub feasible : Feasible (judged line (s .next) now fates) (capacity keys) (rowsIn s numbers keys) v
   pub room : 256 ≤ length answer

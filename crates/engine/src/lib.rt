@@ -21,7 +21,7 @@ ghost use Rattle.bucket.specs.Whole.{whole};
 ghost use Rattle.request.specs.declared.Verb.the-variants as verb;
 ghost use Rattle.outcome.specs.Outcome.{outcome};
 ghost use Rattle.engine.specs.Configured.{Settable};
-ghost use Rattle.engine.specs.Served.{outcomeFrom, served, Passing, Carriable, CarriedOut, Actable, Acted, SweepAsked, Swept};
+ghost use Rattle.engine.specs.Served.{outcomeFrom, served, Passing, CanCarryOut, CarriedOut, Actable, Acted, SweepAsked, Swept};
 
 // What a call returns: 0 or the refusal, the answer's length, and the settings afterwards.
 pub struct Served {
@@ -60,7 +60,7 @@ fn carry_out(
     instant: u64,
     fates: &[u8],
 ) -> Step
-    requires { ⌜ Carriable s (now rows) (now keys) (now line) (now answer) v instant (now fates) ⌝ }
+    requires { ⌜ CanCarryOut s (now rows) (now keys) (now line) (now answer) v instant (now fates) ⌝ }
     ensures { λ r. ⌜ CarriedOut s (now (rows .entry)) (now (keys .entry)) (now (line .entry)) (now (answer .entry)) v instant (now (fates .entry)) r (now (rows .exit)) (now (keys .exit)) (now (answer .exit)) ⌝ }
 {
     match v {

@@ -20,7 +20,7 @@ use Rattle.bucket.specs.Whole.{whole}
 use Rattle.bucket.proofs.Whole.{whole-parts}
 use Rattle.outcome.specs.Outcome.{Outcome, refused, refusalOf}
 use Rattle.outcome.proofs.Demands.{accepted-of-whole}
-use Rattle.knitpasture.specs.Bytes.{numbersFrom, ByteOutcome, byteOutcome, outcomeBytes, hubServed, keysFit, FreshOutcome, freshOutcome, hubFresh}
+use Rattle.knitpasture.specs.Bytes.{numbersFrom, ByteOutcome, byteOutcome, outcomeBytes, hubServed, fitRows, FreshOutcome, freshOutcome, hubFresh}
 use Rattle.knitpasture.proofs.Hub.{reads-as, hub-hands-on, hub-range, hub-refused}
 use Rattle.knitpasture.proofs.Fits.{whole-fits}
 use Rattle.knitpasture.proofs.FreshBucket.{fresh-made, reads-fresh}
@@ -188,7 +188,7 @@ fresh-spells c b z =
     rw (k, r .settings-read, r .numbers-read, r .keys-are)
 
 fresh-refused : (b : Bytes) → ((c : ℕ) → Sized c b → ⊥) → freshened b ≡ freshOutcome 1 (b .settings) (b .rows) (b .keys)
-unfolding hubFresh keysFit
+unfolding hubFresh fitRows
 fresh-refused b wrong =
     elim (either (eqb (length (b .settings)) 688)) [
       | inl t ↦ elim (either (eqb (length (b .rows)) (length (b .keys)))) [

@@ -39,7 +39,7 @@ use Rattle.request.specs.Grammar.{nameAt, retentionAt, termsAt, putOf, copyOf, 
 use Rattle.answers.specs.Text.{fieldsText, okText, modeText, untilText, holdText, answerText}
 use Rattle.outcome.specs.Outcome.{Outcome, written, refusalOf, outcome}
 use Rattle.outcome.specs.Printed.{printed}
-use Rattle.knitpasture.specs.Bytes.{numbersFrom, numbersBytes, hubServed, keysFit, hubFresh}
+use Rattle.knitpasture.specs.Bytes.{numbersFrom, numbersBytes, hubServed, fitRows, hubFresh}
 use Rattle.outcome.specs.Calls.{Lent}
 use Rattle.guarantee.specs.Calls.{Call, held, freshLent, served, step}
 use Rattle.guarantee.specs.Lists.{ended, call, lineStep}
@@ -148,7 +148,7 @@ pub record Examples : Type 0 where
   pub no-first-line-only : Demand1 (firstLineOnly (lockedPut ∷ [])) withLocked hold → Demand2 (firstLineOnly (lockedPut ∷ [])) withLocked hold → ⊥
 
 pub examples : Examples
-unfolding fieldOf placeOf isKeyByte isPrefix isKey isDigit digitMore leadingZero numberOf positiveOf digits leap yearsLength monthStart monthLength validDay daysOf guessOf yearOf monthOf dateIn civilOf periodEnd expiresAt dateText printDate digitOf twoDigits fourDigits dayNumber dayAt secondOfDay secondAt fractionDigit milliseconds fractionOf readDate reply added removed rowsAfter setConfig configAfter locked admits halfGiven needs granted lacksRight pastDate missing namesMarker barred tooLate spends full inRange soundRow soundRules soundConfig fits sound defaultEnd blockOf isBlock whole rightsIn readRights readKey readPrefix readVersion readMode readUntil readSwitch readHold readBypass readPeriod nameAt retentionAt termsAt putOf copyOf retainOf setHoldOf deleteOf defaultOf ruleOf sweepOf getOf otherByWord verbByWord requestIn readLine fieldsText okText modeText untilText holdText refusalOf outcome number numbersFrom numbersBytes spelled settingsOf settingsBytes hubServed keysFit hubFresh settingsSound
+unfolding fieldOf placeOf isKeyByte isPrefix isKey isDigit digitMore leadingZero numberOf positiveOf digits leap yearsLength monthStart monthLength validDay daysOf guessOf yearOf monthOf dateIn civilOf periodEnd expiresAt dateText printDate digitOf twoDigits fourDigits dayNumber dayAt secondOfDay secondAt fractionDigit milliseconds fractionOf readDate reply added removed rowsAfter setConfig configAfter locked admits halfGiven needs granted lacksRight pastDate missing namesMarker barred tooLate spends full inRange soundRow soundRules soundConfig fits sound defaultEnd blockOf isBlock whole rightsIn readRights readKey readPrefix readVersion readMode readUntil readSwitch readHold readBypass readPeriod nameAt retentionAt termsAt putOf copyOf retainOf setHoldOf deleteOf defaultOf ruleOf sweepOf getOf otherByWord verbByWord requestIn readLine fieldsText okText modeText untilText holdText refusalOf outcome number numbersFrom numbersBytes spelled settingsOf settingsBytes hubServed fitRows hubFresh settingsSound
 examples =
     record {
       starred = record {

@@ -11,14 +11,14 @@ use Rattle.settings.specs.Meaning.{freshSettings}
 use Rattle.settings.proofs.RoundTrip.{settings-back}
 use Rattle.bucket.specs.Whole.{whole}
 use Rattle.bucket.proofs.Whole.{fresh-whole}
-use Rattle.knitpasture.specs.Bytes.{numbersFrom, freshOutcome, keysFit, hubFresh}
+use Rattle.knitpasture.specs.Bytes.{numbersFrom, freshOutcome, fitRows, hubFresh}
 use Rattle.knitpasture.proofs.Numbers.{zeros-read}
 use Rattle.knitpasture.proofs.Fits.{whole-fits}
 
 -- Rows and keys for c rows.
 module _ (settings rows keys : List ℕ) (c : ℕ) (some : 1 ≤ c) (most : c ≤ 1024) (ls : length settings ≡ 688) (lr : length rows ≡ 64 * c) (lk : length keys ≡ 64 * c) where
   pub fresh-made : hubFresh settings rows keys ≡ freshOutcome 0 (settingsBytes freshSettings) (replicate (64 * c) 0) (replicate (64 * c) 0)
-  unfolding hubFresh keysFit
+  unfolding hubFresh fitRows
   fresh-made =
       let a : length keys % 64 ≡ 0 = omega (arith, lk) in
       let k : length rows ≡ length keys = lr ∙ sym lk in

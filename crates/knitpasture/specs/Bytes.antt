@@ -100,15 +100,15 @@ abbrev pub freshOutcome : ℕ → List ℕ → List ℕ → List ℕ → FreshOu
 freshOutcome n settings rows keys = record { number = n; settings = settings; rows = rows; keys = keys }
 
 -- as many key bytes as 1 to 1024 rows have
-unfoldable pub keysFit : ℕ → Bool
-keysFit n = pick (ltb n 64) false (pick (ltb 65536 n) false (eqb (n % 64) 0))
+unfoldable pub fitRows : ℕ → Bool
+fitRows n = pick (ltb n 64) false (pick (ltb 65536 n) false (eqb (n % 64) 0))
 
 -- The settings are 688 bytes, the keys those of 1 to 1024 rows, and the rows as long as is said; else every buffer stays.
 abbrev pub madeFresh : ℕ → List ℕ → List ℕ → List ℕ → FreshOutcome
 madeFresh long settings rows keys =
     pick (eqb (length settings) 688)
     (pick (eqb (length rows) long)
-    (pick (keysFit (length keys)) (freshOutcome 0 (settingsBytes freshSettings) (replicate (length rows) 0) (replicate (length keys) 0))
+    (pick (fitRows (length keys)) (freshOutcome 0 (settingsBytes freshSettings) (replicate (length rows) 0) (replicate (length keys) 0))
     (freshOutcome 1 settings rows keys))
     (freshOutcome 1 settings rows keys))
     (freshOutcome 1 settings rows keys)

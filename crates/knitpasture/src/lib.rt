@@ -5,7 +5,7 @@ ghost use Prim.Native.Nat.{_*_};
 ghost use lib.ListN.{length, replicate};
 ghost use Rattle.outcome.specs.Outcome.{outcome};
 ghost use Rattle.knitpasture.specs.Lent.{lentOutcome, lentOutcomeFrom};
-ghost use Rattle.knitpasture.specs.Bytes.{numbersFrom, numbersBytes, byteOutcome, wordsServed, spelledServed, hubServed, spelledKey, hubKey, freshOutcome, keysFit, wordsFresh, hubFresh};
+ghost use Rattle.knitpasture.specs.Bytes.{numbersFrom, numbersBytes, byteOutcome, wordsServed, spelledServed, hubServed, spelledKey, hubKey, freshOutcome, fitRows, wordsFresh, hubFresh};
 
 // Serves a line on settings that are lent and altered here, and returns 0 or the refusal.
 #[no_mangle]
@@ -168,8 +168,8 @@ pub extern "C" fn knitpasture_key(settings: &[u8], rows: &[u8], keys: &[u8], at:
 }
 
 // Whether as many key bytes are those of 1 to 1024 rows.
-fn keys_fit(n: usize) -> bool
-    ensures { λ r. ⌜ r ≡ keysFit n ⌝ }
+fn fit_rows(n: usize) -> bool
+    ensures { λ r. ⌜ r ≡ fitRows n ⌝ }
 {
     if n < 64 {
         return false;
@@ -211,7 +211,7 @@ pub extern "C" fn knitpasture_fresh_words(
     if rows.len() != keys.len() / 8 {
         return 1;
     }
-    if !keys_fit(keys.len()) {
+    if !fit_rows(keys.len()) {
         return 1;
     }
     settings::encode(settings::fresh(), settings);
@@ -231,7 +231,7 @@ pub extern "C" fn knitpasture_fresh(settings: &mut [u8], rows: &mut [u8], keys: 
     if rows.len() != keys.len() {
         return 1;
     }
-    if !keys_fit(keys.len()) {
+    if !fit_rows(keys.len()) {
         return 1;
     }
     settings::encode(settings::fresh(), settings);

@@ -24,8 +24,8 @@ timeAfter [] = 0
 timeAfter (e ∷ es) = max (e .request .context .clock) (timeAfter es)
 
 -- The line's now, from which creation and dates are taken.
-abbrev pub nowAt : Event → ℕ
-nowAt e = (nowOf (e .before) (e .request .context)) .stamp
+abbrev pub lineNow : Event → ℕ
+lineNow e = (nowOf (e .before) (e .request .context)) .stamp
 
 -- ## Names
 
@@ -51,10 +51,10 @@ answers v e = e .answered v
 
 -- *Made with* (01), by what the versions before the line were made with: a PUT gives body and length, in a COPY they are those its source version was made with.
 abbrev pub makingBy : (ℕ → Option Making) → Event → Verb → Option Making
-makingBy earlier e (Put k body size t) = some (record { key = k; body = body; size = size; created = nowAt e })
+makingBy earlier e (Put k body size t) = some (record { key = k; body = body; size = size; created = lineNow e })
 makingBy earlier e (Copy n k t) =
     thenSome (rowOf (e .before .rows) n) none (λ x.
-    thenSome (earlier (x .number)) none (λ m. some (record { key = k; body = m .body; size = m .size; created = nowAt e })))
+    thenSome (earlier (x .number)) none (λ m. some (record { key = k; body = m .body; size = m .size; created = lineNow e })))
 makingBy earlier e (Retain n r y) = none
 makingBy earlier e (Hold n on) = none
 makingBy earlier e (AddMarker k y) = none
@@ -84,7 +84,7 @@ makes early v e = answers v e && not (isSome (madeWith early v))
 abbrev pub gives : ℕ → ℕ → Event → Retention → Bool
 gives mode d e r =
     (isThe mode (r .mode) && isThe d (r .date))
-    || (not (isSome (r .mode)) && (eqb (e .before .settings .config .default .mode) mode && eqb (defaultEnd (e .before .settings .config) (nowAt e)) d))
+    || (not (isSome (r .mode)) && (eqb (e .before .settings .config .default .mode) mode && eqb (defaultEnd (e .before .settings .config) (lineNow e)) d))
 
 -- RETAIN's mode and date.
 abbrev pub retainFields : Verb → Option Retention
