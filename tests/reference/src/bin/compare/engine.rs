@@ -72,22 +72,20 @@ fn words(bytes: &mut [u8]) -> &mut [u64] {
     words
 }
 
+/// Calls an entry with the pointer and the length of each slice: those of the bucket, and of a line and its answer.
+macro_rules! call {
+    ($entry:ident($($bucket:ident),*)) => {
+        // SAFETY: each pointer comes with the length of the slice that it is taken from.
+        unsafe { $entry($($bucket.as_mut_ptr(), $bucket.len()),*) }
+    };
+    ($entry:ident($($bucket:ident),*), $line:ident, $answer:ident) => {
+        // SAFETY: as above.
+        unsafe { $entry($($bucket.as_mut_ptr(), $bucket.len(),)* $line.as_ptr(), $line.len(), $answer.as_mut_ptr(), $answer.len()) }
+    };
+}
+
 pub fn serve(settings: &mut [u8], rows: &mut [u8], keys: &mut [u8], line: &[u8], answer: &mut [u8]) -> u64 {
-    // SAFETY: each pointer comes with the length of the slice that it is taken from.
-    unsafe {
-        knitpasture_serve(
-            settings.as_mut_ptr(),
-            settings.len(),
-            rows.as_mut_ptr(),
-            rows.len(),
-            keys.as_mut_ptr(),
-            keys.len(),
-            line.as_ptr(),
-            line.len(),
-            answer.as_mut_ptr(),
-            answer.len(),
-        )
-    }
+    call!(knitpasture_serve(settings, rows, keys), line, answer)
 }
 
 pub fn serve_words(
@@ -98,21 +96,7 @@ pub fn serve_words(
     answer: &mut [u8],
 ) -> u64 {
     let rows = words(rows);
-    // SAFETY: as in `serve`.
-    unsafe {
-        knitpasture_serve_words(
-            settings.as_mut_ptr(),
-            settings.len(),
-            rows.as_mut_ptr(),
-            rows.len(),
-            keys.as_mut_ptr(),
-            keys.len(),
-            line.as_ptr(),
-            line.len(),
-            answer.as_mut_ptr(),
-            answer.len(),
-        )
-    }
+    call!(knitpasture_serve_words(settings, rows, keys), line, answer)
 }
 
 pub fn serve_lent(
@@ -123,11 +107,11 @@ pub fn serve_lent(
     answer: &mut [u8],
 ) -> u64 {
     assert_eq!(settings.len(), 688, "the struct's size");
-    let (settings, rows) = (words(settings), words(rows));
-    // SAFETY: as in `serve`, and the settings are as long as the struct.
+    let (settings, rows) = (words(settings).as_mut_ptr(), words(rows));
+    // SAFETY: as in `call`, and the settings are as long as the struct.
     unsafe {
         knitpasture_serve_lent(
-            settings.as_mut_ptr(),
+            settings,
             rows.as_mut_ptr(),
             rows.len(),
             keys.as_mut_ptr(),
@@ -141,37 +125,17 @@ pub fn serve_lent(
 }
 
 pub fn fresh(settings: &mut [u8], rows: &mut [u8], keys: &mut [u8]) -> u64 {
-    // SAFETY: as in `serve`.
-    unsafe {
-        knitpasture_fresh(
-            settings.as_mut_ptr(),
-            settings.len(),
-            rows.as_mut_ptr(),
-            rows.len(),
-            keys.as_mut_ptr(),
-            keys.len(),
-        )
-    }
+    call!(knitpasture_fresh(settings, rows, keys))
 }
 
 pub fn fresh_words(settings: &mut [u8], rows: &mut [u8], keys: &mut [u8]) -> u64 {
     let rows = words(rows);
-    // SAFETY: as in `serve`.
-    unsafe {
-        knitpasture_fresh_words(
-            settings.as_mut_ptr(),
-            settings.len(),
-            rows.as_mut_ptr(),
-            rows.len(),
-            keys.as_mut_ptr(),
-            keys.len(),
-        )
-    }
+    call!(knitpasture_fresh_words(settings, rows, keys))
 }
 
 /// The key at a position, as a part of the key bytes.
 pub fn key<'a>(settings: &[u8], rows: &[u8], keys: &'a [u8], position: usize) -> &'a [u8] {
-    // SAFETY: as in `serve`; nothing is written.
+    // SAFETY: as in `call`; nothing is written.
     let length = unsafe {
         knitpasture_key(
             settings.as_ptr(),
