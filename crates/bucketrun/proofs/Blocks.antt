@@ -113,9 +113,6 @@ module _ (h : Lent) (input : List ℕ) (end : ℕ) (l : end ≤ length input) (r
   block-served : ServedAll h (take end input) r n′ b′
   block-served = let z : end - 0 ≡ end = omega arith in rw z at d
 
-  pub keep-span : Span (r .served) end (length input)
-  keep-span = record { from = omega (arith, block-served .through .inside, length-take end input); to = l }
-
   pub took-block : (input′ : List ℕ) (k : ℕ) → Wrote input 0 (take 513 (drop (r .served) (take end input))) 513 input′ k → TookBlock h (take end input) (record { settings = r .settings; kept = k; told = r .told }) n′ b′ input′
   took-block input′ k e = record { is-whole = d .through .is-whole; few = omega (arith, e .most); takes = λ t. taken t }
     where

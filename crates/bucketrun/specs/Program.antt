@@ -7,6 +7,7 @@ use Rattle.buffers.specs.Choices.{pick}
 use Rattle.buffers.specs.Texts.{bytes}
 use Rattle.text.specs.Lines.{linesOf}
 use Rattle.text.specs.Keys.{contains}
+use Rattle.model.specs.Run.{left, gathered}
 use Rattle.outcome.specs.Outcome.{Outcome, outcome}
 use Rattle.outcome.specs.Calls.{Lent, leaves}
 use Rattle.outcome.specs.Printed.{printedOf}
@@ -20,15 +21,16 @@ answerRoom = replicate 65536 0
 abbrev pub servedLine : Lent → List ℕ → Outcome
 servedLine h l = outcome (h .settings) (h .numbers) (h .keys) l answerRoom
 
+abbrev pub afterLine : Lent → List ℕ → Lent
+afterLine h l = leaves (servedLine h l)
+
 -- What lines leave, each handed the bucket that the one before it left.
 abbrev pub leftBy : Lent → List (List ℕ) → Lent
-leftBy h [] = h
-leftBy h (l ∷ ls) = leftBy (leaves (servedLine h l)) ls
+leftBy h ls = left afterLine h ls
 
 -- What they print.
 abbrev pub printedBy : Lent → List (List ℕ) → List ℕ
-printedBy h [] = []
-printedBy h (l ∷ ls) = printedOf (servedLine h l) ++ printedBy (leaves (servedLine h l)) ls
+printedBy h ls = gathered afterLine (λ h l. printedOf (servedLine h l)) h ls
 
 -- ## Blocks
 
@@ -58,8 +60,7 @@ abbrev pub afterBlock : Waiting → List ℕ → Waiting
 afterBlock w x = waiting (leftBy (w .bucket) (endedLines (w .begun ++ x))) (begunLine (w .begun ++ x))
 
 abbrev pub afterBlocks : Waiting → List (List ℕ) → Waiting
-afterBlocks w [] = w
-afterBlocks w (x ∷ xs) = afterBlocks (afterBlock w x) xs
+afterBlocks w xs = left afterBlock w xs
 
 -- at the input's end a line feed ends the line that has begun, if there is one
 abbrev pub feedEnded : List ℕ → List ℕ

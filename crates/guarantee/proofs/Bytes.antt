@@ -2,7 +2,7 @@
 use Prim.Native.Nat.{ℕ, zero, suc, _*_, _/_, _%_, _≤_}
 use mathlib.Core.Path.{_≡_, refl, sym, _∙_, ap, subst⁻¹}
 use mathlib.Core.Logic.{inl, inr}
-use mathlib.Core.Bool.{true, false}
+use mathlib.Core.Bool.{true}
 use mathlib.Core.List.{List, map-id}
 use native.Mathlib.Omega.{arith}
 use lib.Dec.{eqb, ltb}
@@ -12,22 +12,22 @@ use Rattle.buffers.proofs.Tests.{either}
 use Rattle.model.specs.Run.{Event, left}
 use Rattle.model.proofs.Runs.{left-as, gathered-as}
 use Rattle.model.specs.LockClause.{Kept}
-use Rattle.settings.specs.Bytes.{settingsOf}
 use Rattle.settings.specs.Meaning.{freshSettings}
 use Rattle.settings.proofs.RoundTrip.{settings-length}
 use Rattle.table.specs.Layout.{capacity}
 use Rattle.bucket.specs.Whole.{whole}
 use Rattle.bucket.proofs.Whole.{whole-parts}
-use Rattle.outcome.specs.Outcome.{Outcome, refused, refusalOf}
+use Rattle.outcome.specs.Outcome.{Outcome}
+use Rattle.outcome.proofs.Deciding.{outcome-1}
 use Rattle.outcome.proofs.Demands.{accepted-of-whole}
-use Rattle.knitpasture.specs.Bytes.{numbersFrom, ByteOutcome, byteOutcome, outcomeBytes, hubServed, fitRows, FreshOutcome, freshOutcome, hubFresh}
+use Rattle.knitpasture.specs.Bytes.{numbersFrom, ByteOutcome, outcomeBytes, hubServed, fitRows, FreshOutcome, freshOutcome, hubFresh}
 use Rattle.knitpasture.proofs.Hub.{reads-as, hub-hands-on, hub-range, hub-refused}
 use Rattle.knitpasture.proofs.Fits.{whole-fits}
 use Rattle.knitpasture.proofs.FreshBucket.{fresh-made, reads-fresh}
 use Rattle.outcome.specs.Calls.{Lent, leaves}
 use Rattle.guarantee.specs.Calls.{Call, held, freshLent, served, step, callEvent, callEvents}
-use Rattle.guarantee.specs.Bytes.{Bytes, lentOf, Sized, servedBytes, leavesBytes, UnchangedBytes, AcceptedBytes, Demand1Bytes, Demand2Bytes, WrongLengths, freshened, freshBytes, FreshMade, byteStep, byteEvent, byteEvents, Demand3Bytes}
-use Rattle.guarantee.proofs.Demands.{demand-1, demand-2, number-is}
+use Rattle.guarantee.specs.Bytes.{Bytes, lentOf, Sized, servedBytes, leavesBytes, Demand1Bytes, Demand2Bytes, WrongLengths, freshened, freshBytes, FreshMade, byteStep, byteEvent, byteEvents, Demand3Bytes}
+use Rattle.guarantee.proofs.Demands.{demand-1, demand-2}
 use Rattle.guarantee.proofs.Runs.{Whole, whole-after}
 use Rattle.guarantee.proofs.LockClause.{demand-3}
 
@@ -138,15 +138,6 @@ whole-sized b s r w =
       keys-long = p .keys-long;
     }
 
-unsound-number : (s : Lent) (l : Call) → whole (s .settings) (s .numbers) (s .keys) ≡ false → (served s l) .number ≡ 1
-unfolding refusalOf
-unsound-number s l e = number-is s l ∙ rw e
-
-unsound-1 : (s : Lent) (l : Call) → whole (s .settings) (s .numbers) (s .keys) ≡ false → served s l ≡ refused 1 (s .settings) (s .numbers) (s .keys) (l .answer)
-unsound-1 s l e =
-    let n = unsound-number s l e in
-    (demand-1 s l) .writes-nothing (λ z. omega arith) ∙ ap (λ (k : ℕ). refused k (s .settings) (s .numbers) (s .keys) (l .answer)) n
-
 pub wrong-lengths : (b : Bytes) (l : Call) → WrongLengths b l
 unfolding hubServed
 wrong-lengths b l wrong =
@@ -158,7 +149,7 @@ wrong-lengths b l wrong =
             | inl w ↦ absurd (wrong (capacity (b .keys)) (whole-sized b (eqb-true _ 688 t) (eqb-true _ 0 v) w))
             | inr w ↦
                 reads-as (b .settings) (b .rows) (b .keys) (l .line) (l .answer) (lentOf b .settings) (lentOf b .numbers) (b .keys) (eqb-true _ 688 t) (ltb-false 65536 _ u) (eqb-true _ 0 v) refl refl refl
-                ∙ ap (λ (o : Outcome). outcomeBytes o (b .settings) (b .rows) (b .keys) (l .answer)) (unsound-1 (lentOf b) l w)
+                ∙ ap (λ (o : Outcome). outcomeBytes o (b .settings) (b .rows) (b .keys) (l .answer)) (sym (outcome-1 (lentOf b .settings) (lentOf b .numbers) (b .keys) (l .line) (l .answer) w))
           ]
           | inr v ↦ simp (t, u, v)
         ]
