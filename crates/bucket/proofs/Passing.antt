@@ -20,7 +20,7 @@ use Rattle.table.specs.Layout.{rowAt, rowsOf, capacity}
 use Rattle.table.specs.Places.{keyAt}
 use Rattle.table.proofs.Held.{numbers-laying, keys-laying, rows-length, held-block, held-fit, held-first}
 use Rattle.bucket.specs.Steps.{allBelow, zeros, numbersAt, isKeyBlock, blockAt, keyedAt, aheadAt, soundKeys, soundTable}
-use Rattle.bucket.specs.Whole.{bucketOf, whole, keyOf}
+use Rattle.bucket.specs.Whole.{lent, bucketOf, whole, keyOf}
 use Rattle.bucket.proofs.Steps.{below-at, below-all, pick-and, row-parts}
 use Rattle.bucket.proofs.Laying.{rest-free, rows-all, all-rows, next-ordered, ordered-next, numbers-back, keys-back}
 use Rattle.bucket.proofs.Whole.{WholeParts, sound-parts, whole-parts, whole-of}
@@ -33,13 +33,13 @@ table-is next time n b u = simp pick-and
 
 module _ (s : Settings) (n b : List ℕ) where
   -- Whole buffers pass.
-  whole-passes : WholeParts s n b → soundTable (s .next) (s .time) n b (s .used) ≡ true
+  whole-passes : WholeParts (lent s n b) → soundTable (s .next) (s .time) n b (s .used) ≡ true
   unfolding aheadAt isKeyBlock
   whole-passes w =
       let c = capacity b in
       let u = s .used in
       let xs = rowsOf n b u in
-      let p = sound-parts c (bucketOf s n b) (w .is-sound) in
+      let p = sound-parts c (bucketOf (lent s n b)) (w .is-sound) in
       let l = rows-length n b u in
       let row : (i : ℕ) → i < u → isKey (keyIn (blockAt b i)) && numbersAt (s .next) (s .time) n i ≡ true =
       λ i h. sym (row-parts (s .next) (s .time) n b i) ∙ all-rows (soundRow (s .next) (s .time)) n b u i (p .rows-sound) h in
@@ -56,7 +56,7 @@ module _ (s : Settings) (n b : List ℕ) where
 
   -- Buffers of the right lengths that pass are whole.
   passes-whole : 1 ≤ capacity b → capacity b ≤ 1024 → s .used ≤ capacity b → length n ≡ 8 * capacity b → length b ≡ 64 * capacity b
-      → settingsSound s ≡ true → soundTable (s .next) (s .time) n b (s .used) ≡ true → whole s n b ≡ true
+      → settingsSound s ≡ true → soundTable (s .next) (s .time) n b (s .used) ≡ true → whole (lent s n b) ≡ true
   unfolding sound fits settingsSound aheadAt isKeyBlock
   passes-whole some most room numbers-long keys-long f e =
       let c = capacity b in
@@ -80,35 +80,35 @@ module _ (s : Settings) (n b : List ℕ) where
       row-parts (s .next) (s .time) n b i
       ∙ and-i _ _ (and-r (isBlock (blockAt b i)) _ (key i h)) (below-at (numbersAt (s .next) (s .time) n) u i (and-l _ _ e0) h))))))
 
-  not-whole : (WholeParts s n b → ⊥) → false ≡ whole s n b
+  not-whole : (WholeParts (lent s n b) → ⊥) → false ≡ whole (lent s n b)
   not-whole f =
-      elim (either (whole s n b)) [
-        | inl e ↦ absurd (f (whole-parts s n b e))
+      elim (either (whole (lent s n b))) [
+        | inl e ↦ absurd (f (whole-parts (lent s n b) e))
         | inr e ↦ sym e
       ]
 
-  pub other-numbers : (length n ≡ 8 * capacity b → ⊥) → false ≡ whole s n b
+  pub other-numbers : (length n ≡ 8 * capacity b → ⊥) → false ≡ whole (lent s n b)
   other-numbers h = not-whole (λ w. h (w .numbers-long))
 
-  pub other-keys : (length b ≡ 64 * capacity b → ⊥) → false ≡ whole s n b
+  pub other-keys : (length b ≡ 64 * capacity b → ⊥) → false ≡ whole (lent s n b)
   other-keys h = not-whole (λ w. h (w .keys-long))
 
-  pub no-row : capacity b < 1 → false ≡ whole s n b
+  pub no-row : capacity b < 1 → false ≡ whole (lent s n b)
   no-row h = not-whole (λ w. let q = w .some in omega arith)
 
-  pub too-many : 1024 < capacity b → false ≡ whole s n b
+  pub too-many : 1024 < capacity b → false ≡ whole (lent s n b)
   too-many h = not-whole (λ w. let q = w .most in omega arith)
 
-  pub no-room : capacity b < s .used → false ≡ whole s n b
+  pub no-room : capacity b < s .used → false ≡ whole (lent s n b)
   no-room h = not-whole (λ w. let q = w .room in omega arith)
 
-  pub unsound : (r : Bool) → r ≡ settingsSound s → r ≡ false → false ≡ whole s n b
+  pub unsound : (r : Bool) → r ≡ settingsSound s → r ≡ false → false ≡ whole (lent s n b)
   unfolding settingsSound
   unsound r e t =
-      not-whole (λ w. clash r (e ∙ and-i _ _ (w .prefixes) (sound-parts (capacity b) (bucketOf s n b) (w .is-sound) .settings-sound)) t)
+      not-whole (λ w. clash r (e ∙ and-i _ _ (w .prefixes) (sound-parts (capacity b) (bucketOf (lent s n b)) (w .is-sound) .settings-sound)) t)
 
   pub tested : (r q : Bool) → 1 ≤ capacity b → capacity b ≤ 1024 → s .used ≤ capacity b → length n ≡ 8 * capacity b → length b ≡ 64 * capacity b
-      → r ≡ settingsSound s → r ≡ true → q ≡ soundTable (s .next) (s .time) n b (s .used) → q ≡ whole s n b
+      → r ≡ settingsSound s → r ≡ true → q ≡ soundTable (s .next) (s .time) n b (s .used) → q ≡ whole (lent s n b)
   tested r q h1 h2 h3 h4 h5 e t f =
       elim (either (soundTable (s .next) (s .time) n b (s .used))) [
         | inl a ↦ f ∙ a ∙ sym (passes-whole h1 h2 h3 h4 h5 (sym e ∙ t) a)
@@ -119,27 +119,27 @@ pub ruleset whole-cases = (other-numbers, other-keys, no-row, too-many, no-room,
 
 -- ## The key of a row
 
-module _ (s : Settings) (n b : List ℕ) (i : ℕ) (r : Bool) (e : r ≡ whole s n b) where
-  pub key-unsound : r ≡ false → [] ≡ keyOf s n b i
+module _ (s : Settings) (n b : List ℕ) (i : ℕ) (r : Bool) (e : r ≡ whole (lent s n b)) where
+  pub key-unsound : r ≡ false → [] ≡ keyOf (lent s n b) i
   unfolding keyOf
   key-unsound t = rw (← e, t)
 
-  pub key-past : s .used ≤ i → [] ≡ keyOf s n b i
+  pub key-past : s .used ≤ i → [] ≡ keyOf (lent s n b) i
   unfolding keyOf
-  key-past h = rw (le-ltb i (s .used) h, and-false (whole s n b))
+  key-past h = rw (le-ltb i (s .used) h, and-false (whole (lent s n b)))
 
-  pub key-used : (k : List ℕ) → r ≡ true → i < s .used → k ≡ keyAt b i → k ≡ keyOf s n b i
+  pub key-used : (k : List ℕ) → r ≡ true → i < s .used → k ≡ keyAt b i → k ≡ keyOf (lent s n b) i
   unfolding keyOf
   key-used k t h q = rw (← e, t, lt-ltb i (s .used) h) q
 
   pub key-there : r ≡ true → i < s .used → 64 * i + 64 ≤ length b
   key-there t h =
-      let w = whole-parts s n b (sym e ∙ t) in
+      let w = whole-parts (lent s n b) (sym e ∙ t) in
       let l = w .keys-long in
       let m = w .room in
       omega arith
 
   pub key-short : r ≡ true → i < s .used → getD b (64 * i) 0 ≤ 63
-  key-short t h = held-first (whole-parts s n b (sym e ∙ t) .holds) i (rowAt n b 0) (rw (rows-length n b (s .used)) h)
+  key-short t h = held-first (whole-parts (lent s n b) (sym e ∙ t) .holds) i (rowAt n b 0) (rw (rows-length n b (s .used)) h)
 
 pub ruleset key-cases = (key-unsound, key-past, key-used, key-there, key-short)

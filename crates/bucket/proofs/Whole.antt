@@ -19,7 +19,7 @@ use Rattle.settings.specs.Meaning.{settingsMean, freshSettings, prefixesAre, se
 use Rattle.settings.proofs.Back.{fresh-sound}
 use Rattle.table.specs.Layout.{numbersOf, keysOf, rowsOf, capacity, keysFit, Holds}
 use Rattle.table.proofs.Held.{numbers-laying, keys-laying, held-numbers, held-keys, held-capacity, held-rows}
-use Rattle.bucket.specs.Whole.{bucketOf, whole}
+use Rattle.bucket.specs.Whole.{Lent, lent, freshLent, usedRows, bucketOf, whole}
 use Rattle.bucket.proofs.Steps.{sound-row}
 use Rattle.bucket.proofs.Laying.{lay-free}
 
@@ -61,35 +61,35 @@ sound-parts c b e =
       keys-fit = sound-fit (b .settings .next) (b .settings .time) (b .rows) h;
     }
 
--- What settings and buffers that are whole have.
-pub record WholeParts (s : Settings) (n b : List ℕ) : Type 0 where
-  pub some : 1 ≤ capacity b
-  pub most : capacity b ≤ 1024
-  pub room : s .used ≤ capacity b
-  pub numbers-long : length n ≡ 8 * capacity b
-  pub keys-long : length b ≡ 64 * capacity b
-  pub holds : Holds (capacity b) (rowsOf n b (s .used)) n b
-  pub prefixes : prefixesAre (s .rules) ≡ true
-  pub is-sound : sound (capacity b) (bucketOf s n b) ≡ true
+-- What a bucket that is whole has.
+pub record WholeParts (b : Lent) : Type 0 where
+  pub some : 1 ≤ capacity (b .keys)
+  pub most : capacity (b .keys) ≤ 1024
+  pub room : b .settings .used ≤ capacity (b .keys)
+  pub numbers-long : length (b .numbers) ≡ 8 * capacity (b .keys)
+  pub keys-long : length (b .keys) ≡ 64 * capacity (b .keys)
+  pub holds : Holds (capacity (b .keys)) (usedRows b) (b .numbers) (b .keys)
+  pub prefixes : prefixesAre (b .settings .rules) ≡ true
+  pub is-sound : sound (capacity (b .keys)) (bucketOf b) ≡ true
 
-pub whole-parts : (s : Settings) (n b : List ℕ) → whole s n b ≡ true → WholeParts s n b
+pub whole-parts : (b : Lent) → whole b ≡ true → WholeParts b
 unfolding whole
-whole-parts s n b e =
-    let c = capacity b in
-    let xs = rowsOf n b (s .used) in
+whole-parts b e =
+    let c = capacity (b .keys) in
+    let xs = usedRows b in
     let e1 = and-r (leb 1 c) _ e in
     let e2 = and-r (leb c 1024) _ e1 in
-    let e3 = and-r (leb (s .used) c) _ e2 in
-    let e4 = and-r (same n (numbersOf c xs)) _ e3 in
-    let e5 = and-r (same b (keysOf c xs)) _ e4 in
-    let e6 = and-r (prefixesAre (s .rules)) _ e5 in
-    let p = sound-parts c (bucketOf s n b) e6 in
-    let h : Holds c xs n b =
-    record { numbers-are = same-path n (numbersOf c xs) (and-l _ _ e3); keys-are = same-path b (keysOf c xs) (and-l _ _ e4); room = p .room; keys-fit = p .keys-fit } in
+    let e3 = and-r (leb (b .settings .used) c) _ e2 in
+    let e4 = and-r (same (b .numbers) (numbersOf c xs)) _ e3 in
+    let e5 = and-r (same (b .keys) (keysOf c xs)) _ e4 in
+    let e6 = and-r (prefixesAre (b .settings .rules)) _ e5 in
+    let p = sound-parts c (bucketOf b) e6 in
+    let h : Holds c xs (b .numbers) (b .keys) =
+    record { numbers-are = same-path (b .numbers) (numbersOf c xs) (and-l _ _ e3); keys-are = same-path (b .keys) (keysOf c xs) (and-l _ _ e4); room = p .room; keys-fit = p .keys-fit } in
     record {
       some = leb-true 1 c (and-l _ _ e);
       most = leb-true c 1024 (and-l _ _ e1);
-      room = leb-true (s .used) c (and-l _ _ e2);
+      room = leb-true (b .settings .used) c (and-l _ _ e2);
       numbers-long = held-numbers h;
       keys-long = held-keys h;
       holds = h;
@@ -99,7 +99,7 @@ whole-parts s n b e =
 
 -- The buffers that a sound bucket is written as are whole.
 pub whole-of : (s : Settings) (c : ℕ) (xs : List Row) (n b : List ℕ) → 1 ≤ c → c ≤ 1024 → n ≡ numbersOf c xs → b ≡ keysOf c xs → s .used ≡ length xs
-    → prefixesAre (s .rules) ≡ true → sound c (record { settings = settingsMean s; rows = xs }) ≡ true → whole s n b ≡ true
+    → prefixesAre (s .rules) ≡ true → sound c (record { settings = settingsMean s; rows = xs }) ≡ true → whole (lent s n b) ≡ true
 unfolding whole
 whole-of s c xs n b some most p q u f e =
     let w = sound-parts c (record { settings = settingsMean s; rows = xs }) e in
@@ -113,7 +113,7 @@ whole-of s c xs n b some most p q u f e =
     (and-i (prefixesAre (s .rules)) _ f e))))))
 
 -- Fresh settings and zeros are whole.
-pub fresh-whole : (c : ℕ) → 1 ≤ c → c ≤ 1024 → whole freshSettings (replicate (8 * c) 0) (replicate (64 * c) 0) ≡ true
+pub fresh-whole : (c : ℕ) → 1 ≤ c → c ≤ 1024 → whole (freshLent c) ≡ true
 unfolding sound fits settingsSound
 fresh-whole c some most =
     whole-of freshSettings c [] (replicate (8 * c) 0) (replicate (64 * c) 0) some most (sym (lay-free numbers-laying c)) (sym (lay-free keys-laying c)) refl

@@ -12,7 +12,7 @@ ghost use Rattle.model.specs.Rows.{soundRetention, soundData, soundMarker};
 ghost use Rattle.table.specs.Layout.{rowIn};
 ghost use Rattle.bucket.specs.Steps.{allBelow, zeros, soundNumbers, numbersAt, isKeyBlock, keyedAt, aheadOf, aheadAt, soundKeys, soundTable};
 ghost use Rattle.bucket.specs.Ordering.{isOrderTo, isBlockOrder};
-ghost use Rattle.bucket.specs.Whole.{whole, keyOf};
+ghost use Rattle.bucket.specs.Whole.{lent, whole, keyOf};
 
 // Whether the retention's mode and date belong together.
 fn retention_is_sound(mode: u64, until: u64) -> bool
@@ -262,7 +262,7 @@ fn table_is_sound(rows: &[u64], keys: &[u8], used: usize, next: u64, time: u64) 
 
 // Whether settings and buffers are whole; refusal 1 where they are not.
 pub fn is_whole(s: Settings, rows: &[u64], keys: &[u8]) -> bool
-    ensures { λ r. ⌜ r ≡ whole s (now (rows .entry)) (now (keys .entry)) ⌝ }
+    ensures { λ r. ⌜ r ≡ whole (lent s (now (rows .entry)) (now (keys .entry))) ⌝ }
 {
     let c = keys.len() / 64;
     if rows.len() != 8 * c {
@@ -289,7 +289,7 @@ pub fn is_whole(s: Settings, rows: &[u64], keys: &[u8]) -> bool
 
 // The key of a used row of a whole bucket, as a part of the key bytes; else the empty part.
 pub fn key_of<'a>(s: Settings, rows: &[u64], keys: &'a [u8], at: usize) -> &'a [u8]
-    ensures { λ r. ⌜ now r ≡ keyOf s (now (rows .entry)) (now (keys .entry)) at ⌝ }
+    ensures { λ r. ⌜ now r ≡ keyOf (lent s (now (rows .entry)) (now (keys .entry))) at ⌝ }
 {
     if !is_whole(s, rows, keys) {
         return &keys[0..0];

@@ -10,7 +10,7 @@ use Rattle.buffers.proofs.Tests.{and-l, and-r}
 use Rattle.calendar.specs.declared.Now.{Now}
 use Rattle.calendar.specs.Calendar.{latest}
 use Rattle.model.specs.Settings.{Bucket, sound}
-use Rattle.model.specs.Requests.{Verb, Context, Request, reads, inRange}
+use Rattle.model.specs.Requests.{Verb, Context, Request, says, inRange}
 use Rattle.model.specs.Time.{nowOf}
 use Rattle.model.specs.Refusals.{halfGiven, lacksRight, pastDate, missing, namesMarker, barred, tooLate, spends, full, refusal}
 
@@ -35,7 +35,7 @@ skip : (a : Bool) (n m : ℕ) → pick a (suc n) m ≡ 0 → (a ≡ false) × (m
 skip true n m e = absurd (omega arith)
 skip false n m e = (refl, e)
 
-pub accepted-line : (c : ℕ) (b : Bucket) (q : Request) → refusal c b (reads q) ≡ 0 → Accepted c b (q .context) (nowOf b (q .context)) (q .verb)
+pub accepted-line : (c : ℕ) (b : Bucket) (q : Request) → refusal c b (says q) ≡ 0 → Accepted c b (q .context) (nowOf b (q .context)) (q .verb)
 unfolding refusal
 accepted-line c b q e =
     let s1 = skip _ _ _ e in
@@ -67,7 +67,7 @@ accepted-line c b q e =
       fitting = s12 .0;
     }
 
-pub accepts : (c : ℕ) (b : Bucket) (q : Request) → Accepted c b (q .context) (nowOf b (q .context)) (q .verb) → refusal c b (reads q) ≡ 0
+pub accepts : (c : ℕ) (b : Bucket) (q : Request) → Accepted c b (q .context) (nowOf b (q .context)) (q .verb) → refusal c b (says q) ≡ 0
 unfolding refusal
 accepts c b q p =
     simp (p .whole, p .roomy, p .instant, p .in-range, p .not-half, p .permitted, p .future, p .present, p .no-marker, p .free, p .in-time, p .unspent, p .fitting)

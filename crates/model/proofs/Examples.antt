@@ -11,7 +11,7 @@ use Rattle.text.specs.Keys.{isKeyByte, isKey, isPrefix}
 use Rattle.calendar.specs.Periods.{periodEnd, expiresAt}
 use Rattle.model.specs.Rows.{governance, compliance, soundRow}
 use Rattle.model.specs.Settings.{fresh, days, soundRules, soundConfig, fits, sound}
-use Rattle.model.specs.Requests.{Rights, Version, numbered, name, noRetention, Terms, DefaultRetention, LifecycleRule, Get, Verb, Put, Retain, AddMarker, DeleteVersion, Set, Sweep, Ask, Line, reads, inRange}
+use Rattle.model.specs.Requests.{Rights, Version, numbered, name, noRetention, Terms, DefaultRetention, LifecycleRule, Get, Verb, Put, Retain, AddMarker, DeleteVersion, Set, Sweep, Ask, Heard, says, inRange}
 use Rattle.model.specs.Time.{defaultEnd}
 use Rattle.model.specs.Locks.{locked, admits}
 use Rattle.model.specs.Effects.{added, removed as rowsRemoved, rowsAfter, setConfig, configAfter}
@@ -26,8 +26,8 @@ use Rattle.model.proofs.LockClause.{lock-clause}
 abbrev letters : Rights
 letters = record { r = true; w = true; d = true; t = true; h = true; b = true; c = true }
 
-abbrev line : ℕ → Verb → Line
-line t v = reads (record { context = record { room = 256; clock = t; who = letters }; verb = v })
+abbrev line : ℕ → Verb → Heard
+line t v = says (record { context = record { room = 256; clock = t; who = letters }; verb = v })
 
 abbrev key : List ℕ
 key = bytes "q/7"
@@ -39,7 +39,7 @@ abbrev plain : Terms
 plain = record { retention = noRetention; hold = none }
 
 -- 2024-03-01T00:00:00Z, the same day at 6 and at 12, and the day after.
-abbrev lines : List Line
+abbrev lines : List Heard
 lines =
     line 1709251200000 (Set (DefaultRetention (some compliance) (some (record { count = 1; unit = days }))))
     ∷ line 1709251200000 (Put key 41 300 plain)
@@ -59,14 +59,14 @@ D = 1000000
 abbrev until : ℕ → ℕ → Option Bool → Terms
 until m d h = record { retention = record { mode = some m; date = some d }; hold = h }
 
-abbrev putUntil : Line
+abbrev putUntil : Heard
 putUntil = line 1 (Put key 41 300 (until compliance D none))
 
 abbrev retainUntil : ℕ → Verb
 retainUntil d = Retain (name key first) (record { mode = some compliance; date = some d }) true
 
 -- What the second of two lines gets.
-abbrev second : Line → Line → List Reply
+abbrev second : Heard → Heard → List Reply
 second l m = replies 4 fresh (l ∷ m ∷ [])
 
 -- The starred examples of 01 that speak of locks.
@@ -96,11 +96,11 @@ sweptAt t =
 -- ## The lock clause at lists of lines
 
 -- After a DELETE that is refused and a marker, version 1, under COMPLIANCE by the default, is still held.
-abbrev four : List Line
+abbrev four : List Heard
 four = take 4 lines
 
 -- A GOVERNANCE lock outlasts a RETAIN of its own that lengthens it, and a refused one that shortens it.
-abbrev governed : List Line
+abbrev governed : List Heard
 governed =
     line 1 (Put key 41 300 (until governance D none))
     ∷ line 2 (Retain (name key none) (record { mode = some governance; date = some (D + 5) }) false)
@@ -108,7 +108,7 @@ governed =
     ∷ []
 
 -- A hold outlasts a DELETE with bypass.
-abbrev on-hold : List Line
+abbrev on-hold : List Heard
 on-hold =
     line 1 (Put key 41 300 (record { retention = noRetention; hold = some true }))
     ∷ line 2 (DeleteVersion key (numbered 1) true)

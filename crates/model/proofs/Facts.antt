@@ -11,7 +11,7 @@ use Rattle.buffers.specs.Lists.{all}
 use Rattle.buffers.proofs.Tests.{either, and-i, and-l, and-r}
 use Rattle.model.specs.Rows.{Row}
 use Rattle.model.specs.Settings.{fresh}
-use Rattle.model.specs.Requests.{Line}
+use Rattle.model.specs.Requests.{Heard}
 use Rattle.model.specs.Refusals.{Check, check, firstOf, FirstHolds}
 use Rattle.model.specs.Run.{run, lineEvents}
 use Rattle.model.specs.LockClause.{timeAfter, versions, distinct}
@@ -79,11 +79,11 @@ distinct-once (x ∷ xs) h =
     and-i (all (λ y. not (eqb (y .number) (x .number))) xs) _ (none-numbered (x .number) xs (rest-once x xs h)) (distinct-once xs (tail-once x xs h))
 
 -- From a fresh bucket all version numbers differ.
-pub always-distinct : (c : ℕ) (ls : List Line) → distinct ((run c fresh ls) .rows) ≡ true
+pub always-distinct : (c : ℕ) (ls : List Heard) → distinct ((run c fresh ls) .rows) ≡ true
 always-distinct c ls =
     let i = (good-fresh c ls) .invariant in
     distinct-once ((run c fresh ls) .rows) (λ v. elim (i .single v) [ inl e ↦ inl e | inr e ↦ inr (e .0, e .1) ])
 
 -- The bucket's time is the largest clock reading of the accepted lines.
-pub always-time : (c : ℕ) (ls : List Line) → (run c fresh ls) .settings .time ≡ timeAfter (lineEvents c fresh ls)
+pub always-time : (c : ℕ) (ls : List Heard) → (run c fresh ls) .settings .time ≡ timeAfter (lineEvents c fresh ls)
 always-time c ls = (good-fresh c ls) .invariant .time

@@ -11,7 +11,7 @@ use Rattle.buffers.specs.Choices.{pick}
 use Rattle.buffers.proofs.Tests.{either}
 use Rattle.model.specs.Rows.{Row, governance, compliance}
 use Rattle.model.specs.Settings.{Bucket, fresh}
-use Rattle.model.specs.Requests.{Verb, Context, Line, unreadable, reads}
+use Rattle.model.specs.Requests.{Verb, Context, Heard, unreadable, says}
 use Rattle.model.specs.Time.{nowOf}
 use Rattle.model.specs.Effects.{after}
 use Rattle.model.specs.Refusals.{refusal}
@@ -75,16 +75,16 @@ pub record Good (b : Bucket) (es : List Event) : Type 0 where
   pub invariant : Invariant b es
   pub kept : Kept b es
 
-good-line : (c : ℕ) (b : Bucket) (es : List Event) (l : Line) → Good b es → Good (serve c b l) (es ++ lineEvent c b l)
+good-line : (c : ℕ) (b : Bucket) (es : List Event) (l : Heard) → Good b es → Good (serve c b l) (es ++ lineEvent c b l)
 good-line c b es (unreadable room) k =
     elim (either (eqb (refusal c b (unreadable room)) 0)) [
       | inl e ↦ rw (e, append-nil) k
       | inr e ↦ rw (e, append-nil) k
     ]
-good-line c b es (reads q) k =
-    elim (either (eqb (refusal c b (reads q)) 0)) [
+good-line c b es (says q) k =
+    elim (either (eqb (refusal c b (says q)) 0)) [
       | inl e ↦
-          let p = accepted-line c b q (eqb-true (refusal c b (reads q)) 0 e) in
+          let p = accepted-line c b q (eqb-true (refusal c b (says q)) 0 e) in
           rw e (record {
             invariant = invariant-after c b es (q .context) (q .verb) p (k .invariant);
             kept = kept-after c b es (q .context) (q .verb) p (k .invariant) (k .kept);
@@ -96,7 +96,7 @@ good-line c b es (reads q) k =
 joined : (b : Bucket) (es xs ys : List Event) → Good b ((es ++ xs) ++ ys) → Good b (es ++ (xs ++ ys))
 joined b es xs ys k = rw append-assoc at k
 
-pub good-run : (c : ℕ) (b : Bucket) (es : List Event) (ls : List Line) → Good b es → Good (run c b ls) (es ++ lineEvents c b ls)
+pub good-run : (c : ℕ) (b : Bucket) (es : List Event) (ls : List Heard) → Good b es → Good (run c b ls) (es ++ lineEvents c b ls)
 good-run c b es [] k = rw append-nil k
 good-run c b es (l ∷ ls) k =
     joined _ es (lineEvent c b l) (lineEvents c (serve c b l) ls)
@@ -106,7 +106,7 @@ no-line : (early : List Event) (e : Event) (late : List Event) → [] ≡ early 
 no-line [] e late h = nil≢cons h
 no-line (x ∷ early) e late h = nil≢cons h
 
-pub good-fresh : (c : ℕ) (ls : List Line) → Good (run c fresh ls) (lineEvents c fresh ls)
+pub good-fresh : (c : ℕ) (ls : List Heard) → Good (run c fresh ls) (lineEvents c fresh ls)
 good-fresh c ls =
     good-run c fresh [] ls (record {
       invariant = fresh-invariant;

@@ -18,7 +18,7 @@ use Rattle.calendar.specs.declared.Now.{Now}
 use Rattle.calendar.specs.Calendar.{latest}
 use Rattle.model.specs.Rows.{Row, isMode, ordered, soundData, soundRow, bodies, largestSize}
 use Rattle.model.specs.Settings.{Rule, Config, Bucket, fresh, absentRule, spentNumber, isDays, isSet, soundDefault, soundRule, soundRules, soundConfig, fits, sound}
-use Rattle.model.specs.Requests.{Name, Retention, Terms, Period, Setting, DefaultRetention, LifecycleRule, Verb, Put, Copy, Retain, Hold, AddMarker, DeleteVersion, Set, Sweep, Ask, Context, Request, Line, unreadable, reads, isModeField, isPeriodField, isName, isRetention, isSetting, inRange}
+use Rattle.model.specs.Requests.{Name, Retention, Terms, Period, Setting, DefaultRetention, LifecycleRule, Verb, Put, Copy, Retain, Hold, AddMarker, DeleteVersion, Set, Sweep, Ask, Context, Request, Heard, unreadable, says, isModeField, isPeriodField, isName, isRetention, isSetting, inRange}
 use Rattle.model.specs.Time.{nowOf}
 use Rattle.model.specs.Sweep.{marks, counted}
 use Rattle.model.specs.Effects.{rowOf, isNamed, setRetention, setHold, holdNumber, added, rowsAfter, defaultFrom, setConfig, configAfter, after}
@@ -187,7 +187,7 @@ unfolding spends
 next-after b now w p = ltb-false spentNumber (b .settings .next + added b now w) p
 
 -- An accepted line leaves a sound bucket sound.
-pub sound-after : (c : ℕ) (b : Bucket) (q : Request) → refusal c b (reads q) ≡ 0 → sound c (after b q) ≡ true
+pub sound-after : (c : ℕ) (b : Bucket) (q : Request) → refusal c b (says q) ≡ 0 → sound c (after b q) ≡ true
 unfolding sound
 sound-after c b q e =
     let p = accepted-line c b q e in
@@ -205,19 +205,19 @@ sound-after c b q e =
     search and-i depth 12
 
 -- A line leaves a sound bucket sound.
-pub sound-line : (c : ℕ) (b : Bucket) (l : Line) → sound c b ≡ true → sound c (serve c b l) ≡ true
+pub sound-line : (c : ℕ) (b : Bucket) (l : Heard) → sound c b ≡ true → sound c (serve c b l) ≡ true
 sound-line c b (unreadable room) s =
     elim (either (eqb (refusal c b (unreadable room)) 0)) [
       | inl e ↦ rw e s
       | inr e ↦ rw e s
     ]
-sound-line c b (reads q) s =
-    elim (either (eqb (refusal c b (reads q)) 0)) [
-      | inl e ↦ rw e (sound-after c b q (eqb-true (refusal c b (reads q)) 0 e))
+sound-line c b (says q) s =
+    elim (either (eqb (refusal c b (says q)) 0)) [
+      | inl e ↦ rw e (sound-after c b q (eqb-true (refusal c b (says q)) 0 e))
       | inr e ↦ rw e s
     ]
 
-pub sound-run : (c : ℕ) (b : Bucket) (ls : List Line) → sound c b ≡ true → sound c (run c b ls) ≡ true
+pub sound-run : (c : ℕ) (b : Bucket) (ls : List Heard) → sound c b ≡ true → sound c (run c b ls) ≡ true
 sound-run c b [] s = s
 sound-run c b (l ∷ ls) s = sound-run c (serve c b l) ls (sound-line c b l s)
 
@@ -226,5 +226,5 @@ unfolding sound fits soundConfig soundRules isPrefix
 fresh-sound c = and-i (leb 0 c) _ (le-leb 0 c (omega arith)) refl
 
 -- After any list of lines on a fresh bucket of any capacity the bucket is sound: refusal 1 is never met.
-pub always-sound : (c : ℕ) (ls : List Line) → sound c (run c fresh ls) ≡ true
+pub always-sound : (c : ℕ) (ls : List Heard) → sound c (run c fresh ls) ≡ true
 always-sound c ls = sound-run c fresh ls (fresh-sound c)

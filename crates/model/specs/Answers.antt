@@ -7,7 +7,7 @@ use Rattle.buffers.specs.Choices.{pick, thenSome}
 use Rattle.calendar.specs.declared.Now.{Now}
 use Rattle.model.specs.Rows.{Row, isMarker}
 use Rattle.model.specs.Settings.{Bucket}
-use Rattle.model.specs.Requests.{Version, numbered, name, Get, Verb, Put, Copy, Retain, Hold, AddMarker, DeleteVersion, Set, Sweep, Ask, Request}
+use Rattle.model.specs.Requests.{Rights, Version, numbered, name, Get, Verb, Put, Copy, Retain, Hold, AddMarker, DeleteVersion, Set, Sweep, Ask, Request}
 use Rattle.model.specs.Time.{nowOf}
 use Rattle.model.specs.Effects.{rowOf, added}
 use Rattle.model.specs.Effects.{removed as rowsRemoved}
@@ -30,19 +30,20 @@ pub data Answer : Type 0 where
 abbrev pub newVersion : Bucket → Version
 newVersion b = numbered (b .settings .next)
 
-unfoldable pub reply : Bucket → Now → Verb → Answer
-reply b now (Put k body size t) = made (newVersion b)
-reply b now (Copy n k t) = made (newVersion b)
-reply b now (Retain n r y) = done
-reply b now (Hold n on) = done
-reply b now (AddMarker k y) = marked (newVersion b)
-reply b now (DeleteVersion k v y) = pick (thenSome (rowOf (b .rows) (name k (some v))) false isMarker) (removedMarker v) (removed v)
-reply b now (Set s) = done
-reply b now Sweep = sweptCounts (rowsRemoved b now Sweep) (added b now Sweep)
-reply b now (Ask (Get n)) = thenSome (rowOf (b .rows) n) done (λ x. shown x)
+-- What a sender with these rights is answered.
+unfoldable pub reply : Bucket → Now → Rights → Verb → Answer
+reply b now who (Put k body size t) = made (newVersion b)
+reply b now who (Copy n k t) = made (newVersion b)
+reply b now who (Retain n r y) = done
+reply b now who (Hold n on) = done
+reply b now who (AddMarker k y) = marked (newVersion b)
+reply b now who (DeleteVersion k v y) = pick (thenSome (rowOf (b .rows) (name k (some v))) false isMarker) (removedMarker v) (removed v)
+reply b now who (Set s) = done
+reply b now who Sweep = sweptCounts (rowsRemoved b now Sweep) (added b now Sweep)
+reply b now who (Ask (Get n)) = thenSome (rowOf (b .rows) n) done (λ x. shown x)
 
 abbrev pub answerTo : Bucket → Request → Answer
-answerTo b q = reply b (nowOf b (q .context)) (q .verb)
+answerTo b q = reply b (nowOf b (q .context)) (q .context .who) (q .verb)
 
 -- The answer is that of a PUT or COPY, and gives this number.
 abbrev pub givesNumber : ℕ → Answer → Bool

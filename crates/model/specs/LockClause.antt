@@ -10,7 +10,7 @@ use Rattle.buffers.specs.Choices.{pick, thenSome, isSome}
 use Rattle.buffers.specs.Lists.{keep, all}
 use Rattle.model.specs.Rows.{Row, governance, compliance}
 use Rattle.model.specs.Settings.{Bucket, fresh}
-use Rattle.model.specs.Requests.{Retention, Verb, Put, Copy, Retain, Hold, AddMarker, DeleteVersion, Set, Sweep, Ask, Line, isThe, termsOf, bypassOf}
+use Rattle.model.specs.Requests.{Retention, Verb, Put, Copy, Retain, Hold, AddMarker, DeleteVersion, Set, Sweep, Ask, Heard, isThe, termsOf, bypassOf}
 use Rattle.model.specs.Time.{nowOf, defaultEnd}
 use Rattle.model.specs.Effects.{rowOf}
 use Rattle.model.specs.Refusals.{namedRow}
@@ -199,4 +199,4 @@ pub record Kept (b : Bucket) (es : List Event) : Type 0 where
 
 -- The lock clause (demand 3): a fresh bucket of any capacity, any list of lines.
 abbrev pub LockClause : Type 0
-LockClause = (c : ℕ) (ls : List Line) → Kept (run c fresh ls) (lineEvents c fresh ls)
+LockClause = (c : ℕ) (ls : List Heard) → Kept (run c fresh ls) (lineEvents c fresh ls)

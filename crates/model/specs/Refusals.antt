@@ -11,7 +11,7 @@ use Rattle.calendar.specs.declared.Now.{Now}
 use Rattle.calendar.specs.Calendar.{latest}
 use Rattle.model.specs.Rows.{Row, isMarker}
 use Rattle.model.specs.Settings.{Config, Bucket, hasDefault, spentNumber, fits, sound}
-use Rattle.model.specs.Requests.{Letter, reading, writing, deleting, retaining, holding, bypassing, configuring, Rights, has, Retention, Terms, Setting, DefaultRetention, LifecycleRule, Get, Verb, Put, Copy, Retain, Hold, AddMarker, DeleteVersion, Set, Sweep, Ask, Context, Line, unreadable, reads, roomOf, nameOf, termsOf, retentionOf, settingOf, inRange}
+use Rattle.model.specs.Requests.{Letter, reading, writing, deleting, retaining, holding, bypassing, configuring, Rights, has, Retention, Terms, Setting, DefaultRetention, LifecycleRule, Get, Verb, Put, Copy, Retain, Hold, AddMarker, DeleteVersion, Set, Sweep, Ask, Context, Heard, unreadable, says, roomOf, nameOf, termsOf, retentionOf, settingOf, inRange}
 use Rattle.model.specs.Time.{nowOf, defaultEnd}
 use Rattle.model.specs.Locks.{locked, admits}
 use Rattle.model.specs.Effects.{rowOf, added, rowsAfter}
@@ -185,9 +185,9 @@ abbrev pub verbChecks : ℕ → Bucket → Now → Rights → Verb → List Chec
 verbChecks c b now who v = fieldChecks (b .settings .config) who (now .stamp) v ++ tableChecks c b now v
 
 -- The conditions on what the line says.
-abbrev pub requestChecks : ℕ → Bucket → Line → List Check
+abbrev pub requestChecks : ℕ → Bucket → Heard → List Check
 requestChecks c b (unreadable room) = check 3 true ∷ []
-requestChecks c b (reads q) =
+requestChecks c b (says q) =
     check 3 (outOfRange (q .context) (q .verb)) ∷ verbChecks c b (nowOf b (q .context)) (q .context .who) (q .verb)
 
 -- The last refusal's number.
@@ -195,9 +195,9 @@ abbrev pub lastRefusal : ℕ
 lastRefusal = 12
 
 -- The conditions in 01's order; whether the whole is sound is told apart, since buffers hold more than the bucket.
-abbrev pub checks : Bool → ℕ → Bucket → Line → List Check
+abbrev pub checks : Bool → ℕ → Bucket → Heard → List Check
 checks whole c b l = check 1 (not whole) ∷ check 2 (ltb (roomOf l) 256) ∷ requestChecks c b l
 
 -- The refusal: the first condition that holds, or 0.
-unfoldable pub refusal : ℕ → Bucket → Line → ℕ
+unfoldable pub refusal : ℕ → Bucket → Heard → ℕ
 refusal c b l = firstOf (checks (sound c b) c b l)

@@ -93,14 +93,14 @@ pub record Request : Type 0 where
   pub context : Context
   pub verb : Verb
 
--- A line can't be read, or it reads as a request; its answer buffer has a length in either case.
-pub data Line : Type 0 where
-  unreadable : (room : ℕ) → Line
-  reads : Request → Line
+-- What is heard of a line: it can't be read, or it says a request; its answer buffer has a length in either case.
+pub data Heard : Type 0 where
+  unreadable : (room : ℕ) → Heard
+  says : Request → Heard
 
-abbrev pub roomOf : Line → ℕ
+abbrev pub roomOf : Heard → ℕ
 roomOf (unreadable room) = room
-roomOf (reads q) = q .context .room
+roomOf (says q) = q .context .room
 
 -- ## The fields that several verbs have
 

@@ -5,7 +5,7 @@ use mathlib.Core.List.{List, [], _∷_, _++_}
 use lib.Dec.{eqb}
 use Rattle.buffers.specs.Choices.{pick}
 use Rattle.model.specs.Settings.{Bucket}
-use Rattle.model.specs.Requests.{Request, Line, unreadable, reads}
+use Rattle.model.specs.Requests.{Request, Heard, unreadable, says}
 use Rattle.model.specs.Effects.{after}
 use Rattle.model.specs.Refusals.{refusal}
 use Rattle.model.specs.Answers.{Answer, answerTo, givesNumber}
@@ -26,16 +26,16 @@ module _ {S C : Type 0} (step : S → C → S) where
 -- ## Lines on a bucket
 
 -- The bucket after an accepted line.
-abbrev pub accept : Bucket → Line → Bucket
+abbrev pub accept : Bucket → Heard → Bucket
 accept b (unreadable room) = b
-accept b (reads q) = after b q
+accept b (says q) = after b q
 
 -- The bucket after a line: nothing changes where it is refused.
-abbrev pub serve : ℕ → Bucket → Line → Bucket
+abbrev pub serve : ℕ → Bucket → Heard → Bucket
 serve c b l = pick (eqb (refusal c b l) 0) (accept b l) b
 
 -- The bucket after a list of lines.
-abbrev pub run : ℕ → Bucket → List Line → Bucket
+abbrev pub run : ℕ → Bucket → List Heard → Bucket
 run c b ls = left (serve c) b ls
 
 -- An accepted line: the bucket that the lines before it left, what it says, and whether its answer is that of a PUT or COPY with this number.
@@ -45,16 +45,16 @@ pub record Event : Type 0 where
   pub answered : ℕ → Bool
 
 -- What a line says, if it can be read.
-abbrev pub event : Bucket → Line → List Event
+abbrev pub event : Bucket → Heard → List Event
 event b (unreadable room) = []
-event b (reads q) = record { before = b; request = q; answered = λ v. givesNumber v (answerTo b q) } ∷ []
+event b (says q) = record { before = b; request = q; answered = λ v. givesNumber v (answerTo b q) } ∷ []
 
 -- The same, if the line is accepted.
-abbrev pub lineEvent : ℕ → Bucket → Line → List Event
+abbrev pub lineEvent : ℕ → Bucket → Heard → List Event
 lineEvent c b l = pick (eqb (refusal c b l) 0) (event b l) []
 
 -- The accepted lines of a list, in order.
-abbrev pub lineEvents : ℕ → Bucket → List Line → List Event
+abbrev pub lineEvents : ℕ → Bucket → List Heard → List Event
 lineEvents c b ls = gathered (serve c) (lineEvent c) b ls
 
 -- What a line gets back: a refusal's number, or an answer.
@@ -62,9 +62,9 @@ pub data Reply : Type 0 where
   no : ℕ → Reply
   ok : Answer → Reply
 
-abbrev pub replyTo : ℕ → Bucket → Line → Reply
+abbrev pub replyTo : ℕ → Bucket → Heard → Reply
 replyTo c b (unreadable room) = no (refusal c b (unreadable room))
-replyTo c b (reads q) = pick (eqb (refusal c b (reads q)) 0) (ok (answerTo b q)) (no (refusal c b (reads q)))
+replyTo c b (says q) = pick (eqb (refusal c b (says q)) 0) (ok (answerTo b q)) (no (refusal c b (says q)))
 
-abbrev pub replies : ℕ → Bucket → List Line → List Reply
+abbrev pub replies : ℕ → Bucket → List Heard → List Reply
 replies c b ls = gathered (serve c) (λ b l. replyTo c b l ∷ []) b ls

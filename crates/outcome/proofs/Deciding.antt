@@ -1,25 +1,22 @@
--- The outcome of a line along its conditions: the first that holds refuses, else what is decided is done.
+-- The outcome of a call along its conditions: the first that holds refuses, else what is decided is done.
 use Prim.Native.Nat.{ℕ, _≤_, _<_}
 use mathlib.Core.Path.{_≡_, refl, sym, _∙_}
 use mathlib.Core.Logic.{inl, inr}
 use mathlib.Core.Bool.{Bool, true, false, not, _&&_}
 use mathlib.Core.List.{List, [], _∷_, _++_}
-use mathlib.Core.Option.{Option, some, none}
 use native.Mathlib.Omega.{arith}
 use lib.Dec.{eqb, leb}
-use lib.ListN.{length}
 use borrow.Author.Tests.{eq-eqb, not-true, lt-ltb, le-ltb}
 use Rattle.buffers.specs.Choices.{pick}
 use Rattle.buffers.specs.Lists.{all}
 use Rattle.buffers.proofs.Tests.{either, clash, and-l, and-r}
 use Rattle.calendar.specs.Calendar.{latest}
-use Rattle.model.specs.Requests.{Verb, inRange}
+use Rattle.model.specs.Requests.{Verb, Request, unreadable, says, roomOf, inRange}
 use Rattle.model.specs.Time.{nowOf}
 use Rattle.model.specs.Refusals.{Check, firstOf, verbChecks}
-use Rattle.settings.specs.declared.Settings.{Settings}
 use Rattle.table.specs.Layout.{capacity}
-use Rattle.bucket.specs.Whole.{bucketOf, whole}
-use Rattle.request.specs.Grammar.{Said, readLine, asked}
+use Rattle.bucket.specs.Whole.{Lent, bucketOf, whole}
+use Rattle.outcome.specs.Calls.{Call, heard}
 use Rattle.outcome.specs.Decision.{Effect, refuses, does, decide, effect, decision}
 use Rattle.outcome.specs.Outcome.{refused, refusalOf, outcome}
 use Rattle.outcome.specs.Steps.{carried, done}
@@ -57,10 +54,10 @@ decide-done (x ∷ xs) e f h =
 
 -- ## The outcome
 
-module _ (s : Settings) (numbers keys line answer : List ℕ) where
+module _ (b : Lent) (g : Call) where
   -- What is done is refused with the first condition that holds, or carried out.
   done-decide : (now : ℕ) (v : Verb) (xs : List Check) (e : Effect) → numbered xs ≡ true
-      → pick (eqb (firstOf xs) 0) (carried s keys now v answer e) (refused (firstOf xs) s numbers keys answer) ≡ done s numbers keys now v answer (decide xs e)
+      → pick (eqb (firstOf xs) 0) (carried b now v (g .answer) e) (refused (firstOf xs) b (g .answer)) ≡ done b now v (g .answer) (decide xs e)
   done-decide now v [] e h = refl
   done-decide now v (x ∷ xs) e h =
       elim (either (x .holds)) [
@@ -68,29 +65,25 @@ module _ (s : Settings) (numbers keys line answer : List ℕ) where
         | inr t ↦ simp t (done-decide now v xs e (and-r (not (eqb (x .number) 0)) _ h))
       ]
 
-  pub outcome-1 : whole s numbers keys ≡ false → refused 1 s numbers keys answer ≡ outcome s numbers keys line answer
+  pub outcome-1 : whole b ≡ false → refused 1 b (g .answer) ≡ outcome b g
   unfolding outcome refusalOf
   outcome-1 w = simp w
 
-  pub outcome-2 : whole s numbers keys ≡ true → length answer < 256 → refused 2 s numbers keys answer ≡ outcome s numbers keys line answer
+  pub outcome-2 : whole b ≡ true → roomOf (heard g) < 256 → refused 2 b (g .answer) ≡ outcome b g
   unfolding outcome refusalOf
-  outcome-2 w l = go (readLine line) refl
-    where
-      go : (o : Option Said) → readLine line ≡ o → refused 2 s numbers keys answer ≡ outcome s numbers keys line answer
-      go none e = simp (w, e, lt-ltb _ _ l)
-      go (some q) e = simp (w, e, lt-ltb _ _ l)
+  outcome-2 w l = simp (w, lt-ltb _ _ l)
 
-  pub outcome-3 : whole s numbers keys ≡ true → 256 ≤ length answer → readLine line ≡ none → refused 3 s numbers keys answer ≡ outcome s numbers keys line answer
+  pub outcome-3 : (room : ℕ) → whole b ≡ true → 256 ≤ room → heard g ≡ unreadable room → refused 3 b (g .answer) ≡ outcome b g
   unfolding outcome refusalOf
-  outcome-3 w l e = simp (w, e, le-ltb _ _ l)
+  outcome-3 room w l e = simp (w, e, le-ltb _ _ l)
 
-  -- A readable line that the reader keeps within its ranges is done as it is decided.
-  pub outcome-said : (q : Said) → whole s numbers keys ≡ true → 256 ≤ length answer → readLine line ≡ some q → (leb (q .clock) latest && inRange (q .verb)) ≡ true
-      → done s numbers keys ((nowOf (bucketOf s numbers keys) (asked (length answer) q .context)) .stamp) (q .verb) answer (decision (capacity keys) (bucketOf s numbers keys) (asked (length answer) q)) ≡ outcome s numbers keys line answer
+  -- A request that the reader keeps within its ranges is done as it is decided.
+  pub outcome-said : (q : Request) → whole b ≡ true → 256 ≤ q .context .room → heard g ≡ says q → (leb (q .context .clock) latest && inRange (q .verb)) ≡ true
+      → done b ((nowOf (bucketOf b) (q .context)) .stamp) (q .verb) (g .answer) (decision (capacity (b .keys)) (bucketOf b) q) ≡ outcome b g
   unfolding outcome refusalOf
   outcome-said q w l e r =
-      let b = bucketOf s numbers keys in
-      let a = asked (length answer) q in
-      let now = nowOf (bucketOf s numbers keys) (asked (length answer) q .context) in
+      let x = bucketOf b in
+      let now = nowOf x (q .context) in
+      let who = q .context .who in
       simp (w, e, le-ltb _ _ l, r)
-      (sym (done-decide (now .stamp) (q .verb) (verbChecks (capacity keys) b now (q .who) (q .verb)) (effect b now (q .verb)) refl))
+      (sym (done-decide (now .stamp) (q .verb) (verbChecks (capacity (b .keys)) x now who (q .verb)) (effect x now who (q .verb)) refl))

@@ -1,10 +1,9 @@
--- What a line leaves of a whole bucket is whole again.
+-- What a call leaves of a whole bucket is whole again.
 use Prim.Native.Nat.{ℕ, _≤_}
 use mathlib.Core.Path.{_≡_, refl, sym, _∙_}
 use mathlib.Core.Logic.{inl, inr}
 use mathlib.Core.Bool.{true}
 use mathlib.Core.List.{List, [], _∷_}
-use mathlib.Core.Option.{Option, some, none}
 use native.Mathlib.Omega.{arith}
 use lib.Dec.{eqb}
 use lib.ListN.{length}
@@ -17,19 +16,18 @@ use Rattle.blocks.proofs.Blocks.{key-back, block-block}
 use Rattle.model.specs.Rows.{Row}
 use Rattle.model.specs.Settings as model
 use Rattle.model.specs.Settings.{soundRule, soundRules, soundConfig}
-use Rattle.model.specs.Requests.{reads}
+use Rattle.model.specs.Requests.{Request, Heard, unreadable, says}
 use Rattle.model.specs.Effects.{after}
 use Rattle.model.specs.Refusals.{refusal}
 use Rattle.model.proofs.Sound.{whole as sound-whole, sound-after}
-use Rattle.settings.specs.declared.Settings.{Settings}
 use Rattle.settings.specs.Meaning.{rulesMean, settingsMean, rulesFrom, settingsFrom, prefixesAre}
 use Rattle.table.specs.Layout.{keysOf, capacity}
-use Rattle.bucket.specs.Whole.{bucketOf, whole}
+use Rattle.bucket.specs.Whole.{Lent, bucketOf, whole}
 use Rattle.table.proofs.Held.{read-back, keys-length}
 use Rattle.bucket.proofs.Whole.{whole-parts, sound-parts, whole-of}
-use Rattle.request.specs.Grammar.{Said, readLine, lineOf, asked}
+use Rattle.outcome.specs.Calls.{Call, heard}
 use Rattle.outcome.specs.Outcome.{accepted, refusalOf, outcome}
-use Rattle.outcome.proofs.Demands.{refused-unchanged, unreadable-refused, accepted-line}
+use Rattle.outcome.proofs.Demands.{refused-unchanged, unreadable-refused, accepted-request}
 
 rule-means : (k : List ℕ) (c n : ℕ) (us vs : List model.Rule) → length k ≤ 63 → vs ≡ us → record { prefix = keyIn (blockOf k); currentDays = c; noncurrentDays = n } ∷ vs ≡ record { prefix = k; currentDays = c; noncurrentDays = n } ∷ us
 rule-means k c n us vs l e = rw (key-back k l, e)
@@ -57,45 +55,49 @@ config-rules s e = and-r (model.soundDefault (s .default)) _ e
 settings-mean : (s : model.Settings) (used : ℕ) → soundConfig (s .config) ≡ true → settingsMean (settingsFrom s used) ≡ s
 settings-mean s used e = rw (rules-mean (s .config .rules) (rules-of (s .config .rules) (config-rules (s .config) e)))
 
--- The model's refusal, where the whole is sound.
-pub model-refusal : (s : Settings) (n b line a : List ℕ) → whole s n b ≡ true → refusalOf s n b line a ≡ refusal (capacity b) (bucketOf s n b) (lineOf (length a) line)
-unfolding refusalOf refusal
-model-refusal s n b line a w = rw (w, (whole-parts s n b w) .is-sound)
+module _ (b : Lent) (g : Call) where
+  -- The model's refusal, where the whole is sound.
+  pub model-refusal : whole b ≡ true → refusalOf b g ≡ refusal (capacity (b .keys)) (bucketOf b) (heard g)
+  unfolding refusalOf refusal
+  model-refusal w = rw (w, (whole-parts b w) .is-sound)
 
-model-accepts : (s : Settings) (n b line a : List ℕ) (q : Said) → whole s n b ≡ true → readLine line ≡ some q → refusalOf s n b line a ≡ 0 → refusal (capacity b) (bucketOf s n b) (reads (asked (length a) q)) ≡ 0
-model-accepts s n b line a q w e z = rw e at (sym (model-refusal s n b line a w) ∙ z)
+  model-accepts : (q : Request) → whole b ≡ true → heard g ≡ says q → refusalOf b g ≡ 0 → refusal (capacity (b .keys)) (bucketOf b) (says q) ≡ 0
+  model-accepts q w e z = rw e at (sym (model-refusal w) ∙ z)
 
-pub accepted-whole : (s : Settings) (n b line a : List ℕ) (q : Said) → whole s n b ≡ true → readLine line ≡ some q → refusalOf s n b line a ≡ 0
-    → whole ((accepted s n b (asked (length a) q) a) .settings) ((accepted s n b (asked (length a) q) a) .numbers) ((accepted s n b (asked (length a) q) a) .keys) ≡ true
-accepted-whole s n b line a q w e z =
-    let p = whole-parts s n b w in
-    let m = sound-after (capacity b) (bucketOf s n b) (asked (length a) q) (model-accepts s n b line a q w e z) in
-    let c = (sound-whole (capacity b) (after (bucketOf s n b) (asked (length a) q)) m) .config-sound in
-    whole-of _ (capacity b) ((after (bucketOf s n b) (asked (length a) q)) .rows) _ _ (p .some) (p .most) refl refl refl
-    (prefixes-are ((after (bucketOf s n b) (asked (length a) q)) .settings .config .rules) (rules-of _ (config-rules ((after (bucketOf s n b) (asked (length a) q)) .settings .config) c)))
-    (rw (settings-mean ((after (bucketOf s n b) (asked (length a) q)) .settings) (length ((after (bucketOf s n b) (asked (length a) q)) .rows)) c) m)
+  -- What an accepted request leaves is whole.
+  pub accepted-whole : (q : Request) → whole b ≡ true → heard g ≡ says q → refusalOf b g ≡ 0 → whole ((accepted b q (g .answer)) .bucket) ≡ true
+  accepted-whole q w e z =
+      let c = capacity (b .keys) in
+      let x = after (bucketOf b) q in
+      let p = whole-parts b w in
+      let m = sound-after c (bucketOf b) q (model-accepts q w e z) in
+      let f = (sound-whole c x m) .config-sound in
+      whole-of _ c (x .rows) _ _ (p .some) (p .most) refl refl refl
+      (prefixes-are (x .settings .config .rules) (rules-of _ (config-rules (x .settings .config) f)))
+      (rw (settings-mean (x .settings) (length (x .rows)) f) m)
 
--- The bucket that an accepted line leaves is the model's.
-pub accepted-bucket : (s : Settings) (n b line a : List ℕ) (q : Said) → whole s n b ≡ true → readLine line ≡ some q → refusalOf s n b line a ≡ 0
-    → bucketOf ((accepted s n b (asked (length a) q) a) .settings) ((accepted s n b (asked (length a) q) a) .numbers) ((accepted s n b (asked (length a) q) a) .keys) ≡ after (bucketOf s n b) (asked (length a) q)
-accepted-bucket s n b line a q w e z =
-    let m = sound-after (capacity b) (bucketOf s n b) (asked (length a) q) (model-accepts s n b line a q w e z) in
-    let c = (sound-whole (capacity b) (after (bucketOf s n b) (asked (length a) q)) m) .config-sound in
-    let p = sound-parts (capacity b) (after (bucketOf s n b) (asked (length a) q)) m in
-    rw (settings-mean ((after (bucketOf s n b) (asked (length a) q)) .settings) (length ((after (bucketOf s n b) (asked (length a) q)) .rows)) c, read-back (capacity b) ((after (bucketOf s n b) (asked (length a) q)) .rows) (p .room) (p .keys-fit))
+  -- It is the model's bucket.
+  pub accepted-bucket : (q : Request) → whole b ≡ true → heard g ≡ says q → refusalOf b g ≡ 0 → bucketOf ((accepted b q (g .answer)) .bucket) ≡ after (bucketOf b) q
+  accepted-bucket q w e z =
+      let c = capacity (b .keys) in
+      let x = after (bucketOf b) q in
+      let m = sound-after c (bucketOf b) q (model-accepts q w e z) in
+      let f = (sound-whole c x m) .config-sound in
+      let p = sound-parts c x m in
+      rw (settings-mean (x .settings) (length (x .rows)) f, read-back c (x .rows) (p .room) (p .keys-fit))
+
+  -- Every call leaves a whole bucket whole.
+  pub outcome-whole : whole b ≡ true → whole ((outcome b g) .bucket) ≡ true
+  outcome-whole w =
+      elim (either (eqb (refusalOf b g) 0)) [
+        | inl t ↦ go (heard g) refl (eqb-true (refusalOf b g) 0 t)
+        | inr t ↦ rw (refused-unchanged b g (eqb-false (refusalOf b g) 0 t)) w
+      ]
+    where
+      go : (h : Heard) → heard g ≡ h → refusalOf b g ≡ 0 → whole ((outcome b g) .bucket) ≡ true
+      go (unreadable room) e z = absurd (unreadable-refused b g room e z)
+      go (says q) e z = rw (accepted-request b g q e z) (accepted-whole q w e z)
 
 -- The capacity stays.
-pub accepted-capacity : (b : List ℕ) (xs : List Row) → capacity (keysOf (capacity b) xs) ≡ capacity b
-accepted-capacity b xs = let e = keys-length (capacity b) xs in omega arith
-
--- Every line leaves a whole bucket whole.
-pub outcome-whole : (s : Settings) (n b line a : List ℕ) → whole s n b ≡ true → whole ((outcome s n b line a) .settings) ((outcome s n b line a) .numbers) ((outcome s n b line a) .keys) ≡ true
-outcome-whole s n b line a w =
-    elim (either (eqb (refusalOf s n b line a) 0)) [
-      | inl t ↦ go (readLine line) refl (eqb-true (refusalOf s n b line a) 0 t)
-      | inr t ↦ rw (refused-unchanged s n b line a (eqb-false (refusalOf s n b line a) 0 t)) w
-    ]
-  where
-    go : (o : Option Said) → readLine line ≡ o → refusalOf s n b line a ≡ 0 → whole ((outcome s n b line a) .settings) ((outcome s n b line a) .numbers) ((outcome s n b line a) .keys) ≡ true
-    go none e z = absurd (unreadable-refused s n b line a e z)
-    go (some q) e z = rw (accepted-line s n b line a q e z) (accepted-whole s n b line a q w e z)
+pub accepted-capacity : (keys : List ℕ) (xs : List Row) → capacity (keysOf (capacity keys) xs) ≡ capacity keys
+accepted-capacity keys xs = let e = keys-length (capacity keys) xs in omega arith

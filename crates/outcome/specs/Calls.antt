@@ -1,18 +1,28 @@
--- The bucket as it is lent from call to call.
+-- What is sent to the hub, and what is heard of it.
 use Prim.Native.Nat.{ℕ}
 use mathlib.Core.List.{List}
-use Rattle.settings.specs.declared.Settings.{Settings}
-use Rattle.outcome.specs.Outcome.{Outcome}
+use lib.ListN.{length}
+use Rattle.buffers.specs.Choices.{thenSome}
+use Rattle.model.specs.Requests.{Heard, unreadable, says}
+use Rattle.request.specs.Grammar.{readLine, asked}
 
--- The bucket as it is lent: its settings, the numbers of its rows, and their key bytes.
-pub record Lent : Type 0 where
-  pub settings : Settings
-  pub numbers : List ℕ
-  pub keys : List ℕ
+-- What is sent: a request line's bytes.
+pub data Sent : Type 0 where
+  line : List ℕ → Sent
 
-abbrev pub lent : Settings → List ℕ → List ℕ → Lent
-lent s numbers keys = record { settings = s; numbers = numbers; keys = keys }
+-- A call: what is sent, and an answer buffer, each of any contents and length.
+pub record Call : Type 0 where
+  pub sent : Sent
+  pub answer : List ℕ
 
--- What a call leaves of the bucket.
-abbrev pub leaves : Outcome → Lent
-leaves o = record { settings = o .settings; numbers = o .numbers; keys = o .keys }
+-- The call of a line.
+abbrev pub call : List ℕ → List ℕ → Call
+call s answer = record { sent = line s; answer = answer }
+
+-- A line is read by the grammar.
+abbrev pub heardOf : ℕ → Sent → Heard
+heardOf room (line s) = thenSome (readLine s) (unreadable room) (λ q. says (asked room q))
+
+-- What is heard of a call.
+abbrev pub heard : Call → Heard
+heard g = heardOf (length (g .answer)) (g .sent)

@@ -5,7 +5,7 @@ use Rattle.buffers.specs.Choices.{pick}
 use Rattle.calendar.specs.declared.Now.{Now}
 use Rattle.model.specs.Rows.{Row}
 use Rattle.model.specs.Settings.{Bucket}
-use Rattle.model.specs.Requests.{Verb, Request}
+use Rattle.model.specs.Requests.{Rights, Verb, Request}
 use Rattle.model.specs.Time.{nowOf}
 use Rattle.model.specs.Effects.{added, rowsAfter}
 use Rattle.model.specs.Refusals.{Check, tableChecks, verbChecks}
@@ -27,13 +27,16 @@ abbrev pub decide : List Check → Effect → Decision
 decide [] e = does e
 decide (x ∷ xs) e = pick (x .holds) (refuses (x .number)) (decide xs e)
 
-abbrev pub effect : Bucket → Now → Verb → Effect
-effect b now v = record { rows = rowsAfter b now v; taken = added b now v; text = answerText (reply b now v) }
+abbrev pub effect : Bucket → Now → Rights → Verb → Effect
+effect b now who v = record { rows = rowsAfter b now v; taken = added b now v; text = answerText (reply b now who v) }
 
 -- By refusals 7 to 12.
-abbrev pub tableDecision : ℕ → Bucket → Now → Verb → Decision
-tableDecision c b now v = decide (tableChecks c b now v) (effect b now v)
+abbrev pub tableDecision : ℕ → Bucket → Now → Rights → Verb → Decision
+tableDecision c b now who v = decide (tableChecks c b now v) (effect b now who v)
 
 -- By refusals 4 to 12.
 abbrev pub decision : ℕ → Bucket → Request → Decision
-decision c b q = decide (verbChecks c b (nowOf b (q .context)) (q .context .who) (q .verb)) (effect b (nowOf b (q .context)) (q .verb))
+decision c b q =
+    let now = nowOf b (q .context) in
+    let who = q .context .who in
+    decide (verbChecks c b now who (q .verb)) (effect b now who (q .verb))

@@ -1,5 +1,5 @@
-pub mod Outcome
 pub mod Calls
+pub mod Outcome
 pub mod Decision
 pub mod Steps
 pub mod Printed

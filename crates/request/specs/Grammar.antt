@@ -173,7 +173,3 @@ readLine s = thenSome (requestIn s) none (λ q. some (saidBy s q))
 -- The request that a readable line asks, with an answer buffer of this length.
 abbrev pub asked : ℕ → Said → model.Request
 asked room q = record { context = record { room = room; clock = q .clock; who = q .who }; verb = q .verb }
-
--- The line as the bucket meets it.
-abbrev pub lineOf : ℕ → List ℕ → model.Line
-lineOf room s = thenSome (readLine s) (model.unreadable room) (λ q. model.reads (asked room q))
