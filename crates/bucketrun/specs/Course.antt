@@ -9,8 +9,7 @@ use Rattle.buffers.specs.Writes.{Wrote}
 use Rattle.text.specs.Lines.{linesOf}
 use Rattle.text.specs.Keys.{contains}
 use Rattle.settings.specs.declared.Settings.{Settings}
-use Rattle.bucket.specs.Whole.{whole}
-use Rattle.outcome.specs.Calls.{Lent, lent}
+use Rattle.bucket.specs.Whole.{Lent, lent, whole}
 use Rattle.bucketrun.specs.declared.Course.{Course as After}
 use Rattle.bucketrun.specs.declared.Block.{Block}
 use Rattle.bucketrun.specs.declared.Came.{Came}
@@ -21,26 +20,26 @@ use Rattle.bucketrun.specs.Program.{leftBy, printedBy, endedLength, wait
 
 -- The bucket is whole, and the output has room for what waits and for an answer.
 pub record Servable (s : Settings) (numbers keys out : List ℕ) : Type 0 where
-  pub is-whole : whole s numbers keys ≡ true
+  pub is-whole : whole (lent s numbers keys) ≡ true
   pub long : length out ≡ 131072
 
 -- The lines of the first bytes of a block are served: what they leave, and a cut behind a line feed.
-pub record Through (h : Lent) (block : List ℕ) (i : ℕ) (s : Settings) (numbers keys : List ℕ) : Type 0 where
-  pub is-whole : whole s numbers keys ≡ true
-  pub leads : lent s numbers keys ≡ leftBy h (linesOf (take i block))
+pub record Through (h : Lent) (block : List ℕ) (i : ℕ) (b : Lent) : Type 0 where
+  pub is-whole : whole b ≡ true
+  pub leads : b ≡ leftBy h (linesOf (take i block))
   pub inside : i ≤ length block
   pub cut : endedLength (take i block) ≡ i
 
 -- Some lines from a place on are served, and what they print stands at the output's start; where there is room for more, they are all that a line feed ends.
 pub record ServedSome (h : Lent) (block : List ℕ) (from : ℕ) (out : List ℕ) (r : After) (numbers keys out′ : List ℕ) : Type 0 where
   pub span : Span from (r .served) (length block)
-  pub through : Through h (drop from block) (r .served - from) (r .settings) numbers keys
+  pub through : Through h (drop from block) (r .served - from) (lent (r .settings) numbers keys)
   pub prints : Wrote out 0 (printedBy h (linesOf (take (r .served - from) (drop from block)))) 131072 out′ (r .at)
   pub all : r .at ≤ 65536 → r .served - from ≡ endedLength (drop from block)
 
 -- Between two of them; the lists with ₀ are those that came.
 pub record BetweenLines (h : Lent) (block : List ℕ) (from : ℕ) (numbers₀ keys₀ out₀ : List ℕ) (s : Settings) (numbers keys out : List ℕ) (at i : ℕ) : Type 0 where
-  pub through : Through h (drop from block) (i - from) s numbers keys
+  pub through : Through h (drop from block) (i - from) (lent s numbers keys)
   pub prints : Wrote out₀ 0 (printedBy h (linesOf (take (i - from) (drop from block)))) 131072 out at
   pub span : Span from i (length block)
   pub long : length out ≡ 131072
@@ -50,12 +49,12 @@ pub record BetweenLines (h : Lent) (block : List ℕ) (from : ℕ) (numbers₀ k
 
 -- Lines are served and written: all that a line feed ends, where all output was taken.
 pub record ServedAll (h : Lent) (block : List ℕ) (r : Block) (numbers keys : List ℕ) : Type 0 where
-  pub through : Through h block (r .served) (r .settings) numbers keys
+  pub through : Through h block (r .served) (lent (r .settings) numbers keys)
   pub all : r .told ≡ true → r .served ≡ endedLength block
 
 -- Between two parts of a block, each of which is written once it is served.
 pub record BetweenParts (h : Lent) (block numbers₀ keys₀ out₀ : List ℕ) (s : Settings) (numbers keys out : List ℕ) (i : ℕ) : Type 0 where
-  pub through : Through h block i s numbers keys
+  pub through : Through h block i (lent s numbers keys)
   pub inside : i ≤ length block
   pub long : length out ≡ 131072
   pub numbers-same : length numbers ≡ length numbers₀
@@ -72,7 +71,7 @@ pub record CameBehind (input : List ℕ) (kept : ℕ) (exit : List ℕ) (r : Cam
 
 -- A block is served, and the start of a line may be kept: what stands then is what the block leaves, where all output was taken.
 pub record TookBlock (h : Lent) (block : List ℕ) (r : Rest) (numbers keys input′ : List ℕ) : Type 0 where
-  pub is-whole : whole (r .settings) numbers keys ≡ true
+  pub is-whole : whole (lent (r .settings) numbers keys) ≡ true
   pub few : r .kept ≤ 513
   pub takes : r .told ≡ true → waiting (lent (r .settings) numbers keys) (take (r .kept) input′) ≡ afterBlock (waiting h []) block
 

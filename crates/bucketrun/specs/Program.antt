@@ -8,8 +8,9 @@ use Rattle.buffers.specs.Texts.{bytes}
 use Rattle.text.specs.Lines.{linesOf}
 use Rattle.text.specs.Keys.{contains}
 use Rattle.model.specs.Run.{left, gathered}
+use Rattle.bucket.specs.Whole.{Lent}
+use Rattle.outcome.specs.Calls.{call}
 use Rattle.outcome.specs.Outcome.{Outcome, outcome}
-use Rattle.outcome.specs.Calls.{Lent, leaves}
 use Rattle.outcome.specs.Printed.{printedOf}
 
 -- ## Lines
@@ -19,10 +20,10 @@ unfoldable pub answerRoom : List ℕ
 answerRoom = replicate 65536 0
 
 abbrev pub servedLine : Lent → List ℕ → Outcome
-servedLine h l = outcome (h .settings) (h .numbers) (h .keys) l answerRoom
+servedLine h l = outcome h (call l answerRoom)
 
 abbrev pub afterLine : Lent → List ℕ → Lent
-afterLine h l = leaves (servedLine h l)
+afterLine h l = (servedLine h l) .bucket
 
 -- What lines leave, each handed the bucket that the one before it left.
 abbrev pub leftBy : Lent → List (List ℕ) → Lent

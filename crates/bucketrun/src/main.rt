@@ -9,7 +9,7 @@ ghost use Prim.Native.Nat.{_+_, _≤_, _<_, min};
 ghost use lib.ListN.{length, take, drop, replicate};
 ghost use Rattle.buffers.specs.Ranges.{Within, Span};
 ghost use Rattle.buffers.specs.Writes.{Wrote};
-ghost use Rattle.outcome.specs.Calls.{lent};
+ghost use Rattle.bucket.specs.Whole.{lent};
 ghost use Rattle.outcome.specs.Printed.{printed};
 ghost use Rattle.bucketrun.specs.Course.{Servable, ServedSome, ServedAll, CameBehind, TookBlock, Startable, Ran};
 

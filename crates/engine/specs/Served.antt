@@ -15,7 +15,7 @@ use Rattle.settings.specs.Meaning.{settingsMean, rulesMean, prefixesAre}
 use Rattle.settings.specs.State.{stateOf}
 use Rattle.settings.specs.Changes.{withProgress}
 use Rattle.table.specs.Layout.{rowsOf, capacity}
-use Rattle.bucket.specs.Whole.{whole}
+use Rattle.bucket.specs.Whole.{Lent, lent, whole}
 use Rattle.request.specs.declared.Action.{Action}
 use Rattle.request.specs.declared.Verb.{Verb}
 use Rattle.request.specs.declared.Verb.the-variants as verb
@@ -27,6 +27,7 @@ use Rattle.judge.specs.Meaning.{verdictMeans, Feasible}
 use Rattle.judge.specs.State.{rowsIn, Ready}
 use Rattle.judge.specs.Premises.{Asked}
 use Rattle.apply.specs.Applied.{judged}
+use Rattle.outcome.specs.Calls.{call}
 use Rattle.outcome.specs.Outcome.{Outcome, outcome}
 use Rattle.outcome.specs.Steps.{done}
 use Rattle.engine.specs.declared.Served.{Served}
@@ -34,16 +35,16 @@ use Rattle.engine.specs.declared.Step.{Step}
 
 abbrev pub outcomeFrom : Served → List ℕ → List ℕ → List ℕ → Outcome
 outcomeFrom r numbers keys answer =
-    record { number = r .number; len = r .len; settings = r .settings; numbers = numbers; keys = keys; answer = answer }
+    record { number = r .number; len = r .len; bucket = lent (r .settings) numbers keys; answer = answer }
 
 -- what a call returns after a step
 abbrev pub served : Settings → Step → Served
 served s x = record { number = x .number; len = x .len; settings = withProgress s (x .time) (x .used) (x .next) }
 
 -- The bucket is whole, and the line passes the screen: it says this verb, and this is its now.
-pub record Passing (s : Settings) (numbers keys line answer : List ℕ) (v : Verb) (when : Now) : Type 0 where
-  pub is-whole : whole s numbers keys ≡ true
-  pub passes : Passed v when ≡ screenedLine (settingsMean s .config) (s .time) line (length answer)
+pub record Passing (b : Lent) (line answer : List ℕ) (v : Verb) (when : Now) : Type 0 where
+  pub is-whole : whole b ≡ true
+  pub passes : Passed v when ≡ screenedLine (settingsMean (b .settings) .config) (b .settings .time) line (length answer)
 
 -- ## A verdict
 
@@ -56,7 +57,7 @@ pub record CanCarryOut (s : State) (numbers keys line answer : List ℕ) (v : Ve
 -- With any settings of that state, what is returned and left is the verdict's decision, done, where the verb sets nothing.
 pub record CarriedOut (s : State) (numbers keys line answer : List ℕ) (v : Verdict) (now : ℕ) (fates : List ℕ) (x : Step) (numbers′ keys′ answer′ : List ℕ) : Type 0 where
   pub is : (settings : Settings) (u : model.Verb) → s ≡ stateOf settings → prefixesAre (settings .rules) ≡ true → model.settingOf u ≡ none
-      → outcomeFrom (served settings x) numbers′ keys′ answer′ ≡ done settings numbers keys now u answer (verdictMeans (judged line (settings .next) now fates) (rowsOf numbers keys (settings .used)) v)
+      → outcomeFrom (served settings x) numbers′ keys′ answer′ ≡ done (lent settings numbers keys) now u answer (verdictMeans (judged line (settings .next) now fates) (rowsOf numbers keys (settings .used)) v)
 
 -- ## An action, and SWEEP
 
@@ -69,7 +70,7 @@ pub record Actable (s : State) (numbers keys line answer : List ℕ) (x : Action
 
 -- With the settings of a line that passes, what is returned and left is what comes of the line.
 pub record Acted (s : State) (numbers keys line answer : List ℕ) (action : Action) (when : Now) (x : Step) (numbers′ keys′ answer′ : List ℕ) : Type 0 where
-  pub is : (settings : Settings) → s ≡ stateOf settings → Passing settings numbers keys line answer (verb.Act action) when → outcomeFrom (served settings x) numbers′ keys′ answer′ ≡ outcome settings numbers keys line answer
+  pub is : (settings : Settings) → s ≡ stateOf settings → Passing (lent settings numbers keys) line answer (verb.Act action) when → outcomeFrom (served settings x) numbers′ keys′ answer′ ≡ outcome (lent settings numbers keys) (call line answer)
 
 -- A sweep that can be judged by these rules, and room for its answer.
 pub record SweepAsked (s : State) (rules : List Rule) (numbers keys answer : List ℕ) (when : Now) : Type 0 where
@@ -80,4 +81,4 @@ pub record SweepAsked (s : State) (rules : List Rule) (numbers keys answer : Lis
   pub one-now : when .stamp ≡ when .judge
 
 pub record Swept (s : State) (rules : List Rule) (numbers keys line answer : List ℕ) (when : Now) (x : Step) (numbers′ keys′ answer′ : List ℕ) : Type 0 where
-  pub is : (settings : Settings) → s ≡ stateOf settings → settings .rules ≡ rules → Passing settings numbers keys line answer verb.Sweep when → outcomeFrom (served settings x) numbers′ keys′ answer′ ≡ outcome settings numbers keys line answer
+  pub is : (settings : Settings) → s ≡ stateOf settings → settings .rules ≡ rules → Passing (lent settings numbers keys) line answer verb.Sweep when → outcomeFrom (served settings x) numbers′ keys′ answer′ ≡ outcome (lent settings numbers keys) (call line answer)

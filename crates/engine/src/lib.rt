@@ -17,8 +17,9 @@ ghost use mathlib.Core.Bool.{true};
 ghost use mathlib.Core.List.{List};
 ghost use Prim.Native.Nat.{ℕ, _≤_};
 ghost use lib.ListN.{length, replicate};
-ghost use Rattle.bucket.specs.Whole.{whole};
+ghost use Rattle.bucket.specs.Whole.{lent, whole};
 ghost use Rattle.request.specs.declared.Verb.the-variants as verb;
+ghost use Rattle.outcome.specs.Calls.{call};
 ghost use Rattle.outcome.specs.Outcome.{outcome};
 ghost use Rattle.engine.specs.Configured.{Settable};
 ghost use Rattle.engine.specs.Served.{outcomeFrom, served, Passing, CanCarryOut, CarriedOut, Actable, Acted, SweepAsked, Swept};
@@ -151,8 +152,8 @@ fn serve_action(
     action: Action,
     when: Now,
 ) -> Served
-    requires { ⌜ Passing s (now rows) (now keys) (now line) (now answer) (verb.Act action) when ⌝ }
-    ensures { λ r. ⌜ outcomeFrom r (now (rows .exit)) (now (keys .exit)) (now (answer .exit)) ≡ outcome s (now (rows .entry)) (now (keys .entry)) (now (line .entry)) (now (answer .entry)) ⌝ }
+    requires { ⌜ Passing (lent s (now rows) (now keys)) (now line) (now answer) (verb.Act action) when ⌝ }
+    ensures { λ r. ⌜ outcomeFrom r (now (rows .exit)) (now (keys .exit)) (now (answer .exit)) ≡ outcome (lent s (now (rows .entry)) (now (keys .entry))) (call (now (line .entry)) (now (answer .entry))) ⌝ }
 {
     let state = settings::state_of(s);
     let step = act(state, rows, keys, line, answer, action, when);
@@ -168,8 +169,8 @@ fn serve_sweep(
     answer: &mut [u8],
     when: Now,
 ) -> Served
-    requires { ⌜ Passing s (now rows) (now keys) (now line) (now answer) verb.Sweep when ⌝ }
-    ensures { λ r. ⌜ outcomeFrom r (now (rows .exit)) (now (keys .exit)) (now (answer .exit)) ≡ outcome s (now (rows .entry)) (now (keys .entry)) (now (line .entry)) (now (answer .entry)) ⌝ }
+    requires { ⌜ Passing (lent s (now rows) (now keys)) (now line) (now answer) verb.Sweep when ⌝ }
+    ensures { λ r. ⌜ outcomeFrom r (now (rows .exit)) (now (keys .exit)) (now (answer .exit)) ≡ outcome (lent s (now (rows .entry)) (now (keys .entry))) (call (now (line .entry)) (now (answer .entry))) ⌝ }
 {
     let state = settings::state_of(s);
     let rules = s.rules;
@@ -181,7 +182,7 @@ fn serve_sweep(
 fn serve_setting(s: Settings, line: &[u8], answer: &mut [u8], setting: Setting, when: Now) -> Served
     requires { ⌜ Settable (now line) s setting ⌝ }
     requires { ⌜ 256 ≤ length (now answer) ⌝ }
-    ensures { λ r. ⌜ ((numbers keys : List ℕ) → Passing s numbers keys (now (line .entry)) (now (answer .entry)) (verb.Set setting) when → outcomeFrom r numbers keys (now (answer .exit)) ≡ outcome s numbers keys (now (line .entry)) (now (answer .entry))) ⌝ }
+    ensures { λ r. ⌜ ((numbers keys : List ℕ) → Passing (lent s numbers keys) (now (line .entry)) (now (answer .entry)) (verb.Set setting) when → outcomeFrom r numbers keys (now (answer .exit)) ≡ outcome (lent s numbers keys) (call (now (line .entry)) (now (answer .entry)))) ⌝ }
 {
     let len = answers::write_answer(answer, Answer::Done);
     let set = configure::configured(s, line, setting);
@@ -203,8 +204,8 @@ fn serve_query(
     query: Query,
     when: Now,
 ) -> Served
-    requires { ⌜ Passing s (now rows) (now keys) (now line) (now answer) (verb.Ask query) when ⌝ }
-    ensures { λ r. ⌜ outcomeFrom r (now (rows .entry)) (now (keys .entry)) (now (answer .exit)) ≡ outcome s (now (rows .entry)) (now (keys .entry)) (now (line .entry)) (now (answer .entry)) ⌝ }
+    requires { ⌜ Passing (lent s (now rows) (now keys)) (now line) (now answer) (verb.Ask query) when ⌝ }
+    ensures { λ r. ⌜ outcomeFrom r (now (rows .entry)) (now (keys .entry)) (now (answer .exit)) ≡ outcome (lent s (now (rows .entry)) (now (keys .entry))) (call (now (line .entry)) (now (answer .entry))) ⌝ }
 {
     let state = settings::state_of(s);
     match judge::judge_query(rows, keys, line, state, query, when) {
@@ -230,8 +231,8 @@ pub fn serve_whole(
     line: &[u8],
     answer: &mut [u8],
 ) -> Served
-    requires { ⌜ whole s (now rows) (now keys) ≡ true ⌝ }
-    ensures { λ r. ⌜ outcomeFrom r (now (rows .exit)) (now (keys .exit)) (now (answer .exit)) ≡ outcome s (now (rows .entry)) (now (keys .entry)) (now (line .entry)) (now (answer .entry)) ⌝ }
+    requires { ⌜ whole (lent s (now rows) (now keys)) ≡ true ⌝ }
+    ensures { λ r. ⌜ outcomeFrom r (now (rows .exit)) (now (keys .exit)) (now (answer .exit)) ≡ outcome (lent s (now (rows .entry)) (now (keys .entry))) (call (now (line .entry)) (now (answer .entry))) ⌝ }
 {
     let state = settings::state_of(s);
     match screen::screen_line(state, line, answer.len()) {
@@ -253,7 +254,7 @@ pub fn serve(
     line: &[u8],
     answer: &mut [u8],
 ) -> Served
-    ensures { λ r. ⌜ outcomeFrom r (now (rows .exit)) (now (keys .exit)) (now (answer .exit)) ≡ outcome s (now (rows .entry)) (now (keys .entry)) (now (line .entry)) (now (answer .entry)) ⌝ }
+    ensures { λ r. ⌜ outcomeFrom r (now (rows .exit)) (now (keys .exit)) (now (answer .exit)) ≡ outcome (lent s (now (rows .entry)) (now (keys .entry))) (call (now (line .entry)) (now (answer .entry))) ⌝ }
 {
     if bucket::is_whole(s, rows, keys) {
         return serve_whole(s, rows, keys, line, answer);

@@ -7,9 +7,9 @@ use lib.ListN.{length, drop}
 use Rattle.text.specs.Lines.{linesOf}
 use Rattle.model.specs.Run.{left, gathered}
 use Rattle.settings.specs.declared.Settings.{Settings}
-use Rattle.bucket.specs.Whole.{whole}
-use Rattle.outcome.specs.Calls.{Lent, lent, leaves}
-use Rattle.guarantee.specs.Calls.{Call, served}
+use Rattle.bucket.specs.Whole.{Lent, lent, whole}
+use Rattle.outcome.specs.Calls.{Call, call}
+use Rattle.outcome.specs.Outcome.{outcome}
 
 -- What a list of lines leaves.
 pub record Ended : Type 0 where
@@ -19,12 +19,9 @@ pub record Ended : Type 0 where
 abbrev pub ended : Lent → List ℕ → Ended
 ended s answer = record { bucket = s; answer = answer }
 
-abbrev pub call : List ℕ → List ℕ → Call
-call line answer = record { line = line; answer = answer }
-
 -- A line is handed the bucket and the answer buffer that the one before it left.
 abbrev pub lineStep : Ended → List ℕ → Ended
-lineStep e l = let o = served (e .bucket) (call l (e .answer)) in ended (leaves o) (o .answer)
+lineStep e l = let o = outcome (e .bucket) (call l (e .answer)) in ended (o .bucket) (o .answer)
 
 abbrev pub servedLines : Lent → List ℕ → List (List ℕ) → Ended
 servedLines s answer ls = left lineStep (ended s answer) ls
@@ -35,7 +32,7 @@ callsOf s answer ls = gathered lineStep (λ e l. call l (e .answer) ∷ []) (end
 
 -- What holds between two lines: the bucket is whole, the lines from i on lead to the end, and the buffers have their lengths.
 pub record Serving (text : List ℕ) (end : Ended) (numbers₀ keys₀ answer₀ : List ℕ) (i : ℕ) (s : Settings) (numbers keys answer : List ℕ) : Type 0 where
-  pub is-whole : whole s numbers keys ≡ true
+  pub is-whole : whole (lent s numbers keys) ≡ true
   pub leads : end ≡ servedLines (lent s numbers keys) answer (linesOf (drop i text))
   pub most : i ≤ length text + 1
   pub numbers-long : length numbers ≡ length numbers₀

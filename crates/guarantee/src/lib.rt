@@ -3,8 +3,7 @@ use settings::Settings;
 ghost use mathlib.Core.Path.{_≡_};
 ghost use mathlib.Core.Bool.{true};
 ghost use Rattle.text.specs.Lines.{linesOf};
-ghost use Rattle.bucket.specs.Whole.{whole};
-ghost use Rattle.outcome.specs.Calls.{lent};
+ghost use Rattle.bucket.specs.Whole.{lent, whole};
 ghost use Rattle.guarantee.specs.Lists.{ended, servedLines};
 
 // Serves each line of a text on a bucket that is whole.
@@ -15,7 +14,7 @@ fn serve_each(
     text: &[u8],
     answer: &mut [u8],
 ) -> Settings
-    requires { ⌜ whole s (now rows) (now keys) ≡ true ⌝ }
+    requires { ⌜ whole (lent s (now rows) (now keys)) ≡ true ⌝ }
     ensures { λ r. ⌜ ended (lent r (now (rows .exit)) (now (keys .exit))) (now (answer .exit)) ≡ servedLines (lent s (now (rows .entry)) (now (keys .entry))) (now (answer .entry)) (linesOf (now (text .entry))) ⌝ }
 {
     let mut after = s;

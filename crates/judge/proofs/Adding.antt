@@ -18,7 +18,7 @@ use Rattle.text.specs.Keys.{isKey}
 use Rattle.text.proofs.Keys.{key-short}
 use Rattle.model.specs.Rows.{Row, largestSize, bodies}
 use Rattle.model.specs.Settings.{Rule, Config, spentNumber, fits}
-use Rattle.model.specs.Requests.{Name, Retention, Terms, Verb, Put, Copy, AddMarker, isRetention, isName, inRange}
+use Rattle.model.specs.Requests.{Rights, Name, Retention, Terms, Verb, Put, Copy, AddMarker, isRetention, isName, inRange}
 use Rattle.model.specs.Time.{newMode, newUntil}
 use Rattle.model.specs.Sweep.{marker}
 use Rattle.model.specs.Effects.{insertByKey, newHold, newRow, added, rowsAfter}
@@ -105,31 +105,31 @@ has-spare c used next k e z =
       ]
     ]
 
-module _ (j : Judged) (c : ℕ) (s : State) (rules : List Rule) (xs : List Row) (now : ℕ) (v : Verb) (x : Row)
+module _ (j : Judged) (c : ℕ) (s : State) (rules : List Rule) (xs : List Row) (now : ℕ) (who : Rights) (v : Verb) (x : Row)
     (o : Open (bucketBy s rules xs) (both now) v) (one : added (bucketBy s rules xs) (both now) v ≡ 1)
     (more : rowsAfter (bucketBy s rules xs) (both now) v ≡ insertByKey x xs) where
-  add-refused : (u k : ℕ) → length xs ≡ u → s .next ≤ spentNumber → k ≡ rowRefusal c u (s .next) → (k ≡ 0 → ⊥) → Judges j c xs (Refused k) (tableDecision c (bucketBy s rules xs) (both now) v)
+  add-refused : (u k : ℕ) → length xs ≡ u → s .next ≤ spentNumber → k ≡ rowRefusal c u (s .next) → (k ≡ 0 → ⊥) → Judges j c xs (Refused k) (tableDecision c (bucketBy s rules xs) (both now) who v)
   unfolding rowRefusal
   add-refused u k z m e h =
       elim (either (eqb (s .next) spentNumber)) [
         | inl f ↦
             let q : k ≡ 11 = e ∙ rw f in
             let g = eqb-true (s .next) spentNumber f in
-            rw q (refuse-11 j c (bucketBy s rules xs) (both now) v o (rw one (omega arith)))
+            rw q (refuse-11 j c (bucketBy s rules xs) (both now) who v o (rw one (omega arith)))
         | inr f ↦ elim (either (ltb u c)) [
           | inl l ↦ absurd (h (e ∙ simp (f, l)))
           | inr l ↦
               let q : k ≡ 12 = e ∙ simp (f, l) in
               let g = eqb-false (s .next) spentNumber f in
-              rw q (refuse-12 j c (bucketBy s rules xs) (both now) v o (rw one (omega arith)) (rw (more, length-insert) (omega (arith, ltb-false u c l))))
+              rw q (refuse-12 j c (bucketBy s rules xs) (both now) who v o (rw one (omega arith)) (rw (more, length-insert) (omega (arith, ltb-false u c l))))
         ]
       ]
 
   add-done : (p : Plan) → s .next < spentNumber → length xs < c → changeMeans j xs (p .change) ≡ insertByKey x xs → changeTakes (p .change) ≡ 1
-      → textOf (p .answer) ≡ answerText (reply (bucketBy s rules xs) (both now) v) → Feasible j c xs (Accepted p)
-      → Judges j c xs (Accepted p) (tableDecision c (bucketBy s rules xs) (both now) v)
+      → textOf (p .answer) ≡ answerText (reply (bucketBy s rules xs) (both now) who v) → Feasible j c xs (Accepted p)
+      → Judges j c xs (Accepted p) (tableDecision c (bucketBy s rules xs) (both now) who v)
   add-done p left l er et ex f =
-      accept j c (bucketBy s rules xs) (both now) v o (rw one (omega arith)) p
+      accept j c (bucketBy s rules xs) (both now) who v o (rw one (omega arith)) p
       (rw (more, length-insert) (omega arith)) (er ∙ sym more) (et ∙ sym one) ex f
 
 -- ## PUT
@@ -142,26 +142,26 @@ put-open s rules xs now k body size t e = record { there = refl; no-marker = ref
 module _ (s : State) (numbers keys line : List ℕ) (now : ℕ) (p : Place) (body size : ℕ) (t : Terms) (x : NewLock)
     (asked : Asked s numbers keys now (Put (partOf line p) body size t))
     (lock : (us : List Rule) → lockMeans x ≡ newLock (configBy s us) now (t .retention))
-    (rules : List Rule) (fates : List ℕ) where
+    (who : Rights) (rules : List Rule) (fates : List ℕ) where
   pub put-late : x ≡ TooLate
-      → JudgesBy s numbers keys line now rules fates (Put (partOf line p) body size t) (Refused 10)
+      → JudgesBy s numbers keys line now who rules fates (Put (partOf line p) body size t) (Refused 10)
   unfolding missing namesMarker barred tooLate
   put-late e =
-      refuse-10 _ (capacity keys) (bucketBy s rules (rowsIn s numbers keys)) (both now)
+      refuse-10 _ (capacity keys) (bucketBy s rules (rowsIn s numbers keys)) (both now) who
       (Put (partOf line p) body size t) refl refl refl (lock-late (configBy s rules) now (t .retention) x (lock rules) e)
 
   module _ (m d : ℕ) (e : x ≡ Lock m d) (k : ℕ) (refusal : k ≡ rowRefusal (capacity keys) (s .used) (s .next)) where
-    pub put-refused : (k ≡ 0 → ⊥) → JudgesBy s numbers keys line now rules fates (Put (partOf line p) body size t) (Refused k)
+    pub put-refused : (k ≡ 0 → ⊥) → JudgesBy s numbers keys line now who rules fates (Put (partOf line p) body size t) (Refused k)
     unfolding added rowsAfter
     put-refused h =
-        add-refused _ (capacity keys) s rules (rowsIn s numbers keys) now
+        add-refused _ (capacity keys) s rules (rowsIn s numbers keys) now who
         (Put (partOf line p) body size t) _
         (put-open s rules (rowsIn s numbers keys) now (partOf line p) body size t ((lock-is (configBy s rules) now (t .retention) x (lock rules) m d e) .in-time)) refl refl
         (s .used) k (rows-length numbers keys (s .used)) (asked .ready .next-fits) refusal h
 
     pub put-done : (key : List ℕ) (at h : ℕ) → k ≡ 0 → Inside line p
         → key ≡ partOf line p → Within at (places.keyPlace key (rowsIn s numbers keys)) (s .used) → h ≡ newHold (t .hold)
-        → JudgesBy s numbers keys line now rules fates (Put (partOf line p) body size t) (Accepted (record {
+        → JudgesBy s numbers keys line now who rules fates (Put (partOf line p) body size t) (Accepted (record {
           change = Insert at (record { number = s .next; kind = 1; created = now; body = body; size = size; mode = m; until = d; hold = h }) p;
           answer = Made (s .next);
         }))
@@ -174,7 +174,7 @@ module _ (s : State) (numbers keys line : List ℕ) (now : ℕ) (p : Place) (bod
         let l = lock-is (configBy s rules) now (t .retention) x (lock rules) m d e in
         let row = newRow (bucketBy s rules [] .settings) now (partOf line p) body size t in
         let short = key-short (partOf line p) (and-l _ _ (asked .in-range)) in
-        add-done _ (capacity keys) s rules (rowsIn s numbers keys) now
+        add-done _ (capacity keys) s rules (rowsIn s numbers keys) now who
         (Put (partOf line p) body size t) row
         (put-open s rules (rowsIn s numbers keys) now (partOf line p) body size t (l .in-time)) refl refl
         (record { change = Insert at (record { number = s .next; kind = 1; created = now; body = body; size = size; mode = m; until = d; hold = h }) p; answer = Made (s .next) })
@@ -205,14 +205,14 @@ module _ (s : State) (numbers keys line : List ℕ) (now : ℕ) (m : Name) (p : 
       record { ready = asked .ready; instant = asked .instant; since = asked .since; in-range = search and-i depth 6 }
 
   -- A COPY is the PUT of its source's body and length.
-  pub copy-puts : (rules : List Rule) (fates : List ℕ) (u : Verdict) → JudgesOn s numbers keys line now (Put p (n .body) (n .size) t) u
-      → JudgesBy s numbers keys line now rules fates (Copy m p t) u
+  pub copy-puts : (who : Rights) (rules : List Rule) (fates : List ℕ) (u : Verdict) → JudgesOn s numbers keys line now (Put p (n .body) (n .size) t) u
+      → JudgesBy s numbers keys line now who rules fates (Copy m p t) u
   unfolding missing namesMarker barred tooLate spends full fits added rowsAfter reply
-  copy-puts rules fates u h =
+  copy-puts who rules fates u h =
       let e = source .at .is-named in
-      let g : tableDecision (capacity keys) (bucketBy s rules (rowsIn s numbers keys)) (both now) (Copy m p t)
-      ≡ tableDecision (capacity keys) (bucketBy s rules (rowsIn s numbers keys)) (both now) (Put p (n .body) (n .size) t) = simp (e, ne-eqb (n .kind) 2 (source .no-marker)) in
-      rw g (h rules fates)
+      let g : tableDecision (capacity keys) (bucketBy s rules (rowsIn s numbers keys)) (both now) who (Copy m p t)
+      ≡ tableDecision (capacity keys) (bucketBy s rules (rowsIn s numbers keys)) (both now) who (Put p (n .body) (n .size) t) = simp (e, ne-eqb (n .kind) 2 (source .no-marker)) in
+      rw g (h who rules fates)
 
 pub ruleset copy-ways = (refl, data-refused, copy-asks, copy-puts)
 
@@ -223,18 +223,18 @@ unfolding missing namesMarker barred tooLate
 marker-open s rules xs now k y = record { there = refl; no-marker = refl; unbarred = refl; in-time = refl }
 
 module _ (s : State) (numbers keys line : List ℕ) (now : ℕ) (p : Place) (y : Bool)
-    (ready : Ready s numbers keys) (is-key : isKey (partOf line p) ≡ true) (rules : List Rule) (fates : List ℕ)
+    (ready : Ready s numbers keys) (is-key : isKey (partOf line p) ≡ true) (who : Rights) (rules : List Rule) (fates : List ℕ)
     (k : ℕ) (refusal : k ≡ rowRefusal (capacity keys) (s .used) (s .next)) where
-  pub marker-refused : (k ≡ 0 → ⊥) → JudgesBy s numbers keys line now rules fates (AddMarker (partOf line p) y) (Refused k)
+  pub marker-refused : (k ≡ 0 → ⊥) → JudgesBy s numbers keys line now who rules fates (AddMarker (partOf line p) y) (Refused k)
   unfolding added rowsAfter
   marker-refused h =
-      add-refused _ (capacity keys) s rules (rowsIn s numbers keys) now (AddMarker (partOf line p) y) _
+      add-refused _ (capacity keys) s rules (rowsIn s numbers keys) now who (AddMarker (partOf line p) y) _
       (marker-open s rules (rowsIn s numbers keys) now (partOf line p) y) refl refl
       (s .used) k (rows-length numbers keys (s .used)) (ready .next-fits) refusal h
 
   pub marker-done : (key : List ℕ) (at : ℕ) (n : Numbers) → k ≡ 0 → Inside line p
       → key ≡ partOf line p → Within at (places.keyPlace key (rowsIn s numbers keys)) (s .used) → ((l : List ℕ) → rowFrom n l ≡ marker now (s .next) l)
-      → JudgesBy s numbers keys line now rules fates (AddMarker (partOf line p) y) (Accepted (record { change = Insert at n p; answer = Marked (s .next) }))
+      → JudgesBy s numbers keys line now who rules fates (AddMarker (partOf line p) y) (Accepted (record { change = Insert at n p; answer = Marked (s .next) }))
   unfolding added rowsAfter reply
   marker-done key at n none-holds inside ek w new =
       let z = rows-length numbers keys (s .used) in
@@ -242,7 +242,7 @@ module _ (s : State) (numbers keys line : List ℕ) (now : ℕ) (p : Place) (y :
       let left = f .unspent in
       let room = f .free in
       let row = marker now (s .next) (partOf line p) in
-      add-done _ (capacity keys) s rules (rowsIn s numbers keys) now (AddMarker (partOf line p) y) row
+      add-done _ (capacity keys) s rules (rowsIn s numbers keys) now who (AddMarker (partOf line p) y) row
       (marker-open s rules (rowsIn s numbers keys) now (partOf line p) y) refl refl
       (record { change = Insert at n p; answer = Marked (s .next) })
       (omega (arith, ready .next-fits)) (omega arith)

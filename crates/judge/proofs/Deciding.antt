@@ -11,7 +11,7 @@ use Rattle.buffers.proofs.Lists.{all-first}
 use Rattle.calendar.specs.declared.Now.{Now}
 use Rattle.model.specs.Rows.{Row, soundRow, soundData}
 use Rattle.model.specs.Settings.{Rule, Bucket, spentNumber, fits}
-use Rattle.model.specs.Requests.{Name, Verb, nameOf}
+use Rattle.model.specs.Requests.{Rights, Name, Verb, nameOf}
 use Rattle.model.specs.Effects.{rowOf, added, rowsAfter}
 use Rattle.model.specs.Refusals.{removesVersion, missing, namesMarker, bars, barred, tooLate, spends, full}
 use Rattle.model.specs.Answers.{reply}
@@ -41,22 +41,22 @@ pub record Open (b : Bucket) (now : Now) (v : Verb) : Type 0 where
   pub unbarred : barred (b .rows) (now .judge) v ≡ false
   pub in-time : tooLate (b .settings .config) (now .stamp) v ≡ false
 
-module _ (j : Judged) (c : ℕ) (b : Bucket) (now : Now) (v : Verb) where
-  pub refuse-7 : missing (b .rows) v ≡ true → Judges j c (b .rows) (Refused 7) (tableDecision c b now v)
+module _ (j : Judged) (c : ℕ) (b : Bucket) (now : Now) (who : Rights) (v : Verb) where
+  pub refuse-7 : missing (b .rows) v ≡ true → Judges j c (b .rows) (Refused 7) (tableDecision c b now who v)
   refuse-7 e = record { is = rw e; feasible = (omega arith, omega arith) }
 
-  pub refuse-8 : missing (b .rows) v ≡ false → namesMarker (b .rows) v ≡ true → Judges j c (b .rows) (Refused 8) (tableDecision c b now v)
+  pub refuse-8 : missing (b .rows) v ≡ false → namesMarker (b .rows) v ≡ true → Judges j c (b .rows) (Refused 8) (tableDecision c b now who v)
   refuse-8 e f = record { is = simp (e, f); feasible = (omega arith, omega arith) }
 
-  pub refuse-9 : missing (b .rows) v ≡ false → namesMarker (b .rows) v ≡ false → barred (b .rows) (now .judge) v ≡ true → Judges j c (b .rows) (Refused 9) (tableDecision c b now v)
+  pub refuse-9 : missing (b .rows) v ≡ false → namesMarker (b .rows) v ≡ false → barred (b .rows) (now .judge) v ≡ true → Judges j c (b .rows) (Refused 9) (tableDecision c b now who v)
   refuse-9 e f g = record { is = simp (e, f, g); feasible = (omega arith, omega arith) }
 
   pub refuse-10 : missing (b .rows) v ≡ false → namesMarker (b .rows) v ≡ false → barred (b .rows) (now .judge) v ≡ false
-      → tooLate (b .settings .config) (now .stamp) v ≡ true → Judges j c (b .rows) (Refused 10) (tableDecision c b now v)
+      → tooLate (b .settings .config) (now .stamp) v ≡ true → Judges j c (b .rows) (Refused 10) (tableDecision c b now who v)
   refuse-10 e f g h = record { is = simp (e, f, g, h); feasible = (omega arith, omega arith) }
 
   module _ (o : Open b now v) where
-    pub refuse-11 : spentNumber < b .settings .next + added b now v → Judges j c (b .rows) (Refused 11) (tableDecision c b now v)
+    pub refuse-11 : spentNumber < b .settings .next + added b now v → Judges j c (b .rows) (Refused 11) (tableDecision c b now who v)
     unfolding spends
     refuse-11 l =
         record {
@@ -65,7 +65,7 @@ module _ (j : Judged) (c : ℕ) (b : Bucket) (now : Now) (v : Verb) where
         }
 
     module _ (unspent : b .settings .next + added b now v ≤ spentNumber) where
-      pub refuse-12 : c < length (rowsAfter b now v) → Judges j c (b .rows) (Refused 12) (tableDecision c b now v)
+      pub refuse-12 : c < length (rowsAfter b now v) → Judges j c (b .rows) (Refused 12) (tableDecision c b now who v)
       unfolding spends full fits
       refuse-12 l =
           record {
@@ -74,8 +74,8 @@ module _ (j : Judged) (c : ℕ) (b : Bucket) (now : Now) (v : Verb) where
           }
 
       pub accept : (p : Plan) → length (rowsAfter b now v) ≤ c → changeMeans j (b .rows) (p .change) ≡ rowsAfter b now v
-          → changeTakes (p .change) ≡ added b now v → textOf (p .answer) ≡ answerText (reply b now v) → Feasible j c (b .rows) (Accepted p)
-          → Judges j c (b .rows) (Accepted p) (tableDecision c b now v)
+          → changeTakes (p .change) ≡ added b now v → textOf (p .answer) ≡ answerText (reply b now who v) → Feasible j c (b .rows) (Accepted p)
+          → Judges j c (b .rows) (Accepted p) (tableDecision c b now who v)
       unfolding spends full fits
       accept p l er et ex f =
           record {
@@ -88,17 +88,17 @@ module _ (j : Judged) (c : ℕ) (b : Bucket) (now : Now) (v : Verb) where
 -- ## A verb that adds no row
 
 -- There are enough numbers and rows.
-pub stay-done : (j : Judged) (s : State) (numbers keys : List ℕ) (rules : List Rule) (now : ℕ) (v : Verb) (p : Plan) → Ready s numbers keys
+pub stay-done : (j : Judged) (s : State) (numbers keys : List ℕ) (rules : List Rule) (now : ℕ) (who : Rights) (v : Verb) (p : Plan) → Ready s numbers keys
     → Open (bucketBy s rules (rowsIn s numbers keys)) (both now) v → added (bucketBy s rules (rowsIn s numbers keys)) (both now) v ≡ 0
     → changeMeans j (rowsIn s numbers keys) (p .change) ≡ rowsAfter (bucketBy s rules (rowsIn s numbers keys)) (both now) v → changeTakes (p .change) ≡ 0
-    → textOf (p .answer) ≡ answerText (reply (bucketBy s rules (rowsIn s numbers keys)) (both now) v) → Feasible j (capacity keys) (rowsIn s numbers keys) (Accepted p)
-    → Judges j (capacity keys) (rowsIn s numbers keys) (Accepted p) (tableDecision (capacity keys) (bucketBy s rules (rowsIn s numbers keys)) (both now) v)
-stay-done j s numbers keys rules now v p ready o zero-added er et ex f =
+    → textOf (p .answer) ≡ answerText (reply (bucketBy s rules (rowsIn s numbers keys)) (both now) who v) → Feasible j (capacity keys) (rowsIn s numbers keys) (Accepted p)
+    → Judges j (capacity keys) (rowsIn s numbers keys) (Accepted p) (tableDecision (capacity keys) (bucketBy s rules (rowsIn s numbers keys)) (both now) who v)
+stay-done j s numbers keys rules now who v p ready o zero-added er et ex f =
     let left = rows-left (bucketBy s rules (rowsIn s numbers keys)) (both now) v (ready .in-order) (o .there) in
     let z = rows-length numbers keys (s .used) in
     let l = ready .used-fits in
     let m = ready .next-fits in
-    accept j (capacity keys) (bucketBy s rules (rowsIn s numbers keys)) (both now) v o (omega arith) p (omega arith) er (et ∙ sym zero-added) ex f
+    accept j (capacity keys) (bucketBy s rules (rowsIn s numbers keys)) (both now) who v o (omega arith) p (omega arith) er (et ∙ sym zero-added) ex f
 
 -- ## The row that a line names
 

@@ -54,16 +54,16 @@ module _ (line : List ℕ) (v : Action) (inside : ActionInside line v) where
 
 -- ## The verdict
 
-module _ (s : State) (numbers keys line : List ℕ) (now : ℕ) (rules : List Rule) (fates : List ℕ) (v : Action) (r : Verdict) where
-  pub judged-as : (u : Action) → v ≡ u → JudgesOn s numbers keys line now (actionMeans line u) r → JudgesBy s numbers keys line now rules fates (actionMeans line v) r
-  judged-as u e h = rw e (h rules fates)
+module _ (s : State) (numbers keys line : List ℕ) (now : ℕ) (who : model.Rights) (rules : List Rule) (fates : List ℕ) (v : Action) (r : Verdict) where
+  pub judged-as : (u : Action) → v ≡ u → JudgesOn s numbers keys line now (actionMeans line u) r → JudgesBy s numbers keys line now who rules fates (actionMeans line v) r
+  judged-as u e h = rw e (h who rules fates)
 
-  pub judged-always : (u : Action) → v ≡ u → ((t : ℕ) → JudgesOn s numbers keys line t (actionMeans line u) r) → JudgesBy s numbers keys line now rules fates (actionMeans line v) r
-  judged-always u e h = rw e (h now rules fates)
+  pub judged-always : (u : Action) → v ≡ u → ((t : ℕ) → JudgesOn s numbers keys line t (actionMeans line u) r) → JudgesBy s numbers keys line now who rules fates (actionMeans line v) r
+  judged-always u e h = rw e (h now who rules fates)
 
   pub judged-either : (k : Place) (y : Bool) → v ≡ action.AddMarker k y → ((z : Bool) → JudgesOn s numbers keys line now (model.AddMarker (partOf line k) z) r)
-      → JudgesBy s numbers keys line now rules fates (actionMeans line v) r
-  judged-either k y e h = rw e (h y rules fates)
+      → JudgesBy s numbers keys line now who rules fates (actionMeans line v) r
+  judged-either k y e h = rw e (h y who rules fates)
 
 pub ruleset action-ways = (
   refl,

@@ -14,7 +14,7 @@ use Rattle.buffers.proofs.Tests.{either, and-l, and-r}
 use Rattle.calendar.specs.Calendar.{latest}
 use Rattle.model.specs.Rows.{bodies, largestSize, isMode, soundRetention}
 use Rattle.model.specs.Settings.{Rule}
-use Rattle.model.specs.Requests.{numbered, Name, name, Retention, Verb, Retain, Hold, DeleteVersion, Ask, Get, nameOf}
+use Rattle.model.specs.Requests.{Rights, numbered, Name, name, Retention, Verb, Retain, Hold, DeleteVersion, Ask, Get, nameOf}
 use Rattle.model.specs.Locks.{locked, admits}
 use Rattle.model.specs.Effects.{setRetention, setHold, holdNumber, added, rowsAfter}
 use Rattle.model.specs.Refusals.{removesVersion, namesMarker, bars, tooLate}
@@ -39,34 +39,34 @@ use Rattle.judge.proofs.Deciding.{Open, refuse-7, refuse-8, refuse-9, s
 -- ## The row is not there, or it is a marker
 
 module _ (s : State) (numbers keys line : List ℕ) (now : ℕ) (v : Verb) (m : Name) (r : Named) (k : ℕ) (there : r ≡ named.Refused k)
-    (is-name : nameOf v ≡ some m) (ready : Ready s numbers keys) (rules : List Rule) (fates : List ℕ) where
-  pub row-refused : r ≡ rowNamed (rowsIn s numbers keys) m → JudgesBy s numbers keys line now rules fates v (Refused k)
+    (is-name : nameOf v ≡ some m) (ready : Ready s numbers keys) (who : Rights) (rules : List Rule) (fates : List ℕ) where
+  pub row-refused : r ≡ rowNamed (rowsIn s numbers keys) m → JudgesBy s numbers keys line now who rules fates v (Refused k)
   row-refused e =
       let l = lacks (rowsIn s numbers keys) m (ready .in-order) k (sym e ∙ there) in
       rw (l .seven)
-      (refuse-7 _ (capacity keys) (bucketBy s rules (rowsIn s numbers keys)) (both now) v (absent (rowsIn s numbers keys) v m is-name (l .is-absent)))
+      (refuse-7 _ (capacity keys) (bucketBy s rules (rowsIn s numbers keys)) (both now) who v (absent (rowsIn s numbers keys) v m is-name (l .is-absent)))
 
-  is-marker : removesVersion v ≡ false → (i : ℕ) (n : Numbers) → rowNamed (rowsIn s numbers keys) m ≡ named.Row i n → n .kind ≡ 2 → JudgesBy s numbers keys line now rules fates v (Refused 8)
+  is-marker : removesVersion v ≡ false → (i : ℕ) (n : Numbers) → rowNamed (rowsIn s numbers keys) m ≡ named.Row i n → n .kind ≡ 2 → JudgesBy s numbers keys line now who rules fates v (Refused 8)
   is-marker a i n e h =
       let at = stands (rowsIn s numbers keys) m (ready .in-order) i n e in
-      refuse-8 _ (capacity keys) (bucketBy s rules (rowsIn s numbers keys)) (both now) v
+      refuse-8 _ (capacity keys) (bucketBy s rules (rowsIn s numbers keys)) (both now) who v
       (present (rowsIn s numbers keys) v m is-name _ (at .is-named)) (marker-named (rowsIn s numbers keys) v m is-name _ (at .is-named) a h)
 
 -- What is named is no data.
 pub data-refused : (s : State) (numbers keys line : List ℕ) (now : ℕ) (v : Verb) (m : Name) (r : Named) (k : ℕ) → r ≡ named.Refused k → nameOf v ≡ some m
-    → removesVersion v ≡ false → Ready s numbers keys → (rules : List Rule) (fates : List ℕ) → r ≡ dataNamed (rowsIn s numbers keys) m
-    → JudgesBy s numbers keys line now rules fates v (Refused k)
+    → removesVersion v ≡ false → Ready s numbers keys → (who : Rights) (rules : List Rule) (fates : List ℕ) → r ≡ dataNamed (rowsIn s numbers keys) m
+    → JudgesBy s numbers keys line now who rules fates v (Refused k)
 unfolding dataNamed
-data-refused s numbers keys line now v m r k there is-name a ready rules fates e = go (rowNamed (rowsIn s numbers keys) m) refl (sym e ∙ there)
+data-refused s numbers keys line now v m r k there is-name a ready who rules fates e = go (rowNamed (rowsIn s numbers keys) m) refl (sym e ∙ there)
   where
-    go : (q : Named) → rowNamed (rowsIn s numbers keys) m ≡ q → butMarker q ≡ named.Refused k → JudgesBy s numbers keys line now rules fates v (Refused k)
-    go (named.Refused l) f g = row-refused s numbers keys line now v m (rowNamed (rowsIn s numbers keys) m) k (f ∙ g) is-name ready rules fates refl
+    go : (q : Named) → rowNamed (rowsIn s numbers keys) m ≡ q → butMarker q ≡ named.Refused k → JudgesBy s numbers keys line now who rules fates v (Refused k)
+    go (named.Refused l) f g = row-refused s numbers keys line now v m (rowNamed (rowsIn s numbers keys) m) k (f ∙ g) is-name ready who rules fates refl
     go (named.Row i n) f g =
         elim (either (eqb (n .kind) 2)) [
           | inl h ↦
               let d : named.Refused 8 ≡ named.Refused k = rw h at g in
               let q : k ≡ 8 = cc in
-              rw q (is-marker s numbers keys line now v m r k there is-name ready rules fates a i n f (eqb-true (n .kind) 2 h))
+              rw q (is-marker s numbers keys line now v m r k there is-name ready who rules fates a i n f (eqb-true (n .kind) 2 h))
           | inr h ↦ let d : named.Row i n ≡ named.Refused k = rw h at g in let z : _≡_ {A = ℕ} 0 1 = cc in absurd (omega arith)
         ]
 
@@ -101,7 +101,7 @@ module _ (s : State) (numbers keys : List ℕ) (now : ℕ) (rules : List Rule) (
       }
 
 module _ (s : State) (numbers keys line : List ℕ) (now : ℕ) (m : Name) (i : ℕ) (n : Numbers) (r : Named)
-    (there : r ≡ named.Row i n) (found : r ≡ dataNamed (rowsIn s numbers keys) m) (ready : Ready s numbers keys) (rules : List Rule) (fates : List ℕ) where
+    (there : r ≡ named.Row i n) (found : r ≡ dataNamed (rowsIn s numbers keys) m) (ready : Ready s numbers keys) (who : Rights) (rules : List Rule) (fates : List ℕ) where
   standing : StandsData (rowsIn s numbers keys) m i n
   standing = stands-data (rowsIn s numbers keys) m (ready .in-order) i n (sym found ∙ there)
 
@@ -109,19 +109,19 @@ module _ (s : State) (numbers keys line : List ℕ) (now : ℕ) (m : Name) (i : 
   at = standing .at
 
   module _ (q : Retention) (y a : Bool) (admitted : (l : List ℕ) → a ≡ admits now y (rowFrom n l) q) where
-    pub retain-barred : a ≡ false → JudgesBy s numbers keys line now rules fates (Retain m q y) (Refused 9)
+    pub retain-barred : a ≡ false → JudgesBy s numbers keys line now who rules fates (Retain m q y) (Refused 9)
     retain-barred e =
-        refuse-9 _ (capacity keys) (bucketBy s rules (rowsIn s numbers keys)) (both now) (Retain m q y)
+        refuse-9 _ (capacity keys) (bucketBy s rules (rowsIn s numbers keys)) (both now) who (Retain m q y)
         (present (rowsIn s numbers keys) (Retain m q y) m refl _ (at .is-named))
         (no-marker-named (rowsIn s numbers keys) (Retain m q y) m refl _ (at .is-named) refl (standing .no-marker))
         (named-bars (rowsIn s numbers keys) (Retain m q y) m refl _ (at .is-named) now ∙ ap not (sym (admitted (keyHere (rowsIn s numbers keys) i)) ∙ e))
 
     pub retain-done : (n′ : Numbers) → a ≡ true
         → ((l : List ℕ) → rowFrom n′ l ≡ setRetention (orZero (q .mode)) (orZero (q .date)) (rowFrom n l))
-        → JudgesBy s numbers keys line now rules fates (Retain m q y) (Accepted (record { change = Rewrite i n′; answer = Done }))
+        → JudgesBy s numbers keys line now who rules fates (Retain m q y) (Accepted (record { change = Rewrite i n′; answer = Done }))
     unfolding added rowsAfter reply tooLate
     retain-done n′ e new =
-        stay-done _ s numbers keys rules now (Retain m q y) (record { change = Rewrite i n′; answer = Done }) ready
+        stay-done _ s numbers keys rules now who (Retain m q y) (record { change = Rewrite i n′; answer = Done }) ready
         (data-open s numbers keys now rules (Retain m q y) m i n refl standing refl (ap not (sym (admitted (keyHere (rowsIn s numbers keys) i)) ∙ e)) refl)
         refl
         (rw (new (keyHere (rowsIn s numbers keys) i))
@@ -129,23 +129,23 @@ module _ (s : State) (numbers keys line : List ℕ) (now : ℕ) (m : Name) (i : 
         refl refl (at .below, tt)
 
   pub hold-done : (on : Bool) (n′ : Numbers) → ((l : List ℕ) → rowFrom n′ l ≡ setHold (holdNumber on) (rowFrom n l))
-      → JudgesBy s numbers keys line now rules fates (Hold m on) (Accepted (record { change = Rewrite i n′; answer = Done }))
+      → JudgesBy s numbers keys line now who rules fates (Hold m on) (Accepted (record { change = Rewrite i n′; answer = Done }))
   unfolding added rowsAfter reply tooLate
   hold-done on n′ new =
-      stay-done _ s numbers keys rules now (Hold m on) (record { change = Rewrite i n′; answer = Done }) ready
+      stay-done _ s numbers keys rules now who (Hold m on) (record { change = Rewrite i n′; answer = Done }) ready
       (data-open s numbers keys now rules (Hold m on) m i n refl standing refl refl refl) refl
       (rw (new (keyHere (rowsIn s numbers keys) i))
       (sym (change-named (rowsIn s numbers keys) m i _ (ready .in-order) (at .is-named) (at .is-there) (setHold (holdNumber on)))))
       refl refl (at .below, tt)
 
-  pub get-done : JudgesBy s numbers keys line now rules fates (Ask (Get m))
+  pub get-done : JudgesBy s numbers keys line now who rules fates (Ask (Get m))
       (Accepted (record {
         change = Keep;
         answer = Got (record { version = n .number; body = n .body; size = n .size; mode = n .mode; until = n .until; hold = n .hold });
       }))
   unfolding added rowsAfter reply tooLate
   get-done =
-      stay-done _ s numbers keys rules now (Ask (Get m))
+      stay-done _ s numbers keys rules now who (Ask (Get m))
       (record { change = Keep; answer = Got (record { version = n .number; body = n .body; size = n .size; mode = n .mode; until = n .until; hold = n .hold }) }) ready
       (data-open s numbers keys now rules (Ask (Get m)) m i n refl standing refl refl refl) refl refl refl (rw (at .is-named))
       (tt, shown-date s numbers keys m i n ready standing)
@@ -156,7 +156,7 @@ pub ruleset data-ways = (refl, data-refused, retain-barred, retain-done, hold-do
 
 module _ (s : State) (numbers keys line : List ℕ) (now : ℕ) (k : List ℕ) (v : ℕ) (y a : Bool) (i : ℕ) (n : Numbers) (r : Named)
     (there : r ≡ named.Row i n) (found : r ≡ rowNamed (rowsIn s numbers keys) (name k (some (numbered v)))) (ready : Ready s numbers keys)
-    (lock : (l : List ℕ) → a ≡ locked now y (rowFrom n l)) (rules : List Rule) (fates : List ℕ) where
+    (lock : (l : List ℕ) → a ≡ locked now y (rowFrom n l)) (who : Rights) (rules : List Rule) (fates : List ℕ) where
   version-at : Stands (rowsIn s numbers keys) (name k (some (numbered v))) i n
   version-at = stands (rowsIn s numbers keys) (name k (some (numbered v))) (ready .in-order) i n (sym found ∙ there)
 
@@ -172,28 +172,28 @@ module _ (s : State) (numbers keys line : List ℕ) (now : ℕ) (k : List ℕ) (
         in-time = refl;
       }
 
-  pub delete-locked : a ≡ true → JudgesBy s numbers keys line now rules fates (DeleteVersion k (numbered v) y) (Refused 9)
+  pub delete-locked : a ≡ true → JudgesBy s numbers keys line now who rules fates (DeleteVersion k (numbered v) y) (Refused 9)
   unfolding namesMarker
   delete-locked e =
-      refuse-9 _ (capacity keys) (bucketBy s rules (rowsIn s numbers keys)) (both now) (DeleteVersion k (numbered v) y)
+      refuse-9 _ (capacity keys) (bucketBy s rules (rowsIn s numbers keys)) (both now) who (DeleteVersion k (numbered v) y)
       (present (rowsIn s numbers keys) (DeleteVersion k (numbered v) y) (name k (some (numbered v))) refl _ (version-at .is-named)) refl
       (named-bars (rowsIn s numbers keys) (DeleteVersion k (numbered v) y) (name k (some (numbered v))) refl _ (version-at .is-named) now
       ∙ sym (lock (keyHere (rowsIn s numbers keys) i)) ∙ e)
 
   module _ (e : a ≡ false) where
     pub delete-marker : n .kind ≡ 2
-        → JudgesBy s numbers keys line now rules fates (DeleteVersion k (numbered v) y) (Accepted (record { change = Remove i; answer = RemovedMarker v }))
+        → JudgesBy s numbers keys line now who rules fates (DeleteVersion k (numbered v) y) (Accepted (record { change = Remove i; answer = RemovedMarker v }))
     unfolding added rowsAfter reply
     delete-marker h =
-        stay-done _ s numbers keys rules now (DeleteVersion k (numbered v) y) (record { change = Remove i; answer = RemovedMarker v }) ready (version-open e) refl
+        stay-done _ s numbers keys rules now who (DeleteVersion k (numbered v) y) (record { change = Remove i; answer = RemovedMarker v }) ready (version-open e) refl
         (sym (remove-named (rowsIn s numbers keys) (name k (some (numbered v))) i _ (ready .in-order) (version-at .is-named) (version-at .is-there)))
         refl (simp (version-at .is-named, eq-eqb (n .kind) 2 h)) (version-at .below, tt)
 
     pub delete-data : (n .kind ≡ 2 → ⊥)
-        → JudgesBy s numbers keys line now rules fates (DeleteVersion k (numbered v) y) (Accepted (record { change = Remove i; answer = Removed v }))
+        → JudgesBy s numbers keys line now who rules fates (DeleteVersion k (numbered v) y) (Accepted (record { change = Remove i; answer = Removed v }))
     unfolding added rowsAfter reply
     delete-data h =
-        stay-done _ s numbers keys rules now (DeleteVersion k (numbered v) y) (record { change = Remove i; answer = Removed v }) ready (version-open e) refl
+        stay-done _ s numbers keys rules now who (DeleteVersion k (numbered v) y) (record { change = Remove i; answer = Removed v }) ready (version-open e) refl
         (sym (remove-named (rowsIn s numbers keys) (name k (some (numbered v))) i _ (ready .in-order) (version-at .is-named) (version-at .is-there)))
         refl (simp (version-at .is-named, ne-eqb (n .kind) 2 h)) (version-at .below, tt)
 

@@ -16,7 +16,7 @@ use Rattle.blocks.specs.Blocks.{isBlock}
 use Rattle.blocks.proofs.Blocks.{block-block}
 use Rattle.model.specs.Rows.{Row, soundRow}
 use Rattle.model.specs.Settings as model
-use Rattle.model.specs.Requests.{Setting, Verb, Set, Sweep}
+use Rattle.model.specs.Requests.{Rights, Setting, Verb, Set, Sweep}
 use Rattle.model.specs.Sweep.{marks, removes, swept, counted, fates}
 use Rattle.model.specs.Effects.{added, removed, rowsAfter}
 use Rattle.model.specs.Refusals.{missing, namesMarker, barred, tooLate}
@@ -43,11 +43,11 @@ use Rattle.judge.proofs.Deciding.{Open, refuse-11, refuse-12, accept, s
 
 -- ## DEFAULT and RULE
 
-pub set-done : (s : State) (numbers keys line : List ℕ) (now : ℕ) (rules : List model.Rule) (fates : List ℕ) (v : Setting) → Asked s numbers keys now (Set v)
-    → JudgesBy s numbers keys line now rules fates (Set v) (Accepted (record { change = change.Keep; answer = Done }))
+pub set-done : (s : State) (numbers keys line : List ℕ) (now : ℕ) (who : Rights) (rules : List model.Rule) (fates : List ℕ) (v : Setting) → Asked s numbers keys now (Set v)
+    → JudgesBy s numbers keys line now who rules fates (Set v) (Accepted (record { change = change.Keep; answer = Done }))
 unfolding missing namesMarker barred tooLate added rowsAfter reply
-set-done s numbers keys line now rules fates v asked =
-    stay-done _ s numbers keys rules now (Set v) (record { change = change.Keep; answer = Done }) (asked .ready)
+set-done s numbers keys line now who rules fates v asked =
+    stay-done _ s numbers keys rules now who (Set v) (record { change = change.Keep; answer = Done }) (asked .ready)
     (record { there = refl; no-marker = refl; unbarred = refl; in-time = refl }) refl refl refl refl (tt, tt)
 
 -- ## SWEEP
@@ -95,19 +95,19 @@ sweep-open : (s : State) (us : List model.Rule) (xs : List Row) (now : ℕ) → 
 unfolding missing namesMarker barred tooLate
 sweep-open s us xs now = record { there = refl; no-marker = refl; unbarred = refl; in-time = refl }
 
-module _ (s : State) (numbers keys line : List ℕ) (now : ℕ) (us : List model.Rule) (entry fs : List ℕ) (n : Counts)
+module _ (s : State) (numbers keys line : List ℕ) (now : ℕ) (who : Rights) (us : List model.Rule) (entry fs : List ℕ) (n : Counts)
     (asked : Asked s numbers keys now Sweep) (judged : JudgedRows us now (rowsIn s numbers keys) (s .used) entry fs n) where
-  pub sweep-spent : 4294967296 < s .next + n .added → JudgesBy s numbers keys line now us fs Sweep (Refused 11)
+  pub sweep-spent : 4294967296 < s .next + n .added → JudgesBy s numbers keys line now who us fs Sweep (Refused 11)
   unfolding added
   sweep-spent l =
-      refuse-11 _ (capacity keys) (bucketBy s us (rowsIn s numbers keys)) (both now) Sweep (sweep-open s us (rowsIn s numbers keys) now)
+      refuse-11 _ (capacity keys) (bucketBy s us (rowsIn s numbers keys)) (both now) who Sweep (sweep-open s us (rowsIn s numbers keys) now)
       (rw (judged .added .is) at l)
 
   module _ (left : s .next + n .added ≤ 4294967296) where
-    pub sweep-full : capacity keys < s .used - n .removed + n .added → JudgesBy s numbers keys line now us fs Sweep (Refused 12)
+    pub sweep-full : capacity keys < s .used - n .removed + n .added → JudgesBy s numbers keys line now who us fs Sweep (Refused 12)
     unfolding added rowsAfter
     sweep-full l =
-        refuse-12 _ (capacity keys) (bucketBy s us (rowsIn s numbers keys)) (both now) Sweep (sweep-open s us (rowsIn s numbers keys) now)
+        refuse-12 _ (capacity keys) (bucketBy s us (rowsIn s numbers keys)) (both now) who Sweep (sweep-open s us (rowsIn s numbers keys) now)
         (rw (judged .added .is) at left)
         (let z = rows-length numbers keys (s .used) in
         let e = swept-length us now (s .next) (rowsIn s numbers keys) in
@@ -116,7 +116,7 @@ module _ (s : State) (numbers keys line : List ℕ) (now : ℕ) (us : List model
         omega arith)
 
     pub sweep-done : s .used - n .removed + n .added ≤ capacity keys
-        → JudgesBy s numbers keys line now us fs Sweep (Accepted (record { change = change.Sweep (n .removed) (n .added); answer = Swept (n .removed) (n .added) }))
+        → JudgesBy s numbers keys line now who us fs Sweep (Accepted (record { change = change.Sweep (n .removed) (n .added); answer = Swept (n .removed) (n .added) }))
     unfolding added rowsAfter removed reply
     sweep-done l =
         let z = rows-length numbers keys (s .used) in
@@ -126,7 +126,7 @@ module _ (s : State) (numbers keys line : List ℕ) (now : ℕ) (us : List model
         let q = judged .removed .most in
         let f : fatesIn (take (length (rowsIn s numbers keys)) fs) ≡ fates us now none (rowsIn s numbers keys) = rw (judged .fates-are) (fates-after us now (rowsIn s numbers keys) entry) in
         let o : length (rowsIn s numbers keys) ≤ length fs = rw (judged .fates-are) (after-long us now (rowsIn s numbers keys) entry) in
-        accept _ (capacity keys) (bucketBy s us (rowsIn s numbers keys)) (both now) Sweep (sweep-open s us (rowsIn s numbers keys) now)
+        accept _ (capacity keys) (bucketBy s us (rowsIn s numbers keys)) (both now) who Sweep (sweep-open s us (rowsIn s numbers keys) now)
         (rw (judged .added .is) at left)
         (record { change = change.Sweep (n .removed) (n .added); answer = Swept (n .removed) (n .added) })
         (omega arith)

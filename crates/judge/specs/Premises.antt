@@ -9,7 +9,7 @@ use Rattle.buffers.specs.Choices.{pick}
 use Rattle.calendar.specs.declared.Now.{Now}
 use Rattle.calendar.specs.Calendar.{latest}
 use Rattle.model.specs.Settings.{Rule, spentNumber, soundRules}
-use Rattle.model.specs.Requests.{Verb, inRange}
+use Rattle.model.specs.Requests.{Rights, Verb, inRange}
 use Rattle.settings.specs.declared.Rule as settings
 use Rattle.settings.specs.declared.State.{State}
 use Rattle.settings.specs.Meaning.{rulesMean, prefixesAre}
@@ -40,12 +40,12 @@ pub record Sweepable (s : State) (rules : List settings.Rule) (fates : List ℕ)
   pub rules-sound : soundRules (rulesMean rules) ≡ true
   pub long : s .used ≤ length fates
 
--- The verdict is what the definitions decide, with these rules and these fates of a sweep.
-abbrev pub JudgesBy : State → List ℕ → List ℕ → List ℕ → ℕ → List Rule → List ℕ → Verb → Verdict → Type 0
-JudgesBy s numbers keys line now rules fates v r =
+-- The verdict is what the definitions decide for a sender with these rights, with these rules and these fates of a sweep.
+abbrev pub JudgesBy : State → List ℕ → List ℕ → List ℕ → ℕ → Rights → List Rule → List ℕ → Verb → Verdict → Type 0
+JudgesBy s numbers keys line now who rules fates v r =
     Judges (record { line = line; next = s .next; now = now; fates = fates }) (capacity keys) (rowsIn s numbers keys) r
-    (tableDecision (capacity keys) (bucketBy s rules (rowsIn s numbers keys)) (both now) v)
+    (tableDecision (capacity keys) (bucketBy s rules (rowsIn s numbers keys)) (both now) who v)
 
--- The same, whatever the rules and the fates.
+-- The same, whatever the rights, the rules and the fates.
 abbrev pub JudgesOn : State → List ℕ → List ℕ → List ℕ → ℕ → Verb → Verdict → Type 0
-JudgesOn s numbers keys line now v r = (rules : List Rule) (fates : List ℕ) → JudgesBy s numbers keys line now rules fates v r
+JudgesOn s numbers keys line now v r = (who : Rights) (rules : List Rule) (fates : List ℕ) → JudgesBy s numbers keys line now who rules fates v r

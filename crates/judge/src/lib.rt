@@ -358,7 +358,7 @@ pub fn judge_sweep(
 ) -> Verdict
     requires { ⌜ Asked s (now rows) (now keys) instant model.Sweep ⌝ }
     requires { ⌜ Sweepable s rules (now fates) ⌝ }
-    ensures { λ r. ⌜ ((line : List ℕ) → JudgesBy s (now (rows .entry)) (now (keys .entry)) line instant (rulesMean rules) (now (fates .exit)) model.Sweep r) ⌝ }
+    ensures { λ r. ⌜ ((line : List ℕ) (who : model.Rights) → JudgesBy s (now (rows .entry)) (now (keys .entry)) line instant who (rulesMean rules) (now (fates .exit)) model.Sweep r) ⌝ }
     ensures { λ _. ⌜ now (fates .exit) ≡ fatesAfter (rulesMean rules) instant (rowsIn s (now (rows .entry)) (now (keys .entry))) (now (fates .entry)) ⌝ }
 {
     let used = s.used;

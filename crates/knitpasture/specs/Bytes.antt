@@ -6,9 +6,10 @@ use lib.Dec.{eqb, ltb}
 use lib.ListN.{length, take, drop, replicate}
 use Rattle.buffers.specs.Choices.{pick}
 use Rattle.buffers.specs.Words.{number, spelled}
-use Rattle.settings.specs.Bytes.{settingsOf, settingsBytes}
+use Rattle.settings.specs.Bytes.{settingsLength, settingsOf, settingsBytes}
 use Rattle.settings.specs.Meaning.{freshSettings}
-use Rattle.bucket.specs.Whole.{keyOf}
+use Rattle.bucket.specs.Whole.{Lent, lent, keyOf}
+use Rattle.outcome.specs.Calls.{Call}
 use Rattle.outcome.specs.Outcome.{Outcome, outcome}
 
 -- ## Numbers as bytes
@@ -22,101 +23,112 @@ unfoldable pub numbersBytes : List ℕ → List ℕ
 numbersBytes [] = []
 numbersBytes (n ∷ ns) = spelled 8 n ++ numbersBytes ns
 
--- The settings are 688 bytes, and the rows whole numbers, at most those of 1024 rows; else a length is wrong. Whether rows and keys fit one c the outcome tells.
-abbrev pub spelling : {A : Type 0} → List ℕ → List ℕ → A → A → A
-spelling settings rows served wrong =
-    pick (eqb (length settings) 688)
-    (pick (ltb 65536 (length rows)) wrong
-    (pick (eqb (length rows % 8) 0) served wrong))
-    wrong
+-- ## The bucket as bytes
 
--- ## A line
+-- the bytes of 1024 rows, and of their keys
+abbrev pub tableLength : ℕ
+tableLength = 65536
 
--- What a call returns, and what it leaves of the buffers.
-pub record ByteOutcome : Type 0 where
-  pub number : ℕ
+-- Settings and keys are bytes; rows are bytes, or numbers where they are lent so.
+pub record Bytes : Type 0 where
   pub settings : List ℕ
   pub rows : List ℕ
   pub keys : List ℕ
+
+abbrev pub asBytes : List ℕ → List ℕ → List ℕ → Bytes
+asBytes settings rows keys = record { settings = settings; rows = rows; keys = keys }
+
+-- what the bytes spell, with n numbers of rows
+abbrev pub spelledBy : ℕ → Bytes → Lent
+spelledBy n b = lent (settingsOf (b .settings)) (numbersFrom n (b .rows)) (b .keys)
+
+-- What the bytes spell.
+abbrev pub lentOf : Bytes → Lent
+lentOf b = spelledBy (length (b .rows) / 8) b
+
+-- The settings are 688 bytes, and the rows whole numbers, at most those of 1024 rows; else a length is wrong. Whether rows and keys fit one c the outcome tells.
+abbrev pub spelling : {A : Type 0} → Bytes → A → A → A
+spelling b served wrong =
+    pick (eqb (length (b .settings)) settingsLength)
+    (pick (ltb tableLength (length (b .rows))) wrong
+    (pick (eqb (length (b .rows) % 8) 0) served wrong))
+    wrong
+
+-- ## A call
+
+-- What a call returns, and what it leaves of the bytes and the answer buffer.
+pub record ByteOutcome : Type 0 where
+  pub number : ℕ
+  pub bytes : Bytes
   pub answer : List ℕ
 
-abbrev pub byteOutcome : ℕ → List ℕ → List ℕ → List ℕ → List ℕ → ByteOutcome
-byteOutcome n settings rows keys answer = record { number = n; settings = settings; rows = rows; keys = keys; answer = answer }
+abbrev pub byteOutcome : ℕ → Bytes → List ℕ → ByteOutcome
+byteOutcome n b answer = record { number = n; bytes = b; answer = answer }
 
--- What a line leaves, `after` being its rows as they are lent; a refusal leaves every buffer as it was.
-abbrev pub outcomeLeft : List ℕ → Outcome → List ℕ → List ℕ → List ℕ → List ℕ → ByteOutcome
-outcomeLeft after o settings rows keys answer =
+-- What a call leaves, `rows` being the rows after it as they are lent; a refusal leaves every byte as it was.
+abbrev pub outcomeLeft : List ℕ → Outcome → Bytes → List ℕ → ByteOutcome
+outcomeLeft rows o b answer =
     pick (eqb (o .number) 0)
-    (byteOutcome 0 (settingsBytes (o .settings)) after (o .keys) (o .answer))
-    (byteOutcome (o .number) settings rows keys answer)
+    (byteOutcome 0 (asBytes (settingsBytes (o .bucket .settings)) rows (o .bucket .keys)) (o .answer))
+    (byteOutcome (o .number) b answer)
 
 -- with rows as numbers
-abbrev pub outcomeWords : Outcome → List ℕ → List ℕ → List ℕ → List ℕ → ByteOutcome
-outcomeWords o = outcomeLeft (o .numbers) o
+abbrev pub outcomeWords : Outcome → Bytes → List ℕ → ByteOutcome
+outcomeWords o = outcomeLeft (o .bucket .numbers) o
 
 -- with rows as bytes
-abbrev pub outcomeBytes : Outcome → List ℕ → List ℕ → List ℕ → List ℕ → ByteOutcome
-outcomeBytes o = outcomeLeft (numbersBytes (o .numbers)) o
+abbrev pub outcomeBytes : Outcome → Bytes → List ℕ → ByteOutcome
+outcomeBytes o = outcomeLeft (numbersBytes (o .bucket .numbers)) o
 
--- A line on rows that are numbers: the settings are 688 bytes.
-unfoldable pub wordsServed : List ℕ → List ℕ → List ℕ → List ℕ → List ℕ → ByteOutcome
-wordsServed settings numbers keys line answer =
-    pick (eqb (length settings) 688)
-    (outcomeWords (outcome (settingsOf settings) numbers keys line answer) settings numbers keys answer)
-    (byteOutcome 1 settings numbers keys answer)
+-- A call on rows that are numbers: the settings are 688 bytes.
+unfoldable pub wordsServed : Bytes → Call → ByteOutcome
+wordsServed b g =
+    pick (eqb (length (b .settings)) settingsLength)
+    (outcomeWords (outcome (lent (settingsOf (b .settings)) (b .rows) (b .keys)) g) b (g .answer))
+    (byteOutcome 1 b (g .answer))
 
--- the outcome of a line on what the bytes spell: the settings, and n numbers of rows
-abbrev pub spelledOutcome : ℕ → List ℕ → List ℕ → List ℕ → List ℕ → List ℕ → Outcome
-spelledOutcome n settings rows keys line answer = outcome (settingsOf settings) (numbersFrom n rows) keys line answer
+-- a call on what the bytes spell, with n numbers of rows
+abbrev pub spelledServed : ℕ → Bytes → Call → ByteOutcome
+spelledServed n b g = outcomeBytes (outcome (spelledBy n b) g) b (g .answer)
 
-abbrev pub spelledServed : ℕ → List ℕ → List ℕ → List ℕ → List ℕ → List ℕ → ByteOutcome
-spelledServed n settings rows keys line answer = outcomeBytes (spelledOutcome n settings rows keys line answer) settings rows keys answer
-
--- A line on rows that are bytes.
-unfoldable pub hubServed : List ℕ → List ℕ → List ℕ → List ℕ → List ℕ → ByteOutcome
-hubServed settings rows keys line answer =
-    spelling settings rows (spelledServed (length rows / 8) settings rows keys line answer) (byteOutcome 1 settings rows keys answer)
+-- A call on rows that are bytes.
+unfoldable pub hubServed : Bytes → Call → ByteOutcome
+hubServed b g = spelling b (spelledServed (length (b .rows) / 8) b g) (byteOutcome 1 b (g .answer))
 
 -- ## A row's key
 
--- the key at a position of what the bytes spell
-abbrev pub spelledKey : ℕ → List ℕ → List ℕ → List ℕ → ℕ → List ℕ
-spelledKey n settings rows keys i = keyOf (settingsOf settings) (numbersFrom n rows) keys i
-
 -- A wrong length gives the empty part.
-unfoldable pub hubKey : List ℕ → List ℕ → List ℕ → ℕ → List ℕ
-hubKey settings rows keys i = spelling settings rows (spelledKey (length rows / 8) settings rows keys i) []
+unfoldable pub hubKey : Bytes → ℕ → List ℕ
+hubKey b i = spelling b (keyOf (lentOf b) i) []
 
 -- ## A fresh bucket
 
--- What making a fresh bucket returns, and what it leaves of the buffers.
+-- What making a fresh bucket returns, and what it leaves of the bytes.
 pub record FreshOutcome : Type 0 where
   pub number : ℕ
-  pub settings : List ℕ
-  pub rows : List ℕ
-  pub keys : List ℕ
+  pub bytes : Bytes
 
-abbrev pub freshOutcome : ℕ → List ℕ → List ℕ → List ℕ → FreshOutcome
-freshOutcome n settings rows keys = record { number = n; settings = settings; rows = rows; keys = keys }
+abbrev pub freshOutcome : ℕ → Bytes → FreshOutcome
+freshOutcome n b = record { number = n; bytes = b }
 
 -- as many key bytes as 1 to 1024 rows have
 unfoldable pub fitRows : ℕ → Bool
-fitRows n = pick (ltb n 64) false (pick (ltb 65536 n) false (eqb (n % 64) 0))
+fitRows n = pick (ltb n 64) false (pick (ltb tableLength n) false (eqb (n % 64) 0))
 
--- The settings are 688 bytes, the keys those of 1 to 1024 rows, and the rows as long as is said; else every buffer stays.
-abbrev pub madeFresh : ℕ → List ℕ → List ℕ → List ℕ → FreshOutcome
-madeFresh long settings rows keys =
-    pick (eqb (length settings) 688)
-    (pick (eqb (length rows) long)
-    (pick (fitRows (length keys)) (freshOutcome 0 (settingsBytes freshSettings) (replicate (length rows) 0) (replicate (length keys) 0))
-    (freshOutcome 1 settings rows keys))
-    (freshOutcome 1 settings rows keys))
-    (freshOutcome 1 settings rows keys)
+-- The settings are 688 bytes, the keys those of 1 to 1024 rows, and the rows as long as is said; else every byte stays.
+abbrev pub madeFresh : ℕ → Bytes → FreshOutcome
+madeFresh long b =
+    pick (eqb (length (b .settings)) settingsLength)
+    (pick (eqb (length (b .rows)) long)
+    (pick (fitRows (length (b .keys))) (freshOutcome 0 (asBytes (settingsBytes freshSettings) (replicate (length (b .rows)) 0) (replicate (length (b .keys)) 0)))
+    (freshOutcome 1 b))
+    (freshOutcome 1 b))
+    (freshOutcome 1 b)
 
 -- rows as numbers, eight of them to 64 key bytes
-unfoldable pub wordsFresh : List ℕ → List ℕ → List ℕ → FreshOutcome
-wordsFresh settings numbers keys = madeFresh (length keys / 8) settings numbers keys
+unfoldable pub wordsFresh : Bytes → FreshOutcome
+wordsFresh b = madeFresh (length (b .keys) / 8) b
 
 -- rows as bytes, 64 of them to 64 key bytes
-unfoldable pub hubFresh : List ℕ → List ℕ → List ℕ → FreshOutcome
-hubFresh settings rows keys = madeFresh (length keys) settings rows keys
+unfoldable pub hubFresh : Bytes → FreshOutcome
+hubFresh b = madeFresh (length (b .keys)) b

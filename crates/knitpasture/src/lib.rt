@@ -3,9 +3,12 @@ use settings::Settings;
 ghost use mathlib.Core.Path.{_≡_};
 ghost use Prim.Native.Nat.{_*_};
 ghost use lib.ListN.{length, replicate};
+ghost use Rattle.settings.specs.Bytes.{settingsLength};
+ghost use Rattle.bucket.specs.Whole.{lent, keyOf};
+ghost use Rattle.outcome.specs.Calls.{call};
 ghost use Rattle.outcome.specs.Outcome.{outcome};
 ghost use Rattle.knitpasture.specs.Lent.{lentOutcome, lentOutcomeFrom};
-ghost use Rattle.knitpasture.specs.Bytes.{numbersFrom, numbersBytes, byteOutcome, wordsServed, spelledServed, hubServed, spelledKey, hubKey, freshOutcome, fitRows, wordsFresh, hubFresh};
+ghost use Rattle.knitpasture.specs.Bytes.{numbersFrom, numbersBytes, asBytes, spelledBy, byteOutcome, wordsServed, spelledServed, hubServed, hubKey, freshOutcome, fitRows, wordsFresh, hubFresh};
 
 // Serves a line on settings that are lent and altered here, and returns 0 or the refusal.
 #[no_mangle]
@@ -16,7 +19,7 @@ pub extern "C" fn knitpasture_serve_lent(
     line: &[u8],
     answer: &mut [u8],
 ) -> u64
-    ensures { λ r. ⌜ lentOutcome r (now (settings .exit)) (now (rows .exit)) (now (keys .exit)) (now (answer .exit)) ≡ lentOutcomeFrom (outcome (now (settings .entry)) (now (rows .entry)) (now (keys .entry)) (now (line .entry)) (now (answer .entry))) ⌝ }
+    ensures { λ r. ⌜ lentOutcome r (lent (now (settings .exit)) (now (rows .exit)) (now (keys .exit))) (now (answer .exit)) ≡ lentOutcomeFrom (outcome (lent (now (settings .entry)) (now (rows .entry)) (now (keys .entry))) (call (now (line .entry)) (now (answer .entry)))) ⌝ }
 {
     let r = engine::serve(*settings, rows, keys, line, answer);
     *settings = r.settings;
@@ -32,10 +35,10 @@ pub extern "C" fn knitpasture_serve_words(
     line: &[u8],
     answer: &mut [u8],
 ) -> u64
-    ensures { λ r. ⌜ byteOutcome r (now (settings .exit)) (now (rows .exit)) (now (keys .exit)) (now (answer .exit)) ≡ wordsServed (now (settings .entry)) (now (rows .entry)) (now (keys .entry)) (now (line .entry)) (now (answer .entry)) ⌝ }
+    ensures { λ r. ⌜ byteOutcome r (asBytes (now (settings .exit)) (now (rows .exit)) (now (keys .exit))) (now (answer .exit)) ≡ wordsServed (asBytes (now (settings .entry)) (now (rows .entry)) (now (keys .entry))) (call (now (line .entry)) (now (answer .entry))) ⌝ }
 {
-    if settings.len() != 688 {
-        return 1;
+    if settings.len() != model::SETTINGS_BYTES {
+        return model::UNSOUND;
     }
     let s = settings::decode(settings);
     let r = engine::serve(s, rows, keys, line, answer);
@@ -96,8 +99,8 @@ fn serve_spelled(
     answer: &mut [u8],
     numbers: &mut [u64],
 ) -> u64
-    requires { ⌜ (length (now settings) ≡ 688) × (length (now rows) ≡ 8 * length (now numbers)) ⌝ }
-    ensures { λ r. ⌜ byteOutcome r (now (settings .exit)) (now (rows .exit)) (now (keys .exit)) (now (answer .exit)) ≡ spelledServed (length (now (numbers .entry))) (now (settings .entry)) (now (rows .entry)) (now (keys .entry)) (now (line .entry)) (now (answer .entry)) ⌝ }
+    requires { ⌜ (length (now settings) ≡ settingsLength) × (length (now rows) ≡ 8 * length (now numbers)) ⌝ }
+    ensures { λ r. ⌜ byteOutcome r (asBytes (now (settings .exit)) (now (rows .exit)) (now (keys .exit))) (now (answer .exit)) ≡ spelledServed (length (now (numbers .entry))) (asBytes (now (settings .entry)) (now (rows .entry)) (now (keys .entry))) (call (now (line .entry)) (now (answer .entry))) ⌝ }
 {
     read_numbers(rows, numbers);
     let number = knitpasture_serve_words(settings, numbers, keys, line, answer);
@@ -117,16 +120,16 @@ pub extern "C" fn knitpasture_serve(
     line: &[u8],
     answer: &mut [u8],
 ) -> u64
-    ensures { λ r. ⌜ byteOutcome r (now (settings .exit)) (now (rows .exit)) (now (keys .exit)) (now (answer .exit)) ≡ hubServed (now (settings .entry)) (now (rows .entry)) (now (keys .entry)) (now (line .entry)) (now (answer .entry)) ⌝ }
+    ensures { λ r. ⌜ byteOutcome r (asBytes (now (settings .exit)) (now (rows .exit)) (now (keys .exit))) (now (answer .exit)) ≡ hubServed (asBytes (now (settings .entry)) (now (rows .entry)) (now (keys .entry))) (call (now (line .entry)) (now (answer .entry))) ⌝ }
 {
-    if settings.len() != 688 {
-        return 1;
+    if settings.len() != model::SETTINGS_BYTES {
+        return model::UNSOUND;
     }
-    if rows.len() > 65536 {
-        return 1;
+    if rows.len() > model::TABLE_BYTES {
+        return model::UNSOUND;
     }
     if rows.len() % 8 != 0 {
-        return 1;
+        return model::UNSOUND;
     }
     let n = rows.len() / 8;
     if rows.len() <= 4096 {
@@ -139,8 +142,8 @@ pub extern "C" fn knitpasture_serve(
 
 // The length of the key at a position of the numbers that the rows spell.
 fn key_length(settings: &[u8], rows: &[u8], keys: &[u8], at: usize, numbers: &mut [u64]) -> usize
-    requires { ⌜ (length (now settings) ≡ 688) × (length (now rows) ≡ 8 * length (now numbers)) ⌝ }
-    ensures { λ r. ⌜ r ≡ length (spelledKey (length (now (numbers .entry))) (now (settings .entry)) (now (rows .entry)) (now (keys .entry)) at) ⌝ }
+    requires { ⌜ (length (now settings) ≡ settingsLength) × (length (now rows) ≡ 8 * length (now numbers)) ⌝ }
+    ensures { λ r. ⌜ r ≡ length (keyOf (spelledBy (length (now (numbers .entry))) (asBytes (now (settings .entry)) (now (rows .entry)) (now (keys .entry)))) at) ⌝ }
 {
     read_numbers(rows, numbers);
     let s = settings::decode(settings);
@@ -151,12 +154,12 @@ fn key_length(settings: &[u8], rows: &[u8], keys: &[u8], at: usize, numbers: &mu
 // The length of a used row's key, which stands in the key bytes from the row's second on; 0 for the empty part.
 #[no_mangle]
 pub extern "C" fn knitpasture_key(settings: &[u8], rows: &[u8], keys: &[u8], at: usize) -> usize
-    ensures { λ r. ⌜ r ≡ length (hubKey (now (settings .entry)) (now (rows .entry)) (now (keys .entry)) at) ⌝ }
+    ensures { λ r. ⌜ r ≡ length (hubKey (asBytes (now (settings .entry)) (now (rows .entry)) (now (keys .entry))) at) ⌝ }
 {
-    if settings.len() != 688 {
+    if settings.len() != model::SETTINGS_BYTES {
         return 0;
     }
-    if rows.len() > 65536 {
+    if rows.len() > model::TABLE_BYTES {
         return 0;
     }
     if rows.len() % 8 != 0 {
@@ -174,7 +177,7 @@ fn fit_rows(n: usize) -> bool
     if n < 64 {
         return false;
     }
-    if n > 65536 {
+    if n > model::TABLE_BYTES {
         return false;
     }
     n % 64 == 0
@@ -203,16 +206,16 @@ pub extern "C" fn knitpasture_fresh_words(
     rows: &mut [u64],
     keys: &mut [u8],
 ) -> u64
-    ensures { λ r. ⌜ freshOutcome r (now (settings .exit)) (now (rows .exit)) (now (keys .exit)) ≡ wordsFresh (now (settings .entry)) (now (rows .entry)) (now (keys .entry)) ⌝ }
+    ensures { λ r. ⌜ freshOutcome r (asBytes (now (settings .exit)) (now (rows .exit)) (now (keys .exit))) ≡ wordsFresh (asBytes (now (settings .entry)) (now (rows .entry)) (now (keys .entry))) ⌝ }
 {
-    if settings.len() != 688 {
-        return 1;
+    if settings.len() != model::SETTINGS_BYTES {
+        return model::UNSOUND;
     }
     if rows.len() != keys.len() / 8 {
-        return 1;
+        return model::UNSOUND;
     }
     if !fit_rows(keys.len()) {
-        return 1;
+        return model::UNSOUND;
     }
     settings::encode(settings::fresh(), settings);
     clear_numbers(rows);
@@ -223,16 +226,16 @@ pub extern "C" fn knitpasture_fresh_words(
 // The same with the rows as bytes.
 #[no_mangle]
 pub extern "C" fn knitpasture_fresh(settings: &mut [u8], rows: &mut [u8], keys: &mut [u8]) -> u64
-    ensures { λ r. ⌜ freshOutcome r (now (settings .exit)) (now (rows .exit)) (now (keys .exit)) ≡ hubFresh (now (settings .entry)) (now (rows .entry)) (now (keys .entry)) ⌝ }
+    ensures { λ r. ⌜ freshOutcome r (asBytes (now (settings .exit)) (now (rows .exit)) (now (keys .exit))) ≡ hubFresh (asBytes (now (settings .entry)) (now (rows .entry)) (now (keys .entry))) ⌝ }
 {
-    if settings.len() != 688 {
-        return 1;
+    if settings.len() != model::SETTINGS_BYTES {
+        return model::UNSOUND;
     }
     if rows.len() != keys.len() {
-        return 1;
+        return model::UNSOUND;
     }
     if !fit_rows(keys.len()) {
-        return 1;
+        return model::UNSOUND;
     }
     settings::encode(settings::fresh(), settings);
     clear(rows);

@@ -51,6 +51,12 @@ pub const MOST_YEARS: u64 = 100;
 // The largest capacity of a table.
 pub const MOST_ROWS: usize = 1024;
 
+// The bytes of its rows, which are also those of its keys.
+pub const TABLE_BYTES: usize = 65536;
+
+// The bytes of the settings.
+pub const SETTINGS_BYTES: usize = 688;
+
 // The least length of an answer buffer, and the longest answer of one line.
 pub const LEAST_ROOM: usize = 256;
 

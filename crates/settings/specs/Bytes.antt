@@ -9,6 +9,10 @@ use Rattle.buffers.specs.Words.{number, spelled}
 use Rattle.settings.specs.declared.Settings.{Settings}
 use Rattle.settings.specs.declared.Rule.{Rule}
 
+-- the length of the settings as bytes
+abbrev pub settingsLength : ℕ
+settingsLength = 688
+
 -- ## From settings to bytes
 
 abbrev pub ruleBytes : Rule → List ℕ

@@ -10,7 +10,7 @@ ghost use Rattle.model.specs.Settings.{soundDefault, soundRules};
 ghost use Rattle.model.specs.Effects.{stored};
 ghost use Rattle.settings.specs.Meaning.{rulesMean, ruleFrom, freshSettings, prefixesAre, settingsSound};
 ghost use Rattle.settings.specs.Changes.{ruleSound, withDefault, withProgress, withRule};
-ghost use Rattle.settings.specs.Bytes.{ruleAt, settingsOf, rulesBytes, settingsBytes};
+ghost use Rattle.settings.specs.Bytes.{settingsLength, ruleAt, settingsOf, rulesBytes, settingsBytes};
 ghost use Rattle.settings.specs.State.{stateOf};
 
 // A lifecycle rule; its prefix is 64 bytes like a key, with length 0 allowed.
@@ -70,7 +70,7 @@ fn rule_at(b: &[u8], at: usize) -> Rule
 
 // The eight rules behind the six numbers.
 fn rules_in(b: &[u8]) -> [Rule; 8]
-    requires { ⌜ length (now b) ≡ 688 ⌝ }
+    requires { ⌜ length (now b) ≡ settingsLength ⌝ }
     ensures { λ r. ⌜ r ≡ settingsOf (now (b .entry)) .rules ⌝ }
 {
     [
@@ -87,7 +87,7 @@ fn rules_in(b: &[u8]) -> [Rule; 8]
 
 // The settings that 688 bytes spell.
 pub fn decode(b: &[u8]) -> Settings
-    requires { ⌜ length (now b) ≡ 688 ⌝ }
+    requires { ⌜ length (now b) ≡ settingsLength ⌝ }
     ensures { λ r. ⌜ r ≡ settingsOf (now (b .entry)) ⌝ }
 {
     let time = buffers::word_at(b, 0);
@@ -134,7 +134,7 @@ fn put_rules(b: &mut [u8], at: usize, rules: [Rule; 8])
 
 // Writes the settings' 688 bytes.
 pub fn encode(s: Settings, b: &mut [u8])
-    requires { ⌜ length (now b) ≡ 688 ⌝ }
+    requires { ⌜ length (now b) ≡ settingsLength ⌝ }
     ensures { λ _. ⌜ now (b .exit) ≡ settingsBytes s ⌝ }
 {
     let at = buffers::put_word(b, 0, s.time);

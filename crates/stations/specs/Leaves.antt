@@ -2,11 +2,9 @@
 use Prim.Native.Nat.{ℕ}
 use mathlib.Core.Path.{_≡_}
 use mathlib.Core.List.{List}
-use Rattle.settings.specs.declared.Settings.{Settings}
+use Rattle.bucket.specs.Whole.{Lent}
 use Rattle.outcome.specs.Outcome.{Outcome}
 
-pub record Leaves (s : Settings) (numbers keys answer : List ℕ) (o : Outcome) : Type 0 where
-  pub settings-are : s ≡ o .settings
-  pub numbers-are : numbers ≡ o .numbers
-  pub keys-are : keys ≡ o .keys
+pub record Leaves (b : Lent) (answer : List ℕ) (o : Outcome) : Type 0 where
+  pub bucket-is : b ≡ o .bucket
   pub answer-is : answer ≡ o .answer

@@ -6,6 +6,8 @@ use libc::STDOUT_FILENO;
 use settings::Settings;
 ghost use mathlib.Core.Path.{_≡_};
 ghost use lib.ListN.{replicate};
+ghost use Rattle.bucket.specs.Whole.{lent};
+ghost use Rattle.outcome.specs.Calls.{call};
 ghost use Rattle.outcome.specs.Outcome.{outcome};
 ghost use Rattle.stations.specs.Leaves.{Leaves};
 
@@ -24,7 +26,7 @@ fn print_line(
     line: &[u8],
     answer: &mut [u8],
 ) -> Settings
-    ensures { λ r. ⌜ Leaves r (now (rows .exit)) (now (keys .exit)) (now (answer .exit)) (outcome s (now (rows .entry)) (now (keys .entry)) (now (line .entry)) (now (answer .entry))) ⌝ }
+    ensures { λ r. ⌜ Leaves (lent r (now (rows .exit)) (now (keys .exit))) (now (answer .exit)) (outcome (lent s (now (rows .entry)) (now (keys .entry))) (call (now (line .entry)) (now (answer .entry)))) ⌝ }
 {
     let r = engine::serve(s, rows, keys, line, answer);
     let len = r.len;

@@ -12,5 +12,5 @@ judge-hold-spec =
     (λ c. search needs)
     (λ c. search needs)
     (λ c κs. search needs)
-    (λ c t us fs. search (needs, data-ways))
-    (λ c t us fs. search (needs, data-ways)))
+    (λ c t who us fs. search (needs, data-ways))
+    (λ c t who us fs. search (needs, data-ways)))

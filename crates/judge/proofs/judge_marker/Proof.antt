@@ -9,8 +9,8 @@ judge-marker-spec =
     tie.close
     (tie.spec
     (λ c κs. search needs)
-    (λ c y us fs. search (needs, marker-ways))
+    (λ c y who us fs. search (needs, marker-ways))
     (λ c κs. search needs)
     (λ c κs. search needs)
     (λ c κs. search needs)
-    (λ c y us fs. search (needs, marker-ways)))
+    (λ c y who us fs. search (needs, marker-ways)))

@@ -11,5 +11,5 @@ judge-query-spec =
     (λ c κs. search needs)
     (λ c. search needs)
     (λ c. search needs)
-    (λ c us fs. search (needs, data-ways))
-    (λ c us fs. search (needs, data-ways)))
+    (λ c who us fs. search (needs, data-ways))
+    (λ c who us fs. search (needs, data-ways)))
