@@ -1,4 +1,5 @@
 pub mod Deciding
 pub mod Demands
 pub mod Kept
+pub mod Heard
 pub mod Room
