@@ -14,24 +14,24 @@ use Rattle.buffers.proofs.Tests.{either}
 use Rattle.text.specs.Lines.{linesOf, feedAt}
 use Rattle.text.specs.Keys.{contains}
 use Rattle.request.specs.Grammar.{requestIn, readLine}
+use Rattle.bucket.specs.Whole.{Lent}
 use Rattle.outcome.specs.Outcome.{Outcome}
-use Rattle.outcome.specs.Calls.{Lent, leaves}
 use Rattle.outcome.specs.Printed.{printedOf}
-use Rattle.bucketrun.specs.Program.{answerRoom, servedLine, leftBy, printedBy, endedLength, endedLines, begunLine, waiting, afterBlocks, printedBlocks, joined, CutAnywhere}
+use Rattle.outcome.proofs.Heard.{same-outcome}
+use Rattle.bucketrun.specs.Program.{answerRoom, servedLine, afterLine, leftBy, printedBy, endedLength, endedLines, begunLine, waiting, afterBlocks, printedBlocks, joined, CutAnywhere}
 use Rattle.bucketrun.proofs.Lines.{end-cut, end-most, rest-none, none-take, lines-append, lines-begun}
-use Rattle.bucketrun.proofs.Outcomes.{same-read}
 
 -- ## Lists of lines
 
 pub left-append : (h : Lent) (ls ms : List (List ℕ)) → leftBy h (ls ++ ms) ≡ leftBy (leftBy h ls) ms
 left-append h [] ms = refl
-left-append h (l ∷ ls) ms = left-append (leaves (servedLine h l)) ls ms
+left-append h (l ∷ ls) ms = left-append (afterLine h l) ls ms
 
 pub printed-append : (h : Lent) (ls ms : List (List ℕ)) → printedBy h (ls ++ ms) ≡ printedBy h ls ++ printedBy (leftBy h ls) ms
 printed-append h [] ms = refl
 printed-append h (l ∷ ls) ms =
-    ap (λ (t : List ℕ). printedOf (servedLine h l) ++ t) (printed-append (leaves (servedLine h l)) ls ms)
-    ∙ sym (append-assoc (printedOf (servedLine h l)) (printedBy (leaves (servedLine h l)) ls) (printedBy (leftBy (leaves (servedLine h l)) ls) ms))
+    ap (λ (t : List ℕ). printedOf (servedLine h l) ++ t) (printed-append (afterLine h l) ls ms)
+    ∙ sym (append-assoc (printedOf (servedLine h l)) (printedBy (afterLine h l) ls) (printedBy (leftBy (afterLine h l) ls) ms))
 
 -- ## Long lines
 
@@ -43,7 +43,7 @@ long-unread l h = simp (lt-ltb _ _ h)
 cut-served : (h : Lent) (s rest : List ℕ) → 513 ≤ length s → servedLine h (take 513 s ++ rest) ≡ servedLine h (s ++ rest)
 cut-served h s rest l =
     let n : length (take 513 s) ≡ 513 = length-take-le 513 s l in
-    same-read (h .settings) (h .numbers) (h .keys) (take 513 s ++ rest) (s ++ rest) answerRoom
+    same-outcome h (take 513 s ++ rest) (s ++ rest) answerRoom
     (long-unread (take 513 s ++ rest) (rw length-append (omega arith)) ∙ sym (long-unread (s ++ rest) (rw length-append (omega arith))))
 
 module _ (h : Lent) (s u : List ℕ) (e : contains s 10 ≡ false) where
@@ -62,10 +62,10 @@ module _ (h : Lent) (s u : List ℕ) (e : contains s 10 ≡ false) where
       ]
 
   cut-printed : printedBy h (linesOf (take 513 s ++ u)) ≡ printedBy h (linesOf (s ++ u))
-  cut-printed = cut-lines (printedBy h) (λ l m ls q. ap (λ (o : Outcome). printedOf o ++ printedBy (leaves o) ls) q)
+  cut-printed = cut-lines (printedBy h) (λ l m ls q. ap (λ (o : Outcome). printedOf o ++ printedBy (o .bucket) ls) q)
 
   cut-left : leftBy h (linesOf (take 513 s ++ u)) ≡ leftBy h (linesOf (s ++ u))
-  cut-left = cut-lines (leftBy h) (λ l m ls q. ap (λ (o : Outcome). leftBy (leaves o) ls) q)
+  cut-left = cut-lines (leftBy h) (λ l m ls q. ap (λ (o : Outcome). leftBy (o .bucket) ls) q)
 
 -- ## Blocks
 

@@ -1,5 +1,4 @@
 pub mod Lines
-pub mod Outcomes
 pub mod Cutting
 pub mod Printing
 pub mod Serving

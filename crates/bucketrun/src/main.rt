@@ -70,8 +70,8 @@ fn serve_some(
     out: &mut [u8],
 ) -> Course
     requires { ⌜ from ≤ length (now block) ⌝ }
-    requires { ⌜ Servable s (now rows) (now keys) (now out) ⌝ }
-    ensures { λ r. ⌜ ServedSome (lent s (now (rows .entry)) (now (keys .entry))) (now (block .entry)) from (now (out .entry)) r (now (rows .exit)) (now (keys .exit)) (now (out .exit)) ⌝ }
+    requires { ⌜ Servable (lent s (now rows) (now keys)) (now out) ⌝ }
+    ensures { λ r. ⌜ ServedSome (lent s (now (rows .entry)) (now (keys .entry))) (now (block .entry)) from (lent (r .settings) (now (rows .exit)) (now (keys .exit))) (now (out .exit)) (r .at) (r .served) ⌝ }
 {
     let mut after = s;
     let mut at = 0;
@@ -97,8 +97,8 @@ fn serve_some(
 
 // Serves every line that ends in the block, and writes what they print, until nobody takes it.
 fn serve_all(block: &[u8], s: Settings, rows: &mut [u64], keys: &mut [u8], out: &mut [u8]) -> Block
-    requires { ⌜ Servable s (now rows) (now keys) (now out) ⌝ }
-    ensures { λ r. ⌜ ServedAll (lent s (now (rows .entry)) (now (keys .entry))) (now (block .entry)) r (now (rows .exit)) (now (keys .exit)) ⌝ }
+    requires { ⌜ Servable (lent s (now rows) (now keys)) (now out) ⌝ }
+    ensures { λ r. ⌜ ServedAll (lent s (now (rows .entry)) (now (keys .entry))) (now (block .entry)) (lent (r .settings) (now (rows .exit)) (now (keys .exit))) (r .served) (r .told) ⌝ }
 {
     let mut after = s;
     let mut i = 0;
@@ -127,7 +127,7 @@ fn serve_all(block: &[u8], s: Settings, rows: &mut [u64], keys: &mut [u8], out: 
 // Reads behind the bytes that are kept; at the input's end nothing comes, and a line feed ends what is kept, if that is anything.
 fn read_behind(input: &mut [u8], kept: usize) -> Came
     requires { ⌜ kept < length (now input) ⌝ }
-    ensures { λ r. ⌜ CameBehind (now (input .entry)) kept (now (input .exit)) r ⌝ }
+    ensures { λ r. ⌜ CameBehind (now (input .entry)) kept (now (input .exit)) (r .end) (r .over) ⌝ }
 {
     let got = libc::read(STDIN_FILENO, &mut input[kept..]);
     let count = io::count(got, &input[kept..]);
@@ -179,8 +179,8 @@ fn serve_block(
     out: &mut [u8],
 ) -> Rest
     requires { ⌜ end ≤ length (now input) ⌝ }
-    requires { ⌜ Servable s (now rows) (now keys) (now out) ⌝ }
-    ensures { λ r. ⌜ TookBlock (lent s (now (rows .entry)) (now (keys .entry))) (take end (now (input .entry))) r (now (rows .exit)) (now (keys .exit)) (now (input .exit)) ⌝ }
+    requires { ⌜ Servable (lent s (now rows) (now keys)) (now out) ⌝ }
+    ensures { λ r. ⌜ TookBlock (lent s (now (rows .entry)) (now (keys .entry))) (take end (now (input .entry))) (lent (r .settings) (now (rows .exit)) (now (keys .exit))) (now (input .exit)) (r .kept) (r .told) ⌝ }
 {
     let block = serve_all(&input[0..end], s, rows, keys, out);
     let after = block.settings;
@@ -195,7 +195,7 @@ fn serve_block(
 // Serves the input block by block, and returns whether all output is written.
 // Nothing says that the input ends, and a proved loop has to: it counts down from a number that no run uses up.
 fn run(s: Settings, input: &mut [u8], rows: &mut [u64], keys: &mut [u8], out: &mut [u8]) -> bool
-    requires { ⌜ Startable s (now input) (now rows) (now keys) (now out) ⌝ }
+    requires { ⌜ Startable (lent s (now rows) (now keys)) (now input) (now out) ⌝ }
     ensures { λ r. ⌜ Ran r (lent s (now (rows .entry)) (now (keys .entry))) (now (rows .exit)) (now (keys .exit)) ⌝ }
 {
     let mut after = s;

@@ -35,5 +35,7 @@ module _ (b : Lent) (g g′ : Call) where
 pub heard-room : (l a a′ : List ℕ) → length a ≡ length a′ → heard (call l a) ≡ heard (call l a′)
 heard-room l a a′ e = ap (λ (n : ℕ). heardOf n (line l)) e
 
-pub heard-read : (l l′ a : List ℕ) → readLine l ≡ readLine l′ → heard (call l a) ≡ heard (call l′ a)
-heard-read l l′ a e = rw e
+-- Two lines that read the same have the same outcome.
+pub same-outcome : (b : Lent) (l l′ a : List ℕ) → readLine l ≡ readLine l′ → outcome b (call l a) ≡ outcome b (call l′ a)
+unfolding outcome refusalOf
+same-outcome b l l′ a e = rw e

@@ -1,5 +1,5 @@
 -- `run` meets its contract.
-use Rattle.outcome.specs.Calls.{lent}
+use Rattle.bucket.specs.Whole.{lent}
 use Rattle.bucketrun.specs.Course.{BetweenBlocks}
 use Rattle.bucketrun.proofs.Blocks.{first-block, read-room, run-ends, next-block, run-stopped}
 use borrow.Author.Needs.{needs}
@@ -8,7 +8,7 @@ use Rattle.bucketrun.proofs.run.Tie as tie
 
 abbrev Inv-loop : tie.InvT-loop
 Inv-loop input₀ rows₀ keys₀ out₀ after₀ kept₀ turns₀ input rows keys out after kept turns =
-    BetweenBlocks (lent after₀ rows₀ keys₀) input₀ rows₀ keys₀ out₀ after input rows keys out kept
+    BetweenBlocks (lent after₀ rows₀ keys₀) input₀ out₀ (lent after rows keys) input out kept
 
 abbrev μ-loop : tie.MeasureT-loop
 μ-loop input₀ rows₀ keys₀ out₀ after₀ kept₀ turns₀ input rows keys out after kept turns = turns

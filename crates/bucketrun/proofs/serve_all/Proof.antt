@@ -1,15 +1,15 @@
 -- `serve_all` meets its contract.
 use Prim.Native.Nat.{_-_}
 use lib.ListN.{length}
-use Rattle.outcome.specs.Calls.{lent}
+use Rattle.bucket.specs.Whole.{lent}
 use Rattle.bucketrun.specs.Course.{BetweenParts}
-use Rattle.bucketrun.proofs.Serving.{first-part, part-servable, part-written, part-less, part-next, parts-stopped, parts-done}
+use Rattle.bucketrun.proofs.Serving.{first-part, part-servable, part-less, part-next, parts-stopped, parts-done}
 use borrow.Author.Needs.{needs}
 use Rattle.bucketrun.proofs.serve_all.Statement.{statement}
 use Rattle.bucketrun.proofs.serve_all.Tie as tie
 
 abbrev Inv-loop : tie.InvT-loop
-Inv-loop block rows₀ keys₀ out₀ after₀ i₀ rows keys out after i = BetweenParts (lent after₀ rows₀ keys₀) block rows₀ keys₀ out₀ after rows keys out i
+Inv-loop block rows₀ keys₀ out₀ after₀ i₀ rows keys out after i = BetweenParts (lent after₀ rows₀ keys₀) block out₀ (lent after rows keys) out i
 
 abbrev μ-loop : tie.MeasureT-loop
 μ-loop block rows₀ keys₀ out₀ after₀ i₀ rows keys out after i = length block - i
@@ -24,7 +24,7 @@ serve-all-spec =
     (λ c κs. search (needs, part-servable))
     (λ c. search needs)
     (λ c. search needs)
-    (λ c. search (needs, part-written))
+    (λ c. search needs)
     (λ c κs. search needs)
     (λ c. search needs)
     (λ c. search needs)
