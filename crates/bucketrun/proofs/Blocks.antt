@@ -134,11 +134,14 @@ first-block b input out a =
     record {
       blocks = [];
       leads = refl;
-      startable = a;
+      servable = a .servable;
       few = omega arith;
       no-feed = refl;
+      input-long = a .input-long;
       input-same = refl;
-      as-long = record { numbers-same = refl; keys-same = refl; out-same = refl };
+      numbers-same = refl;
+      keys-same = refl;
+      out-same = refl;
     }
 
 -- Output was not taken.
@@ -147,7 +150,7 @@ run-stopped h n k = record { blocks = []; settings = h .settings; is = λ x. abs
 
 module _ (h : Lent) (input₀ out₀ : List ℕ) (b : Lent) (input out : List ℕ) (kept : ℕ) (g : BetweenBlocks h input₀ out₀ b input out kept) where
   pub read-room : kept < length input
-  read-room = omega (arith, g .few, g .startable .input-long)
+  read-room = omega (arith, g .few, g .input-long)
 
   module _ (filled : List ℕ) (end : ℕ) (over : Bool) (c : CameBehind input kept filled end over) where
     pub run-ends : (s : Settings) (n k input′ : List ℕ) (kept′ : ℕ) (told : Bool) → TookBlock b (take end filled) (lent s n k) input′ kept′ told → over ≡ true → Ran told h n k
@@ -176,9 +179,12 @@ module _ (h : Lent) (input₀ out₀ : List ℕ) (b : Lent) (input out : List �
         record {
           blocks = g .blocks ++ x ∷ [];
           leads = q ∙ ap (afterBlock (waiting b [])) came ∙ ap (λ (w : Waiting). afterBlock w x) (g .leads) ∙ sym (after-more (waiting h []) (g .blocks) x);
-          startable = record { servable = record { is-whole = d .is-whole; long = lo ∙ g .startable .servable .long }; input-long = li ∙ lf ∙ g .startable .input-long };
+          servable = record { is-whole = d .is-whole; long = lo ∙ g .servable .long };
           few = d .few;
           no-feed = ap (λ (w : Waiting). contains (w .begun) 10) q ∙ none-take 513 (drop (endedLength (take end filled)) (take end filled)) (rest-none (take end filled));
+          input-long = li ∙ lf ∙ g .input-long;
           input-same = li ∙ lf ∙ g .input-same;
-          as-long = record { numbers-same = ln ∙ g .as-long .numbers-same; keys-same = lk ∙ g .as-long .keys-same; out-same = lo ∙ g .as-long .out-same };
+          numbers-same = ln ∙ g .numbers-same;
+          keys-same = lk ∙ g .keys-same;
+          out-same = lo ∙ g .out-same;
         }

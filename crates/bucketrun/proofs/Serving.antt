@@ -1,6 +1,6 @@
 -- Laws of the loops over a block: what holds between two lines, and between two parts.
 use Prim.Native.Nat.{ℕ, zero, suc, _+_, _-_, _≤_, _<_}
-use mathlib.Core.Path.{_≡_, refl, sym, _∙_, ap}
+use mathlib.Core.Path.{_≡_, refl, sym, _∙_, ap, ap₂}
 use mathlib.Core.Bool.{true, false}
 use mathlib.Core.List.{List, [], _∷_, _++_, append-nil}
 use native.Mathlib.Omega.{arith}
@@ -22,7 +22,7 @@ use Rattle.engine.specs.declared.Served.{Served}
 use Rattle.engine.specs.Served.{outcomeFrom}
 use Rattle.engine.proofs.Serving.{answer-fits}
 use Rattle.bucketrun.specs.Program.{answerRoom, leftBy, printedBy, endedLength}
-use Rattle.bucketrun.specs.Course.{Servable, AsLong, Through, ServedTo, BetweenLines, ServedSome, BetweenParts, ServedAll}
+use Rattle.bucketrun.specs.Course.{Servable, Through, ServedTo, BetweenLines, ServedSome, BetweenParts, ServedAll}
 use Rattle.bucketrun.proofs.Lines.{none-feed, none-end, end-append, end-first, lines-append, lines-first}
 use Rattle.bucketrun.proofs.Cutting.{left-append, printed-append}
 use Rattle.bucketrun.proofs.Printing.{wrote-front}
@@ -107,7 +107,9 @@ first-line b out block from l a =
     record {
       served = record { span = record { from = omega arith; to = l }; through = rw z (through-none b (drop from block) (a .is-whole)); prints = rw z; most = omega arith };
       long = a .long;
-      as-long = record { numbers-same = refl; keys-same = refl; out-same = refl };
+      numbers-same = refl;
+      keys-same = refl;
+      out-same = refl;
     }
 
 module _ (h : Lent) (block : List ℕ) (from : ℕ) (out₀ : List ℕ) (b : Lent) (out : List ℕ) (at i : ℕ) (g : BetweenLines h block from out₀ b out at i) where
@@ -132,7 +134,6 @@ module _ (h : Lent) (block : List ℕ) (from : ℕ) (out₀ : List ℕ) (b : Len
       let c : at + 65536 - at ≡ 65536 = omega arith in
       let u : i + k + 1 - from ≡ i - from + suc k = omega (arith, t .span .from) in
       let la : length a ≡ 65536 = length-take-le 65536 (drop at out) (rw length-drop (omega (arith, g .long))) in
-      let lq : length p ≡ 65536 = lp ∙ ap length (part-cut out at 65536) ∙ la in
       let lo : length out′ ≡ length out = v .long ∙ same-len-mid at (at + 65536 - at) out p lp in
       let f : k ≡ feedAt rest = rw (rest-all i block, left-is) at (e .is) in
       let y : k < length rest = rw (← left-is, length-drop) (omega arith) in
@@ -145,12 +146,15 @@ module _ (h : Lent) (block : List ℕ) (from : ℕ) (out₀ : List ℕ) (b : Len
               span = record { from = omega (arith, t .span .from); to = omega arith };
               through = rw u (through-both h (drop from block) (i - from) b (t .through) (suc k) (o .bucket) w);
               prints =
-                  wrote-front (putMid at (at + 65536 - at) out p) at _ 65536 out′ j (omega arith) v
-                  ∙ ?;
+                  rw u (wrote-front (putMid at (at + 65536 - at) out p) at _ 65536 out′ j (omega (arith, t .most, same-len-mid at (at + 65536 - at) out p lp)) v
+                  ∙ ap₂ (λ (xs ys : List ℕ). xs ++ ys) (take-put at (at + 65536 - at) out p (omega (arith, t .most)) ∙ t .prints) (ap (printed (r .number)) s ∙ line-printed b rest k f y a la o x)
+                  ∙ sym (printed-both h (drop from block) (i - from) b (t .through) (suc k) (o .bucket) w));
               most = omega (arith, v .most, g .long);
             };
         long = lo ∙ g .long;
-        as-long = record { numbers-same = ln ∙ g .as-long .numbers-same; keys-same = lk ∙ g .as-long .keys-same; out-same = lo ∙ g .as-long .out-same };
+        numbers-same = ln ∙ g .numbers-same;
+        keys-same = lk ∙ g .keys-same;
+        out-same = lo ∙ g .out-same;
       }
 
   -- No line feed is left.
@@ -173,7 +177,7 @@ some-served h block zero q = absurd (omega arith)
 some-served h block (suc j) q = omega arith
 
 pub first-part : (b : Lent) (out block : List ℕ) → Servable b out → BetweenParts b block out b out 0
-first-part b out block a = record { through = through-none b block (a .is-whole); long = a .long; as-long = record { numbers-same = refl; keys-same = refl; out-same = refl } }
+first-part b out block a = record { through = through-none b block (a .is-whole); long = a .long; numbers-same = refl; keys-same = refl; out-same = refl }
 
 module _ (h : Lent) (block out₀ : List ℕ) (b : Lent) (out : List ℕ) (i : ℕ) (g : BetweenParts h block out₀ b out i) where
   pub part-servable : Servable b out
@@ -198,7 +202,9 @@ module _ (h : Lent) (block out₀ : List ℕ) (b : Lent) (out : List ℕ) (i : �
         record {
           through = part-through;
           long = lo ∙ g .long;
-          as-long = record { numbers-same = ln ∙ g .as-long .numbers-same; keys-same = lk ∙ g .as-long .keys-same; out-same = lo ∙ g .as-long .out-same };
+          numbers-same = ln ∙ g .numbers-same;
+          keys-same = lk ∙ g .keys-same;
+          out-same = lo ∙ g .out-same;
         }
 
     -- Nobody takes the output.

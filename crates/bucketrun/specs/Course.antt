@@ -1,7 +1,7 @@
 -- What the program's functions ask for and leave.
 use Prim.Native.Nat.{ℕ, _-_, _≤_}
 use mathlib.Core.Path.{_≡_}
-use mathlib.Core.Bool.{Bool, true}
+use mathlib.Core.Bool.{Bool, true, false}
 use mathlib.Core.List.{List, []}
 use lib.ListN.{length, take, drop}
 use Rattle.buffers.specs.Ranges.{Span}
@@ -15,12 +15,6 @@ use Rattle.bucketrun.specs.Program.{leftBy, printedBy, endedLength, wait
 pub record Servable (b : Lent) (out : List ℕ) : Type 0 where
   pub is-whole : whole b ≡ true
   pub long : length out ≡ 131072
-
--- The buffers are as long as those that came.
-pub record AsLong (h : Lent) (out₀ : List ℕ) (b : Lent) (out : List ℕ) : Type 0 where
-  pub numbers-same : length (b .numbers) ≡ length (h .numbers)
-  pub keys-same : length (b .keys) ≡ length (h .keys)
-  pub out-same : length out ≡ length out₀
 
 -- ## The lines of a block
 
@@ -42,7 +36,9 @@ pub record ServedTo (h : Lent) (block : List ℕ) (from : ℕ) (b : Lent) (out :
 pub record BetweenLines (h : Lent) (block : List ℕ) (from : ℕ) (out₀ : List ℕ) (b : Lent) (out : List ℕ) (at i : ℕ) : Type 0 where
   pub served : ServedTo h block from b out at i
   pub long : length out ≡ 131072
-  pub as-long : AsLong h out₀ b out
+  pub numbers-same : length (b .numbers) ≡ length (h .numbers)
+  pub keys-same : length (b .keys) ≡ length (h .keys)
+  pub out-same : length out ≡ length out₀
 
 -- Where there is room for more, all lines are served that a line feed ends.
 pub record ServedSome (h : Lent) (block : List ℕ) (from : ℕ) (b : Lent) (out : List ℕ) (at i : ℕ) : Type 0 where
@@ -53,7 +49,9 @@ pub record ServedSome (h : Lent) (block : List ℕ) (from : ℕ) (b : Lent) (out
 pub record BetweenParts (h : Lent) (block out₀ : List ℕ) (b : Lent) (out : List ℕ) (i : ℕ) : Type 0 where
   pub through : Through h block i b
   pub long : length out ≡ 131072
-  pub as-long : AsLong h out₀ b out
+  pub numbers-same : length (b .numbers) ≡ length (h .numbers)
+  pub keys-same : length (b .keys) ≡ length (h .keys)
+  pub out-same : length out ≡ length out₀
 
 -- Lines are served and written: all that a line feed ends, where all output was taken.
 pub record ServedAll (h : Lent) (block : List ℕ) (b : Lent) (i : ℕ) (told : Bool) : Type 0 where
@@ -83,11 +81,14 @@ pub record Startable (b : Lent) (input out : List ℕ) : Type 0 where
 pub record BetweenBlocks (h : Lent) (input₀ out₀ : List ℕ) (b : Lent) (input out : List ℕ) (kept : ℕ) : Type 0 where
   pub blocks : List (List ℕ)
   pub leads : waiting b (take kept input) ≡ afterBlocks (waiting h []) blocks
-  pub startable : Startable b input out
+  pub servable : Servable b out
   pub few : kept ≤ 513
   pub no-feed : contains (take kept input) 10 ≡ false
+  pub input-long : length input ≡ 66560
   pub input-same : length input ≡ length input₀
-  pub as-long : AsLong h out₀ b out
+  pub numbers-same : length (b .numbers) ≡ length (h .numbers)
+  pub keys-same : length (b .keys) ≡ length (h .keys)
+  pub out-same : length out ≡ length out₀
 
 -- Where all output is written, the bucket is what the lines of the blocks that came leave.
 pub record Ran (told : Bool) (h : Lent) (numbers keys : List ℕ) : Type 0 where
