@@ -8,7 +8,7 @@ use native.Mathlib.Omega.{arith}
 use native.Mathlib.Numerals.{add-one}
 use lib.Dec.{ltb}
 use lib.ListN.{length, take, drop, set, replicate, length-take, length-drop, length-replicate}
-use lib.Seq.{length-take-le, take-take, take-all, take-nil, take-at, take-add, take-suc-set, take-set-le}
+use lib.Seq.{length-take-le, take-take, take-all, take-nil, take-add, take-suc-set, take-set-le}
 use borrow.Author.Tests.{ltb-true, ltb-false, not-false}
 use borrow.Rule.Slice.PartMut.{midOf, putMid, take-put, same-len-mid}
 use Rattle.buffers.specs.Ranges.{Within, Span}
@@ -22,7 +22,7 @@ use Rattle.settings.specs.declared.Settings.{Settings}
 use Rattle.settings.specs.Meaning.{freshSettings}
 use Rattle.bucket.specs.Whole.{Lent, lent, whole}
 use Rattle.bucket.proofs.Whole.{fresh-whole}
-use Rattle.bucketrun.specs.Program.{leftBy, endedLength, endedLines, begunLine, Waiting, waiting, afterBlock, afterBlocks, feedEnded}
+use Rattle.bucketrun.specs.Program.{leftBy, endedLength, endedLines, Waiting, waiting, afterBlock, afterBlocks, feedEnded}
 use Rattle.bucketrun.specs.Course.{ServedAll, CameBehind, TookBlock, Startable, BetweenBlocks, Ran}
 use Rattle.bucketrun.proofs.Lines.{rest-none, none-take, closed-some, closed-lines}
 use Rattle.bucketrun.proofs.Cutting.{blocks-left}
@@ -73,16 +73,11 @@ drop-take (suc f) zero l = let z : zero - suc f ≡ 0 = omega arith in rw z
 drop-take (suc f) (suc t) [] = sym (take-nil (suc t - suc f))
 drop-take (suc f) (suc t) (x ∷ l) = let z : suc t - suc f ≡ t - f = omega arith in rw z (drop-take f t l)
 
-take-least : (r j k : ℕ) (l : List ℕ) → r ≡ min j k → take r l ≡ take k (take j l)
-take-least r j k l e =
-    elim (either (ltb k j)) [
-      | inl t ↦ let h = ltb-true k j t in let q : r ≡ k = omega arith in rw q (sym (take-take k j l (omega arith)))
-      | inr t ↦
-          let h = ltb-false k j t in
-          let q : r ≡ j = omega arith in
-          let m = length-take j l in
-          rw q (sym (take-all k (take j l) (omega arith)))
-    ]
+take-least : (j k : ℕ) (l : List ℕ) → take (min j k) l ≡ take k (take j l)
+take-least zero k l = let z : min zero k ≡ 0 = omega arith in rw z (sym (take-nil k))
+take-least (suc j) zero l = let z : min (suc j) zero ≡ 0 = omega arith in rw z
+take-least (suc j) (suc k) [] = take-nil (min (suc j) (suc k))
+take-least (suc j) (suc k) (x ∷ l) = let z : min (suc j) (suc k) ≡ suc (min j k) = omega arith in rw z (ap (λ (t : List ℕ). x ∷ t) (take-least j k l))
 
 -- The start of a line goes to the front by way of another buffer.
 pub kept-start : (input : List ℕ) (from to len : ℕ) (line line′ : List ℕ) (k a : ℕ) (exit : List ℕ) (m r : ℕ) → Span from to (length input) → Within len (min (to - from) 513) 513
@@ -92,7 +87,7 @@ kept-start input from to len line line′ k a exit m r h c v w =
     let t : length (take (from + len - from) (drop from input)) ≡ len = ap length (part-cut input from len) ∙ length-take-le len (drop from input) (omega (arith, h .from, h .to, c .is)) in
     let z : len - 0 ≡ a = omega (arith, v .next) in
     wrote-as input 0 (take (len - 0) line′) (take 513 (drop from (take to input))) m 513 exit r w
-    (rw z (wrote-front line 0 _ k line′ a (omega arith) v) ∙ part-cut input from len ∙ take-least len (to - from) 513 (drop from input) (c .is) ∙ ap (take 513) (sym (drop-take from to input)))
+    (rw z (wrote-front line 0 _ k line′ a (omega arith) v) ∙ part-cut input from len ∙ ap (λ (n : ℕ). take n (drop from input)) (c .is) ∙ take-least (to - from) 513 (drop from input) ∙ ap (take 513) (sym (drop-take from to input)))
     (rw length-take (omega arith))
 
 -- ## A block

@@ -2,17 +2,17 @@
 use Prim.Native.Nat.{ℕ, zero, suc, _+_, _≤_, _<_}
 use mathlib.Core.Path.{_≡_, refl, sym, _∙_, ap}
 use mathlib.Core.Logic.{inl, inr}
-use mathlib.Core.Bool.{true, false, _||_}
+use mathlib.Core.Bool.{Bool, true, false, _||_, or-assoc}
 use mathlib.Core.List.{List, [], _∷_, _++_, append-nil}
 use native.Mathlib.Omega.{arith}
 use lib.Dec.{eqb}
 use lib.ListN.{length, take, drop, length-append}
 use lib.Seq.{take-length, take-append-add, drop-append-add}
-use Rattle.buffers.proofs.Tests.{either, clash, or-none}
+use Rattle.buffers.proofs.Tests.{either, clash, or-l, or-r, or-none}
 use Rattle.text.specs.Fields.{onFirst}
 use Rattle.text.specs.Lines.{linesOf, feedAt}
 use Rattle.text.specs.Keys.{contains}
-use Rattle.text.proofs.Lines.{lines-next}
+use Rattle.text.proofs.Lines.{lines-next, lines-at}
 use Rattle.bucketrun.specs.Program.{endedLength, endedLines, feedEnded}
 
 -- ## Texts without a line feed
@@ -41,13 +41,9 @@ pub none-end : (s : List ℕ) → contains s 10 ≡ false → endedLength s ≡ 
 none-end [] e = refl
 none-end (b ∷ s) e = rw e
 
-some-left : (s u : List ℕ) → contains s 10 ≡ true → contains (s ++ u) 10 ≡ true
-some-left [] u e = absurd (clash false e refl)
-some-left (b ∷ s) u e =
-    elim (either (eqb b 10)) [
-      | inl t ↦ rw t
-      | inr t ↦ rw t (some-left s u (rw t at e))
-    ]
+some-append : (s u : List ℕ) → contains (s ++ u) 10 ≡ (contains s 10 || contains u 10)
+some-append [] u = refl
+some-append (b ∷ s) u = ap (λ (t : Bool). eqb b 10 || t) (some-append s u) ∙ sym (or-assoc (eqb b 10) (contains s 10) (contains u 10))
 
 -- ## The last line feed
 
@@ -122,7 +118,7 @@ end-append [] u e = omega arith
 end-append (b ∷ s) u e =
     let p = some-ended b s (length s) e in
     let x = end-append s u (p .1) in
-    rw (some-left (b ∷ s) u (p .0)) (omega arith)
+    rw (some-append (b ∷ s) u ∙ or-l (contains (b ∷ s) 10) (contains u 10) (p .0)) (omega arith)
 
 -- ## The first line that ends
 
@@ -153,28 +149,15 @@ lines-first (b ∷ s) h =
 
 -- ## The line that has begun
 
-lines-whole : (s : List ℕ) → 0 < length s → linesOf s ≡ take (feedAt s) s ∷ linesOf (drop (suc (feedAt s)) s)
-lines-whole [] h = absurd (omega arith)
-lines-whole (b ∷ s) h = lines-next b s
-
 -- What comes behind it is joined to it.
 pub lines-begun : (s u : List ℕ) → contains s 10 ≡ false → 0 < length s → linesOf (s ++ u) ≡ (s ++ take (feedAt u) u) ∷ linesOf (drop (suc (feedAt u)) u)
 lines-begun s u e h =
-    let q : suc (length s + feedAt u) ≡ length s + suc (feedAt u) = omega arith in
-    lines-whole (s ++ u) (rw length-append (omega arith))
-    ∙ rw (feed-none s u e, q, take-append-add s u, drop-append-add s u)
-
-some-last : (s : List ℕ) → contains (s ++ 10 ∷ []) 10 ≡ true
-some-last [] = refl
-some-last (b ∷ s) =
-    elim (either (eqb b 10)) [
-      | inl t ↦ rw t
-      | inr t ↦ rw t (some-last s)
-    ]
+    let q : 0 + (length s + feedAt u) + 1 ≡ length s + suc (feedAt u) = omega arith in
+    lines-at (s ++ u) 0 (length s + feedAt u) (rw length-append (omega arith)) (sym (feed-none s u e)) ∙ rw (q, take-append-add s u, drop-append-add s u)
 
 end-last : (s : List ℕ) → endedLength (s ++ 10 ∷ []) ≡ length (s ++ 10 ∷ [])
 end-last [] = refl
-end-last (b ∷ s) = rw (some-last (b ∷ s)) (ap suc (end-last s))
+end-last (b ∷ s) = rw (some-append (b ∷ s) (10 ∷ []) ∙ or-r (contains (b ∷ s) 10) true refl) (ap suc (end-last s))
 
 -- A line feed ends it.
 line-last : (s : List ℕ) → contains s 10 ≡ false → 0 < length s → linesOf (s ++ 10 ∷ []) ≡ linesOf s

@@ -22,7 +22,7 @@ use Rattle.engine.specs.declared.Served.{Served}
 use Rattle.engine.specs.Served.{outcomeFrom}
 use Rattle.engine.proofs.Serving.{answer-fits}
 use Rattle.bucketrun.specs.Program.{answerRoom, leftBy, printedBy, endedLength}
-use Rattle.bucketrun.specs.Course.{Servable, Through, ServedTo, BetweenLines, ServedSome, BetweenParts, ServedAll}
+use Rattle.bucketrun.specs.Course.{Servable, Through, BetweenLines, ServedSome, BetweenParts, ServedAll}
 use Rattle.bucketrun.proofs.Lines.{none-feed, none-end, end-append, end-first, lines-append, lines-first}
 use Rattle.bucketrun.proofs.Cutting.{left-append, printed-append}
 use Rattle.bucketrun.proofs.Printing.{wrote-front}
