@@ -2,18 +2,16 @@
 use Prim.Native.Nat.{ℕ, zero, suc, _+_, _*_, _-_, _≤_, _<_, min}
 use mathlib.Core.Path.{_≡_, refl, sym, _∙_, ap, ap₂}
 use mathlib.Core.Bool.{Bool, true, false, not}
-use mathlib.Core.Logic.{inl, inr}
 use mathlib.Core.List.{List, [], _∷_, _++_}
 use native.Mathlib.Omega.{arith}
 use native.Mathlib.Numerals.{add-one}
-use lib.Dec.{ltb}
 use lib.ListN.{length, take, drop, set, replicate, length-take, length-drop, length-replicate}
-use lib.Seq.{length-take-le, take-take, take-all, take-nil, take-add, take-suc-set, take-set-le}
-use borrow.Author.Tests.{ltb-true, ltb-false, not-false}
+use lib.Seq.{length-take-le, take-nil, take-add, take-suc-set, take-set-le}
+use borrow.Author.Tests.{not-false}
 use borrow.Rule.Slice.PartMut.{midOf, putMid, take-put, same-len-mid}
 use Rattle.buffers.specs.Ranges.{Within, Span}
 use Rattle.buffers.specs.Writes.{Wrote}
-use Rattle.buffers.proofs.Tests.{either, clash}
+use Rattle.buffers.proofs.Tests.{clash}
 use Rattle.buffers.proofs.Parts.{part-cut}
 use Rattle.buffers.proofs.Writes.{wrote-as}
 use Rattle.text.specs.Lines.{linesOf}
@@ -29,10 +27,6 @@ use Rattle.bucketrun.proofs.Cutting.{blocks-left}
 use Rattle.bucketrun.proofs.Printing.{wrote-front}
 
 -- ## Reading and keeping
-
-nonzero : (n : ℕ) → (n ≡ 0 → ⊥) → 0 < n
-nonzero zero q = absurd (q refl)
-nonzero (suc n) q = omega arith
 
 module _ (input : List ℕ) (kept : ℕ) (ys : List ℕ) (h : kept < length input) (l : length ys ≡ length (midOf kept (length input - kept) input)) where
   abbrev filled : List ℕ
@@ -58,7 +52,7 @@ module _ (input : List ℕ) (kept : ℕ) (ys : List ℕ) (h : kept < length inpu
   came-end q =
       let e = filled-long in
       let t = length-take-le kept input (omega arith) in
-      let n = nonzero kept q in
+      let n : 0 < kept = omega (arith, q) in
       record {
         span = record { from = omega arith; to = omega arith };
         stays = take-set-le kept filled kept 10 (omega arith) ∙ filled-stays;
