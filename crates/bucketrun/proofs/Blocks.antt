@@ -1,10 +1,10 @@
 -- Laws of reading: what stands in the input before, between and after blocks.
-use Prim.Native.Nat.{ℕ, zero, suc, _+_, _*_, _-_, _≤_, _<_, min}
+use Prim.Native.Nat.{ℕ, zero, suc, _+_, _-_, _≤_, _<_, min}
 use mathlib.Core.Path.{_≡_, refl, sym, _∙_, ap, ap₂}
 use mathlib.Core.Bool.{Bool, true, false, not}
 use mathlib.Core.List.{List, [], _∷_, _++_}
 use native.Mathlib.Omega.{arith}
-use native.Mathlib.Numerals.{add-one}
+use native.Mathlib.Numerals.{add-one, unary-clauses}
 use lib.ListN.{length, take, drop, set, replicate, length-take, length-drop, length-replicate}
 use lib.Seq.{length-take-le, take-nil, take-add, take-suc-set, take-set-le}
 use borrow.Author.Tests.{not-false}
@@ -18,7 +18,7 @@ use Rattle.text.specs.Lines.{linesOf}
 use Rattle.text.specs.Keys.{contains}
 use Rattle.settings.specs.declared.Settings.{Settings}
 use Rattle.settings.specs.Meaning.{freshSettings}
-use Rattle.bucket.specs.Whole.{Lent, lent, whole}
+use Rattle.bucket.specs.Whole.{Lent, lent}
 use Rattle.bucket.proofs.Whole.{fresh-whole}
 use Rattle.bucketrun.specs.Program.{leftBy, endedLength, endedLines, Waiting, waiting, afterBlock, afterBlocks, feedEnded}
 use Rattle.bucketrun.specs.Course.{ServedAll, CameBehind, TookBlock, Startable, BetweenBlocks, Ran}
@@ -62,16 +62,16 @@ module _ (input : List ℕ) (kept : ℕ) (ys : List ℕ) (h : kept < length inpu
 pub ruleset read-cases = (came-more, came-none, came-end)
 
 drop-take : (f t : ℕ) (l : List ℕ) → drop f (take t l) ≡ take (t - f) (drop f l)
-drop-take zero t l = let z : t - 0 ≡ t = omega arith in rw z
+drop-take zero t l = simp unary-clauses
 drop-take (suc f) zero l = let z : zero - suc f ≡ 0 = omega arith in rw z
 drop-take (suc f) (suc t) [] = sym (take-nil (suc t - suc f))
-drop-take (suc f) (suc t) (x ∷ l) = let z : suc t - suc f ≡ t - f = omega arith in rw z (drop-take f t l)
+drop-take (suc f) (suc t) (x ∷ l) = simp unary-clauses (drop-take f t l)
 
 take-least : (j k : ℕ) (l : List ℕ) → take (min j k) l ≡ take k (take j l)
-take-least zero k l = let z : min zero k ≡ 0 = omega arith in rw z (sym (take-nil k))
-take-least (suc j) zero l = let z : min (suc j) zero ≡ 0 = omega arith in rw z
+take-least zero k l = simp unary-clauses (sym (take-nil k))
+take-least (suc j) zero l = simp unary-clauses
 take-least (suc j) (suc k) [] = take-nil (min (suc j) (suc k))
-take-least (suc j) (suc k) (x ∷ l) = let z : min (suc j) (suc k) ≡ suc (min j k) = omega arith in rw z (ap (λ (t : List ℕ). x ∷ t) (take-least j k l))
+take-least (suc j) (suc k) (x ∷ l) = simp unary-clauses (ap (λ (t : List ℕ). x ∷ t) (take-least j k l))
 
 -- The start of a line goes to the front by way of another buffer.
 pub kept-start : (input : List ℕ) (from to len : ℕ) (line line′ : List ℕ) (k a : ℕ) (exit : List ℕ) (m r : ℕ) → Span from to (length input) → Within len (min (to - from) 513) 513
@@ -103,14 +103,10 @@ module _ (h : Lent) (input : List ℕ) (end : ℕ) (b : Lent) (i : ℕ) (told : 
 zeros-long : (l : List ℕ) (k : ℕ) → l ≡ replicate k 0 → length l ≡ k
 zeros-long l k e = rw e (length-replicate k 0)
 
--- A bucket of zeros is fresh.
-zeros-whole : (s : Settings) (c x y : ℕ) (n k : List ℕ) → s ≡ freshSettings → 1 ≤ c → c ≤ 1024 → x ≡ 8 * c → y ≡ 64 * c → n ≡ replicate x 0 → k ≡ replicate y 0 → whole (lent s n k) ≡ true
-zeros-whole s c x y n k f some most ex ey en ek = rw (f, en, ek, ex, ey) (fresh-whole c some most)
-
 pub may-start : (s : Settings) (input n k out : List ℕ) → s ≡ freshSettings → input ≡ replicate 66560 0 → n ≡ replicate 8192 0 → k ≡ replicate 65536 0 → out ≡ replicate 131072 0 → Startable (lent s n k) input out
 may-start s input n k out f ei en ek eo =
     record {
-      servable = record { is-whole = zeros-whole s 1024 8192 65536 n k f (omega arith) (omega arith) refl refl en ek; long = zeros-long out 131072 eo };
+      servable = record { is-whole = rw (f, en, ek) (fresh-whole 1024 (omega arith) (omega arith)); long = zeros-long out 131072 eo };
       input-long = zeros-long input 66560 ei;
     }
 
