@@ -21,7 +21,7 @@ use Rattle.outcome.proofs.Kept.{outcome-whole}
 use Rattle.engine.specs.declared.Served.{Served}
 use Rattle.engine.specs.Served.{outcomeFrom}
 use Rattle.engine.proofs.Serving.{answer-fits}
-use Rattle.bucketrun.specs.Program.{answerRoom, leftBy, printedBy, endedLength}
+use Rattle.bucketrun.specs.Program.{answerRoom, servedLine, leftBy, printedBy, endedLength}
 use Rattle.bucketrun.specs.Course.{Servable, Through, BetweenLines, ServedSome, BetweenParts, ServedAll}
 use Rattle.bucketrun.proofs.Lines.{none-feed, none-end, end-append, end-first, lines-append, lines-first}
 use Rattle.bucketrun.proofs.Cutting.{left-append, printed-append}
@@ -77,25 +77,23 @@ module _ (b : Lent) (rest : List ℕ) (k : ℕ) (f : k ≡ feedAt rest) (z : k <
   line-through : whole b ≡ true → Through b rest (suc k) (o .bucket)
   line-through w =
       record {
-        is-whole = rw q (outcome-whole b (call (take k rest) a) w);
-        leads = ap (λ (x : Outcome). x .bucket) q ∙ same-left b (call (take k rest) a) (call (take k rest) answerRoom) same-heard ∙ sym (ap (leftBy b) line-is);
+        is-whole = rw q (outcome-whole b _ w);
+        leads = ap (λ (x : Outcome). x .bucket) q ∙ same-left b _ _ same-heard ∙ sym (ap (leftBy b) line-is);
         inside = omega arith;
         cut = rw f (end-first rest (rw (← f) z));
       }
 
   line-printed : printedOf o ≡ printedBy b (linesOf (take (suc k) rest))
-  line-printed =
-      ap printedOf q ∙ same-printed b (call (take k rest) a) (call (take k rest) answerRoom) same-heard
-      ∙ sym (ap (printedBy b) line-is ∙ append-nil (printedOf (outcome b (call (take k rest) answerRoom))))
+  line-printed = ap printedOf q ∙ same-printed b _ _ same-heard ∙ sym (ap (printedBy b) line-is ∙ append-nil (printedOf (servedLine b (take k rest))))
 
 -- ## Between two lines
 
 -- A line's answer stands within the part of the output that it was lent.
-pub answer-most : (b : Lent) (l out n′ k′ p : List ℕ) (at : ℕ) (r : Served) → outcomeFrom r n′ k′ p ≡ outcome b (call l (midOf at (at + 65536 - at) out)) → length p ≡ length (midOf at (at + 65536 - at) out)
-    → r .len ≤ 65536
+pub answer-most : (b : Lent) (l out n′ k′ p : List ℕ) (at : ℕ) (r : Served) → outcomeFrom r n′ k′ p ≡ outcome b (call l (midOf at (at + 65536 - at) out))
+    → length p ≡ length (midOf at (at + 65536 - at) out) → r .len ≤ 65536
 answer-most b l out n′ k′ p at r q e =
     let m : length p ≡ _ = e ∙ ap length (part-cut out at 65536) ∙ length-take 65536 (drop at out) in
-    omega (arith, answer-fits b (call l (midOf at (at + 65536 - at) out)) n′ k′ p r q)
+    omega (arith, answer-fits b _ n′ k′ p r q)
 
 part-read : (out p : List ℕ) (at k len : ℕ) → at ≤ length out → len ≤ length p → take len (drop at (putMid at k out p)) ≡ take len p
 part-read out p at k len h m =
