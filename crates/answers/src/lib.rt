@@ -65,7 +65,7 @@ fn put_mode(out: &mut [u8], at: usize, mode: u64) -> usize
     if mode == 0 {
         return put_word(out, at, b"-");
     }
-    if mode == 1 {
+    if mode == model::GOVERNANCE {
         return put_word(out, at, b"GOVERNANCE");
     }
     put_word(out, at, b"COMPLIANCE")
