@@ -66,14 +66,24 @@ part-long rows room h =
     let n : length rows / 8 - 0 ≡ length rows / 8 = omega arith in
     rw n (length-take-le (length rows / 8) room h)
 
-pub part-few : (rows room : List ℕ) → length room ≡ 512 → length rows ≤ 4096 → length (midOf 0 (length rows / 8 - 0) room) ≡ length rows / 8
-part-few rows room e h = part-long rows room (omega arith)
-
 pub part-most : (rows room : List ℕ) → length room ≡ 8192 → length rows ≤ tableLength → length (midOf 0 (length rows / 8 - 0) room) ≡ length rows / 8
 part-most rows room e h = part-long rows room (omega arith)
 
-pub part-served : (o : ByteOutcome) (k n : ℕ) (b : Bytes) (g : Call) → o ≡ spelledServed n b g → n ≡ k → o ≡ spelledServed k b g
-part-served o k n b g q e = q ∙ ap (λ (m : ℕ). spelledServed m b g) e
+module _ (o : ByteOutcome) (settings rows keys room : List ℕ) (g : Call) where
+  abbrev served : ℕ → ByteOutcome
+  served k = spelledServed k (asBytes settings rows keys) g
+
+  abbrev Part : Type 0
+  Part = o ≡ served (length (midOf 0 (length rows / 8 - 0) room))
+
+  abbrev All : Type 0
+  All = o ≡ served (length rows / 8)
+
+  pub few-served : length room ≡ 512 → length rows ≤ 4096 → Part → All
+  few-served e h q = q ∙ ap served (part-long rows room (omega arith))
+
+  pub most-served : length room ≡ 8192 → length rows ≤ tableLength → Part → All
+  most-served e h q = q ∙ ap served (part-most rows room e h)
 
 -- ## A row's key
 

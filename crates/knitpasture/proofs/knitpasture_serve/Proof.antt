@@ -1,7 +1,7 @@
 -- `knitpasture_serve` meets its contract: each way through it is one of the cited laws.
 use Rattle.buffers.proofs.Choices.{picks}
 use Rattle.knitpasture.specs.Bytes.{hubServed}
-use Rattle.knitpasture.proofs.Serving.{part-few, part-most, part-served}
+use Rattle.knitpasture.proofs.Serving.{few-served, most-served}
 use borrow.Author.Needs.{needs}
 use Rattle.knitpasture.proofs.knitpasture_serve.Statement.{statement}
 use Rattle.knitpasture.proofs.knitpasture_serve.Tie as tie
@@ -23,7 +23,7 @@ knitpasture-serve-spec =
     (λ c. search needs)
     (λ c. search needs)
     (λ c. search needs)
-    (λ c. search (picks, part-served, part-few) depth 12)
+    (λ c. search (picks, few-served) depth 12)
     (λ c κs. search needs)
     (λ c. search needs)
     (λ c. search needs)
@@ -33,4 +33,4 @@ knitpasture-serve-spec =
     (λ c. search needs)
     (λ c. search needs)
     (λ c. search needs)
-    (λ c. search (picks, part-served, part-most) depth 12))
+    (λ c. search (picks, most-served) depth 12))
