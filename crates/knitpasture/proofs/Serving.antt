@@ -14,7 +14,7 @@ use Rattle.settings.specs.declared.Settings.{Settings}
 use Rattle.settings.specs.Bytes.{settingsLength, settingsOf, settingsBytes}
 use Rattle.settings.specs.Meaning.{freshSettings}
 use Rattle.bucket.specs.Whole.{lent, keyOf}
-use Rattle.outcome.specs.Calls.{Call}
+use Rattle.outcome.specs.Calls.{Call, call}
 use Rattle.outcome.specs.Outcome.{Outcome, outcome}
 use Rattle.outcome.proofs.Demands.{outcome-refused}
 use Rattle.engine.specs.declared.Served.{Served}
@@ -24,22 +24,21 @@ use Rattle.knitpasture.proofs.Words.{rowsSpelled, spelled-words}
 
 -- ## A call on rows as numbers
 
-module _ (b : Bytes) (g : Call) where
-  pub words-wrong : (length (b .settings) ≡ settingsLength → ⊥) → byteOutcome 1 b (g .answer) ≡ wordsServed b g
-  unfolding wordsServed
-  words-wrong h = rw (ne-eqb (length (b .settings)) settingsLength h)
+pub words-wrong : (b : Bytes) (line answer : List ℕ) → (length (b .settings) ≡ settingsLength → ⊥) → byteOutcome 1 b answer ≡ wordsServed b (call line answer)
+unfolding wordsServed
+words-wrong b line answer h = rw (ne-eqb (length (b .settings)) settingsLength h)
 
-module _ (b : Bytes) (g : Call) (s : Settings) (r : Served) (n′ keys′ answer′ : List ℕ) (e : outcomeFrom r n′ keys′ answer′ ≡ outcome (lent s (b .rows) (b .keys)) g) (d : s ≡ settingsOf (b .settings)) (l : length (b .settings) ≡ settingsLength) where
-  pub words-refused : (r .number ≡ 0 → ⊥) → byteOutcome (r .number) (asBytes (b .settings) n′ keys′) answer′ ≡ wordsServed b g
+module _ (s : Settings) (r : Served) (settings n keys n′ keys′ answer′ : List ℕ) (g : Call) (e : outcomeFrom r n′ keys′ answer′ ≡ outcome (lent s n keys) g) (d : s ≡ settingsOf settings) (l : length settings ≡ settingsLength) where
+  pub words-refused : (r .number ≡ 0 → ⊥) → byteOutcome (r .number) (asBytes settings n′ keys′) answer′ ≡ wordsServed (asBytes settings n keys) g
   unfolding wordsServed
   words-refused z =
-      let u = outcome-refused (lent s (b .rows) (b .keys)) g (λ q. z (ap (λ (o : Outcome). o .number) e ∙ q)) in
-      rw (eq-eqb (length (b .settings)) settingsLength l, ← d, ← e, ne-eqb (r .number) 0 z)
-      (ap (λ (o : Outcome). byteOutcome (r .number) (asBytes (b .settings) (o .bucket .numbers) (o .bucket .keys)) (o .answer)) (e ∙ u))
+      let u = outcome-refused (lent s n keys) g (λ q. z (ap (λ (o : Outcome). o .number) e ∙ q)) in
+      rw (eq-eqb (length settings) settingsLength l, ← d, ← e, ne-eqb (r .number) 0 z)
+      (ap (λ (o : Outcome). byteOutcome (r .number) (asBytes settings (o .bucket .numbers) (o .bucket .keys)) (o .answer)) (e ∙ u))
 
-  pub words-accepted : (settings′ : List ℕ) → r .number ≡ 0 → settings′ ≡ settingsBytes (r .settings) → byteOutcome 0 (asBytes settings′ n′ keys′) answer′ ≡ wordsServed b g
+  pub words-accepted : (settings′ : List ℕ) → r .number ≡ 0 → settings′ ≡ settingsBytes (r .settings) → byteOutcome 0 (asBytes settings′ n′ keys′) answer′ ≡ wordsServed (asBytes settings n keys) g
   unfolding wordsServed
-  words-accepted settings′ z f = rw (eq-eqb (length (b .settings)) settingsLength l, ← d, ← e, eq-eqb (r .number) 0 z, f)
+  words-accepted settings′ z f = rw (eq-eqb (length settings) settingsLength l, ← d, ← e, eq-eqb (r .number) 0 z, f)
 
 pub ruleset words-cases = (words-wrong, words-refused, words-accepted)
 

@@ -10,7 +10,8 @@ use borrow.Author.Tests.{eqb-true, eq-eqb}
 use Rattle.buffers.specs.Choices.{pick}
 use Rattle.buffers.proofs.Tests.{either}
 use Rattle.model.specs.Refusals.{lastRefusal}
-use Rattle.settings.specs.Bytes.{settingsLength}
+use Rattle.settings.specs.Bytes.{settingsLength, settingsOf}
+use Rattle.bucket.specs.Whole.{lent}
 use Rattle.outcome.specs.Calls.{Call}
 use Rattle.outcome.specs.Outcome.{outcome}
 use Rattle.knitpasture.specs.Bytes.{numbersFrom, numbersBytes, tableLength, Bytes, asBytes, spelledBy, ByteOutcome, byteOutcome, wordsServed, spelledServed, hubServed}
@@ -26,7 +27,9 @@ module _ (b : Bytes) (g : Call) where
 
   pub words-kept : RefusalKeeps b (g .answer) (wordsServed b g)
   unfolding wordsServed
-  words-kept = pick-ways (RefusalKeeps b (g .answer)) (eqb (length (b .settings)) settingsLength) (λ _. left-kept _ _ b (g .answer)) (λ _ _. refl)
+  words-kept =
+      pick-ways (RefusalKeeps b (g .answer)) (eqb (length (b .settings)) settingsLength)
+      (λ _. left-kept _ (outcome (lent (settingsOf (b .settings)) (b .rows) (b .keys)) g) b (g .answer)) (λ _ _. refl)
 
 -- what a call over numbers leaves, its rows as bytes: those after an accepted call, else those before it
 abbrev pub rowsSpelled : List ℕ → ByteOutcome → ByteOutcome
