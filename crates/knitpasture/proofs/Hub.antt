@@ -24,16 +24,19 @@ pub record HandsOn (l : Lent) (b : Bytes) : Type 0 where
   pub spells : lentOf b ≡ l
   pub settings-long : length (b .settings) ≡ settingsLength
   pub rows-long : length (b .rows) ≡ 64 * capacity (l .keys)
+  pub keys-long : length (b .keys) ≡ 64 * capacity (l .keys)
 
 -- What is whole is handed on.
 handing : (l : Lent) → whole l ≡ true → HandsOn l (asBytes (settingsBytes (l .settings)) (numbersBytes (l .numbers)) (l .keys))
 handing l w =
+    let p = whole-parts l w in
     let n = length-bytes (l .numbers) in
     let k : length (numbersBytes (l .numbers)) / 8 ≡ length (l .numbers) = omega (arith, n) in
     record {
       spells = rw (k, settings-back (l .settings) (whole-fits l w), numbers-back (l .numbers) (whole-words l w));
       settings-long = settings-length (l .settings) (whole-fits l w);
-      rows-long = omega (arith, n, (whole-parts l w) .numbers-long);
+      rows-long = omega (arith, n, p .numbers-long);
+      keys-long = p .keys-long;
     }
 
 module _ (b : Bytes) (g : Call) where
