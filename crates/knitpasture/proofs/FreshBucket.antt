@@ -1,30 +1,27 @@
--- A fresh bucket over bytes: what is returned, and that the bytes spell a fresh bucket.
-use Prim.Native.Nat.{ℕ, _*_, _/_, _%_, _≤_}
+-- A fresh bucket over bytes: what is returned, and that a fresh bucket is handed on.
+use Prim.Native.Nat.{ℕ, _*_, _%_, _≤_}
 use mathlib.Core.Path.{_≡_, sym, _∙_}
 use native.Mathlib.Omega.{arith}
-use lib.ListN.{length, replicate, length-replicate}
+use lib.ListN.{length, replicate}
 use borrow.Author.Tests.{eq-eqb, le-ltb}
 use Rattle.settings.specs.Bytes.{settingsLength, settingsBytes}
 use Rattle.settings.specs.Meaning.{freshSettings}
-use Rattle.settings.proofs.RoundTrip.{settings-back}
 use Rattle.bucket.specs.Whole.{freshLent}
 use Rattle.bucket.proofs.Whole.{fresh-whole}
-use Rattle.knitpasture.specs.Bytes.{tableLength, Bytes, asBytes, lentOf, freshOutcome, fitRows, hubFresh}
-use Rattle.knitpasture.proofs.Numbers.{zeros-read}
-use Rattle.knitpasture.proofs.Fits.{whole-fits}
+use Rattle.knitpasture.specs.Bytes.{numbersBytes, tableLength, Bytes, asBytes, freshOutcome, fitRows, hubFresh}
+use Rattle.knitpasture.proofs.Numbers.{zeros-written}
+use Rattle.knitpasture.proofs.Hub.{HandsOn, whole-hands-on}
 
 -- Rows and keys for c rows.
 module _ (b : Bytes) (c : ℕ) (some : 1 ≤ c) (most : c ≤ 1024) (ls : length (b .settings) ≡ settingsLength) (lr : length (b .rows) ≡ 64 * c) (lk : length (b .keys) ≡ 64 * c) where
-  pub fresh-made : hubFresh b ≡ freshOutcome 0 (asBytes (settingsBytes freshSettings) (replicate (64 * c) 0) (replicate (64 * c) 0))
+  pub fresh-made : hubFresh b ≡ freshOutcome 0 (asBytes (settingsBytes freshSettings) (numbersBytes (replicate (8 * c) 0)) (replicate (64 * c) 0))
   unfolding hubFresh fitRows
   fresh-made =
       let n = length (b .keys) in
       let a : n % 64 ≡ 0 = omega (arith, lk) in
+      let m : 8 * (8 * c) ≡ 64 * c = omega arith in
       simp (eq-eqb (length (b .settings)) settingsLength ls, eq-eqb (length (b .rows)) n (lr ∙ sym lk), le-ltb n 64 (omega arith), le-ltb tableLength n (omega arith), eq-eqb (n % 64) 0 a)
-      (rw (lr, lk))
+      (rw (lr, lk, zeros-written (8 * c), m))
 
-  pub fresh-spells : lentOf ((hubFresh b) .bytes) ≡ freshLent c
-  fresh-spells =
-      let n : 64 * c ≡ 8 * (8 * c) = omega arith in
-      let k : 8 * (8 * c) / 8 ≡ 8 * c = omega arith in
-      rw (fresh-made, length-replicate, settings-back freshSettings (whole-fits (freshLent c) (fresh-whole c some most))) (rw (n, k, zeros-read (8 * c)))
+  pub fresh-hands-on : HandsOn (freshLent c) ((hubFresh b) .bytes)
+  fresh-hands-on = rw fresh-made (whole-hands-on (freshLent c) (fresh-whole c some most))

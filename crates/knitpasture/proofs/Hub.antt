@@ -27,8 +27,8 @@ pub record HandsOn (l : Lent) (b : Bytes) : Type 0 where
   pub keys-long : length (b .keys) ≡ 64 * capacity (l .keys)
 
 -- What is whole is handed on.
-handing : (l : Lent) → whole l ≡ true → HandsOn l (asBytes (settingsBytes (l .settings)) (numbersBytes (l .numbers)) (l .keys))
-handing l w =
+pub whole-hands-on : (l : Lent) → whole l ≡ true → HandsOn l (asBytes (settingsBytes (l .settings)) (numbersBytes (l .numbers)) (l .keys))
+whole-hands-on l w =
     let p = whole-parts l w in
     let n = length-bytes (l .numbers) in
     let k : length (numbersBytes (l .numbers)) / 8 ≡ length (l .numbers) = omega (arith, n) in
@@ -59,6 +59,6 @@ module _ (b : Bytes) (g : Call) where
   hub-hands-on =
       spelling-ways b (λ (x : ByteOutcome). x .number ≡ 0 → HandsOn (core .bucket) (x .bytes))
       (λ _. left-ways _ core b (g .answer) (λ (x : ByteOutcome). x .number ≡ 0 → HandsOn (core .bucket) (x .bytes))
-      (λ z _. handing (core .bucket) (outcome-whole (lentOf b) g (accepted-of-whole (lentOf b) g z)))
+      (λ z _. whole-hands-on (core .bucket) (outcome-whole (lentOf b) g (accepted-of-whole (lentOf b) g z)))
       (λ n e. absurd (n e)))
       (λ e. absurd (omega arith))
