@@ -26,6 +26,7 @@ use Rattle.judge.specs.Meaning.{planMeans, Feasible}
 use Rattle.judge.specs.State.{rowsIn}
 use Rattle.apply.specs.declared.Progress.{Progress}
 use Rattle.apply.specs.Applied.{judged, Applicable, Applied}
+use Rattle.bucket.specs.Whole.{lent}
 use Rattle.outcome.specs.Decision.{Effect}
 use Rattle.outcome.specs.Outcome.{refused, written}
 use Rattle.outcome.specs.Steps.{settingsAfter, carried}
@@ -36,7 +37,7 @@ use Rattle.engine.specs.Served.{outcomeFrom, served, CanCarryOut, Carrie
 -- ## Outcomes by their parts
 
 -- A refusal of the code.
-pub refused-is : (r : Served) (k : ℕ) (s : Settings) (n b a : List ℕ) → r .number ≡ k → r .len ≡ 0 → r .settings ≡ s → outcomeFrom r n b a ≡ refused k s n b a
+pub refused-is : (r : Served) (k : ℕ) (s : Settings) (n b a : List ℕ) → r .number ≡ k → r .len ≡ 0 → r .settings ≡ s → outcomeFrom r n b a ≡ refused k (lent s n b) a
 refused-is r k s n b a e f g = rw (e, f, g)
 
 same-outcome : (l m : ℕ) (s t : Settings) (n n′ b b′ a a′ : List ℕ) → l ≡ m → s ≡ t → n ≡ n′ → b ≡ b′ → a ≡ a′
@@ -44,10 +45,10 @@ same-outcome : (l m : ℕ) (s t : Settings) (n n′ b b′ a a′ : List ℕ) �
 same-outcome l m s t n n′ b b′ a a′ e1 e2 e3 e4 e5 = rw (e1, e2, e3, e4, e5)
 
 -- An effect, carried out.
-pub carried-is : (s : Settings) (b : List ℕ) (now : ℕ) (v : Verb) (a : List ℕ) (e : Effect) (len : ℕ) (after : Settings) (n′ b′ a′ : List ℕ) → Wrote a 0 (e .text) 256 a′ len
+pub carried-is : (s : Settings) (n b : List ℕ) (now : ℕ) (v : Verb) (a : List ℕ) (e : Effect) (len : ℕ) (after : Settings) (n′ b′ a′ : List ℕ) → Wrote a 0 (e .text) 256 a′ len
     → after ≡ settingsFrom (settingsAfter (settingsMean s) now (e .taken) v) (length (e .rows)) → Holds (capacity b) (e .rows) n′ b′
-    → outcomeFrom (record { number = 0; len = len; settings = after }) n′ b′ a′ ≡ carried s b now v a e
-carried-is s b now v a e len after n′ b′ a′ w q h =
+    → outcomeFrom (record { number = 0; len = len; settings = after }) n′ b′ a′ ≡ carried (lent s n b) now v a e
+carried-is s n b now v a e len after n′ b′ a′ w q h =
     let z : 0 + length (e .text) ≡ length (e .text) = omega arith in
     same-outcome len (length (e .text)) after _ n′ _ b′ _ a′ (written (e .text) a)
     (omega (arith, w .next))
@@ -59,10 +60,10 @@ carried-is s b now v a e len after n′ b′ a′ w q h =
 -- An effect that keeps the rows and takes no number leaves the buffers as they are.
 pub kept-is : (s : Settings) (n b : List ℕ) (now : ℕ) (v : Verb) (a : List ℕ) (e : Effect) (len : ℕ) (after : Settings) (a′ : List ℕ) → Wrote a 0 (e .text) 256 a′ len
     → after ≡ settingsFrom (record { time = now; next = s .next; config = configAfter (settingsMean s .config) v }) (s .used) → Holds (capacity b) (rowsOf n b (s .used)) n b
-    → e .rows ≡ rowsOf n b (s .used) → e .taken ≡ 0 → outcomeFrom (record { number = 0; len = len; settings = after }) n b a′ ≡ carried s b now v a e
+    → e .rows ≡ rowsOf n b (s .used) → e .taken ≡ 0 → outcomeFrom (record { number = 0; len = len; settings = after }) n b a′ ≡ carried (lent s n b) now v a e
 kept-is s n b now v a e len after a′ w q h er et =
     let z : s .next + 0 ≡ s .next = omega arith in
-    carried-is s b now v a e len after n b a′ w (rw (er, et, z, rows-length n b (s .used)) q) (rw er h)
+    carried-is s n b now v a e len after n b a′ w (rw (er, et, z, rows-length n b (s .used)) q) (rw er h)
 
 -- The settings after a step.
 pub settle-done : (s : Settings) (x : Step) (after : Settings) → after ≡ withProgress s (x .time) (x .used) (x .next) → record { number = x .number; len = x .len; settings = after } ≡ served s x
@@ -98,7 +99,7 @@ module _ (s : State) (n b line a : List ℕ) (o : Verdict) (now : ℕ) (fates : 
     plan-done change text n′ b′ a′ g len pc pt d w =
         record {
           is = λ t v q h c. let i = rw q at d in
-              rw (e, pc, pt) (carried-is t b now v a (planMeans (judged line (t .next) now fates) (rowsOf n b (t .used)) (record { change = change; answer = text })) len (withProgress t now (g .used) (g .next)) n′ b′ a′ w
+              rw (e, pc, pt) (carried-is t n b now v a (planMeans (judged line (t .next) now fates) (rowsOf n b (t .used)) (record { change = change; answer = text })) len (withProgress t now (g .used) (g .next)) n′ b′ a′ w
               (rw (i .used-is, i .next-is) (settings-after t v now _ _ c h))
               (i .held));
         }

@@ -10,14 +10,14 @@ use borrow.Author.Tests.{leb-true}
 use Rattle.buffers.proofs.Tests.{and-l, and-r}
 use Rattle.calendar.specs.declared.Now.{Now}
 use Rattle.calendar.specs.Calendar.{latest}
-use Rattle.model.specs.Settings.{soundDefault, soundRules, soundConfig, sound}
+use Rattle.model.specs.Settings.{soundDefault, soundRules, soundConfig}
 use Rattle.model.specs.Requests.{inRange}
 use Rattle.model.proofs.Sound.{whole as sound-whole}
 use Rattle.settings.specs.declared.Settings.{Settings}
 use Rattle.settings.specs.Meaning.{settingsMean}
 use Rattle.settings.specs.State.{stateOf}
 use Rattle.table.specs.Layout.{capacity}
-use Rattle.bucket.specs.Whole.{bucketOf, whole}
+use Rattle.bucket.specs.Whole.{Lent, bucketOf, whole}
 use Rattle.bucket.proofs.Whole.{whole-parts}
 use Rattle.request.specs.declared.Verb.{Verb}
 use Rattle.request.specs.Meaning.{verbMeans}
@@ -31,34 +31,32 @@ config-parts : (s : Settings) → soundConfig (settingsMean s .config) ≡ true 
 unfolding soundConfig
 config-parts s e = (and-l _ _ e, and-r (soundDefault (settingsMean s .config .default)) _ e)
 
-ready : (s : Settings) (n b : List ℕ) → whole s n b ≡ true → Ready (stateOf s) n b
-ready s n b e =
-    let p = whole-parts s n b e in
-    let w = sound-whole (capacity b) (bucketOf s n b) (p .is-sound) in
+ready : (b : Lent) → whole b ≡ true → Ready (stateOf (b .settings)) (b .numbers) (b .keys)
+ready b e =
+    let p = whole-parts b e in
+    let w = sound-whole (capacity (b .keys)) (bucketOf b) (p .is-sound) in
     record {
       holds = p .holds;
       in-order = w .in-order;
       rows-sound = w .rows-sound;
       from-one = w .from-one;
       next-fits = w .next-fits;
-      default-sound = (config-parts s (w .config-sound)) .0;
+      default-sound = (config-parts (b .settings) (w .config-sound)) .0;
       used-fits = p .room;
       capacity-fits = p .most;
     }
 
 -- The rules of a whole bucket are sound.
-pub whole-rules : (s : Settings) (n b : List ℕ) → whole s n b ≡ true → soundRules (settingsMean s .config .rules) ≡ true
-whole-rules s n b e =
-    let p = whole-parts s n b e in
-    (config-parts s ((sound-whole (capacity b) (bucketOf s n b) (p .is-sound)) .config-sound)) .1
+pub whole-rules : (b : Lent) → whole b ≡ true → soundRules (settingsMean (b .settings) .config .rules) ≡ true
+whole-rules b e = (config-parts (b .settings) ((sound-whole (capacity (b .keys)) (bucketOf b) ((whole-parts b e) .is-sound)) .config-sound)) .1
 
 -- A line that passes the screen is judged on such a bucket.
-module _ (s : Settings) (n b line a : List ℕ) (v : Verb) (when : Now) (p : Passing s n b line a v when) where
-  pub line-says : Passes (settingsMean s .config) (s .time) line (length a) v when
-  line-says = line-passed (settingsMean s .config) (s .time) line (length a) v when (p .passes)
+module _ (b : Lent) (line a : List ℕ) (v : Verb) (when : Now) (p : Passing b line a v when) where
+  pub line-says : Passes (settingsMean (b .settings) .config) (b .settings .time) line (length a) v when
+  line-says = line-passed (settingsMean (b .settings) .config) (b .settings .time) line (length a) v when (p .passes)
 
   -- Both readings of its now are the larger of the bucket's time and the line's reading.
-  pub line-judge : when .judge ≡ max (s .time) (line-says .clock)
+  pub line-judge : when .judge ≡ max (b .settings .time) (line-says .clock)
   line-judge = ap (λ (t : Now). t .judge) (line-says .now-is)
 
   pub line-stamp : when .stamp ≡ when .judge
@@ -67,9 +65,9 @@ module _ (s : Settings) (n b line a : List ℕ) (v : Verb) (when : Now) (p : Pas
   pub line-ranges : (leb (line-says .clock) latest && inRange (verbMeans line v)) ≡ true
   line-ranges = read-in-range line _ (line-says .says)
 
-  pub line-asked : Asked (stateOf s) n b (when .judge) (verbMeans line v)
+  pub line-asked : Asked (stateOf (b .settings)) (b .numbers) (b .keys) (when .judge) (verbMeans line v)
   line-asked =
       let q = line-says in
-      let t = leb-true (s .time) latest ((sound-whole (capacity b) (bucketOf s n b) ((whole-parts s n b (p .is-whole)) .is-sound)) .time-fits) in
+      let t = leb-true (b .settings .time) latest ((sound-whole (capacity (b .keys)) (bucketOf b) ((whole-parts b (p .is-whole)) .is-sound)) .time-fits) in
       let c = leb-true (q .clock) latest (and-l _ _ line-ranges) in
-      record { ready = ready s n b (p .is-whole); instant = omega (arith, line-judge); since = omega (arith, line-judge); in-range = and-r (leb (q .clock) latest) _ line-ranges }
+      record { ready = ready b (p .is-whole); instant = omega (arith, line-judge); since = omega (arith, line-judge); in-range = and-r (leb (q .clock) latest) _ line-ranges }

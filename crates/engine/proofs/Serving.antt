@@ -3,7 +3,7 @@ use Prim.Native.Nat.{ℕ, _+_, _≤_, max}
 use mathlib.Core.Path.{_≡_, refl, sym, _∙_, ap, subst⁻¹}
 use mathlib.Core.Bool.{Bool, true, false}
 use mathlib.Core.List.{List, []}
-use mathlib.Core.Option.{some, none}
+use mathlib.Core.Option.{some}
 use native.Mathlib.Omega.{arith}
 use lib.Dec.{leb}
 use lib.ListN.{length, replicate, length-replicate}
@@ -12,7 +12,7 @@ use Rattle.buffers.proofs.Tests.{and-r}
 use Rattle.calendar.specs.declared.Now.{Now}
 use Rattle.calendar.specs.Calendar.{latest}
 use Rattle.model.specs.Requests as model
-use Rattle.model.specs.Requests.{Set, Sweep, Ask, inRange}
+use Rattle.model.specs.Requests.{Set, Sweep, Ask, says, inRange}
 use Rattle.model.specs.Effects.{added, rowsAfter, configAfter}
 use Rattle.model.specs.Refusals.{fieldChecks, tableChecks}
 use Rattle.settings.specs.declared.Rule.{Rule}
@@ -22,14 +22,14 @@ use Rattle.settings.specs.Meaning.{rulesMean, settingsMean, prefixesAre}
 use Rattle.settings.specs.State.{stateOf}
 use Rattle.settings.specs.Changes.{withProgress}
 use Rattle.table.specs.Layout.{rowsOf, capacity}
-use Rattle.bucket.specs.Whole.{bucketOf, whole}
+use Rattle.bucket.specs.Whole.{Lent, lent, bucketOf, whole}
 use Rattle.bucket.proofs.Whole.{whole-parts}
 use Rattle.request.specs.declared.Action.{Action}
 use Rattle.request.specs.declared.Setting.{Setting}
 use Rattle.request.specs.declared.Query.{Query}
 use Rattle.request.specs.declared.Verb.{Verb}
 use Rattle.request.specs.declared.Verb.the-variants as verb
-use Rattle.request.specs.Grammar.{Said, saidBy, readLine}
+use Rattle.request.specs.Grammar.{Said, saidBy, readLine, asked}
 use Rattle.request.specs.Meaning.{actionMeans, settingMeans, queryMeans, verbMeans, ActionInside, QueryInside}
 use Rattle.request.proofs.Ranges.{read-in-range}
 use Rattle.request.proofs.Actions.{action-unset}
@@ -48,7 +48,8 @@ use Rattle.judge.specs.Meaning.{planMeans, verdictMeans}
 use Rattle.judge.specs.Premises.{both, Asked, Sweepable, JudgesBy, JudgesOn}
 use Rattle.judge.proofs.Sweeping as judge
 use Rattle.apply.specs.Applied.{judged}
-use Rattle.outcome.specs.Decision.{Effect, Decision, does, effect, tableDecision}
+use Rattle.outcome.specs.Decision.{Effect, Decision, does, effect, tableDecision, decision}
+use Rattle.outcome.specs.Calls.{Call, call, heard}
 use Rattle.outcome.specs.Outcome.{Outcome, refused, outcome}
 use Rattle.outcome.specs.Steps.{done}
 use Rattle.outcome.proofs.Room.{outcome-fits}
@@ -62,63 +63,79 @@ use Rattle.engine.proofs.Carrying.{refused-is, kept-is, settings-after}
 
 -- ## Refusals
 
-pub line-1 : (r : Served) (s : Settings) (n b line a : List ℕ) (w : Bool) → w ≡ whole s n b → w ≡ false → r .number ≡ 1 → r .len ≡ 0 → r .settings ≡ s → outcomeFrom r n b a ≡ outcome s n b line a
-line-1 r s n b line a w e f x y z = refused-is r 1 s n b a x y z ∙ outcome-1 s n b line a (sym e ∙ f)
+pub line-1 : (r : Served) (s : Settings) (n b line a : List ℕ) (w : Bool) → w ≡ whole (lent s n b) → w ≡ false → r .number ≡ 1 → r .len ≡ 0 → r .settings ≡ s → outcomeFrom r n b a ≡ outcome (lent s n b) (call line a)
+line-1 r s n b line a w e f x y z = refused-is r 1 s n b a x y z ∙ outcome-1 (lent s n b) (call line a) (sym e ∙ f)
 
-module _ (s : Settings) (n b line a : List ℕ) (w : whole s n b ≡ true) where
+-- What is heard of a line that can be read.
+hears : (line a : List ℕ) (q : Said) → readLine line ≡ some q → heard (call line a) ≡ says (asked (length a) q)
+hears line a q e = rw e
+
+module _ (b : Lent) (line a : List ℕ) (w : whole b ≡ true) where
+  said-is : (q : Said) → 256 ≤ length a → readLine line ≡ some q
+      → done b (max (b .settings .time) (q .clock)) (q .verb) a (decision (capacity (b .keys)) (bucketOf b) (asked (length a) q)) ≡ outcome b (call line a)
+  said-is q l e = outcome-said b (call line a) (asked (length a) q) w l (hears line a q e) (read-in-range line q e)
+
   -- A line that its own fields refuse.
-  said-stops : (k : ℕ) (q : Said) → 256 ≤ length a → readLine line ≡ some q → k ≡ fieldRefusal (bucketOf s n b .settings .config) (q .who) (max (s .time) (q .clock)) (q .verb) → (k ≡ 0 → ⊥) → refused k s n b a ≡ outcome s n b line a
+  said-stops : (k : ℕ) (q : Said) → 256 ≤ length a → readLine line ≡ some q → k ≡ fieldRefusal (settingsMean (b .settings) .config) (q .who) (max (b .settings .time) (q .clock)) (q .verb) → (k ≡ 0 → ⊥) → refused k b a ≡ outcome b (call line a)
   unfolding fieldRefusal
   said-stops k q l e h z =
-      let c = bucketOf s n b in
-      let now = max (s .time) (q .clock) in
-      ap (λ (m : ℕ). refused m s n b a) h
-      ∙ sym (ap (λ (d : Decision). done s n b now (q .verb) a d) (decide-stop (fieldChecks (c .settings .config) (q .who) now (q .verb)) (tableChecks (capacity b) c (both now) (q .verb)) (effect c (both now) (q .verb)) (λ i. z (h ∙ i))))
-      ∙ outcome-said s n b line a q w l e (read-in-range line q e)
+      let c = bucketOf b in
+      let now = max (b .settings .time) (q .clock) in
+      ap (λ (m : ℕ). refused m b a) h
+      ∙ sym (ap (λ (d : Decision). done b now (q .verb) a d) (decide-stop (fieldChecks (c .settings .config) (q .who) now (q .verb)) (tableChecks (capacity (b .keys)) c (both now) (q .verb)) (effect c (both now) (q .who) (q .verb)) (λ i. z (h ∙ i))))
+      ∙ said-is q l e
 
   -- A line that they don't refuse is done as the table decides.
-  said-passes : (q : Said) (now : ℕ) → 256 ≤ length a → readLine line ≡ some q → now ≡ max (s .time) (q .clock) → 0 ≡ fieldRefusal (bucketOf s n b .settings .config) (q .who) now (q .verb)
-      → done s n b now (q .verb) a (tableDecision (capacity b) (bucketOf s n b) (both now) (q .verb)) ≡ outcome s n b line a
+  said-passes : (q : Said) (now : ℕ) → 256 ≤ length a → readLine line ≡ some q → now ≡ max (b .settings .time) (q .clock) → 0 ≡ fieldRefusal (settingsMean (b .settings) .config) (q .who) now (q .verb)
+      → done b now (q .verb) a (tableDecision (capacity (b .keys)) (bucketOf b) (both now) (q .who) (q .verb)) ≡ outcome b (call line a)
   unfolding fieldRefusal
   said-passes q now l e t h =
-      let c = bucketOf s n b in
-      let m = max (s .time) (q .clock) in
-      rw t (sym (ap (λ (d : Decision). done s n b m (q .verb) a d)
-      (decide-go (fieldChecks (c .settings .config) (q .who) m (q .verb)) (tableChecks (capacity b) c (both m) (q .verb)) (effect c (both m) (q .verb)) refl (sym (rw t at h))))
-      ∙ outcome-said s n b line a q w l e (read-in-range line q e))
+      let c = bucketOf b in
+      let m = max (b .settings .time) (q .clock) in
+      rw t (sym (ap (λ (d : Decision). done b m (q .verb) a d)
+      (decide-go (fieldChecks (c .settings .config) (q .who) m (q .verb)) (tableChecks (capacity (b .keys)) c (both m) (q .verb)) (effect c (both m) (q .who) (q .verb)) refl (sym (rw t at h))))
+      ∙ said-is q l e)
 
-  stops : (k : ℕ) → screened.Refused k ≡ screenedLine (settingsMean s .config) (s .time) line (length a) → refused k s n b a ≡ outcome s n b line a
+  stops : (k : ℕ) → screened.Refused k ≡ screenedLine (settingsMean (b .settings) .config) (b .settings .time) line (length a) → refused k b a ≡ outcome b (call line a)
   unfolding readLine
-  stops k = go (screenedLine (settingsMean s .config) (s .time) line (length a)) (comes (settingsMean s .config) (s .time) line (length a))
+  stops k = go (screenedLine (settingsMean (b .settings) .config) (b .settings .time) line (length a)) (comes (settingsMean (b .settings) .config) (b .settings .time) line (length a))
     where
-      go : (r : Screened) → Comes (settingsMean s .config) (s .time) line (length a) r → screened.Refused k ≡ r → refused k s n b a ≡ outcome s n b line a
-      go r (short l) e = rw (ap lineRefusal e) (outcome-2 s n b line a w l)
-      go r (unread l f) e = rw (ap lineRefusal e) (outcome-3 s n b line a w l f)
+      go : (r : Screened) → Comes (settingsMean (b .settings) .config) (b .settings .time) line (length a) r → screened.Refused k ≡ r → refused k b a ≡ outcome b (call line a)
+      go r (short l) e = rw (ap lineRefusal e) (outcome-2 b (call line a) w l)
+      go r (unread l f) e = rw (ap lineRefusal e) (outcome-3 b (call line a) (length a) w l (rw f))
       go r (barred l q f z) e = let h = ap lineRefusal e in said-stops k (saidBy line q) l (rw f) h (λ i. z (sym h ∙ i))
       go r (passed l q f z) e = let x : _≡_ {A = ℕ} 0 1 = cc in absurd (omega arith)
 
-  pub line-stopped : (st : State) (o : Screened) (k : ℕ) (r : Served) → st ≡ stateOf s → Screens st line (length a) o → o ≡ screened.Refused k → r .number ≡ k → r .len ≡ 0 → r .settings ≡ s → outcomeFrom r n b a ≡ outcome s n b line a
-  line-stopped st o k r i h e x y z = refused-is r k s n b a x y z ∙ stops k (sym e ∙ (rw i at h) .is (settingsMean s .config))
+pub line-stopped : (s : Settings) (n b line a : List ℕ) → whole (lent s n b) ≡ true → (st : State) (o : Screened) (k : ℕ) (r : Served) → st ≡ stateOf s → Screens st line (length a) o → o ≡ screened.Refused k → r .number ≡ k → r .len ≡ 0 → r .settings ≡ s → outcomeFrom r n b a ≡ outcome (lent s n b) (call line a)
+line-stopped s n b line a w st o k r i h e x y z = refused-is r k s n b a x y z ∙ stops (lent s n b) line a w k (sym e ∙ (rw i at h) .is (settingsMean s .config))
 
 -- ## A line that passes
 
-module _ (s : Settings) (n b line a : List ℕ) (v : Verb) (when : Now) (p : Passing s n b line a v when) where
-  prefixes : prefixesAre (s .rules) ≡ true
-  prefixes = (whole-parts s n b (p .is-whole)) .prefixes
+module _ (b : Lent) (line a : List ℕ) (v : Verb) (when : Now) (p : Passing b line a v when) where
+  prefixes : prefixesAre (b .settings .rules) ≡ true
+  prefixes = (whole-parts b (p .is-whole)) .prefixes
 
   room : 256 ≤ length a
-  room = (line-says s n b line a v when p) .room-fits
+  room = (line-says b line a v when p) .room-fits
 
-  asks : Asked (stateOf s) n b (when .judge) (verbMeans line v)
-  asks = line-asked s n b line a v when p
+  asks : Asked (stateOf (b .settings)) (b .numbers) (b .keys) (when .judge) (verbMeans line v)
+  asks = line-asked b line a v when p
+
+  -- Who sends it.
+  abbrev sender : model.Rights
+  sender = (line-says b line a v when p) .who
 
   -- What the table decides of it, done, is its outcome.
-  decided : (d : Decision) → d ≡ tableDecision (capacity b) (bucketOf s n b) (both (when .judge)) (verbMeans line v) → done s n b (when .judge) (verbMeans line v) a d ≡ outcome s n b line a
+  decided : (d : Decision) → d ≡ tableDecision (capacity (b .keys)) (bucketOf b) (both (when .judge)) sender (verbMeans line v) → done b (when .judge) (verbMeans line v) a d ≡ outcome b (call line a)
   decided d e =
-      let q = line-says s n b line a v when p in
-      ap (λ (x : Decision). done s n b (when .judge) (verbMeans line v) a x) e
-      ∙ said-passes s n b line a (p .is-whole) _ (when .judge) (q .room-fits) (q .says) (line-judge s n b line a v when p)
-      (q .passes ∙ ap (λ (t : ℕ). fieldRefusal (settingsMean s .config) (q .who) t (verbMeans line v)) (line-stamp s n b line a v when p))
+      let q = line-says b line a v when p in
+      ap (λ (x : Decision). done b (when .judge) (verbMeans line v) a x) e
+      ∙ said-passes b line a (p .is-whole) _ (when .judge) (q .room-fits) (q .says) (line-judge b line a v when p)
+      (q .passes ∙ ap (λ (t : ℕ). fieldRefusal (settingsMean (b .settings) .config) (q .who) t (verbMeans line v)) (line-stamp b line a v when p))
+
+-- Some sender: whether a verdict can be carried out hangs on none.
+anyone : model.Rights
+anyone = record { r = false; w = false; d = false; t = false; h = false; b = false; c = false }
 
 -- ## An action
 
@@ -131,22 +148,22 @@ module _ (s : State) (n b line a : List ℕ) (x : Action) (when : Now) (h : Acta
 
   module _ (o : Verdict) (fates : List ℕ) (j : JudgesOn s n b line (when .judge) (actionMeans line x) o) where
     pub act-can : CanCarryOut s n b line a o (when .stamp) fates
-    act-can = rw (h .one-now) (record { ready = h .asked .ready; feasible = (j [] fates) .feasible; room = h .room })
+    act-can = rw (h .one-now) (record { ready = h .asked .ready; feasible = (j anyone [] fates) .feasible; room = h .room })
 
     pub act-done : (y : Step) (n′ b′ a′ : List ℕ) → CarriedOut s n b line a o (when .stamp) fates y n′ b′ a′ → Acted s n b line a x when y n′ b′ a′
     act-done y n′ b′ a′ g =
         record {
-          is = λ t e p. (rw (h .one-now) at g) .is t (actionMeans line x) e (prefixes t n b line a (verb.Act x) when p) (action-unset line x)
-              ∙ decided t n b line a (verb.Act x) when p _ ((rw e at j (rulesMean (t .rules)) fates) .is);
+          is = λ t e p. (rw (h .one-now) at g) .is t (actionMeans line x) e (prefixes (lent t n b) line a (verb.Act x) when p) (action-unset line x)
+              ∙ decided (lent t n b) line a (verb.Act x) when p _ ((rw e at j (sender (lent t n b) line a (verb.Act x) when p) (rulesMean (t .rules)) fates) .is);
         }
 
 pub ruleset actions = (act-asked, act-inside, act-can, act-done)
 
-module _ (s : Settings) (n b line a : List ℕ) (x : Action) (when : Now) (p : Passing s n b line a (verb.Act x) when) (st : State) (e : st ≡ stateOf s) where
+module _ (s : Settings) (n b line a : List ℕ) (x : Action) (when : Now) (p : Passing (lent s n b) line a (verb.Act x) when) (st : State) (e : st ≡ stateOf s) where
   pub line-actable : Actable st n b line a x when
-  line-actable = rw e (record { asked = asks s n b line a (verb.Act x) when p; inside = (line-says s n b line a (verb.Act x) when p) .inside; room = room s n b line a (verb.Act x) when p; one-now = line-stamp s n b line a (verb.Act x) when p })
+  line-actable = rw e (record { asked = asks (lent s n b) line a (verb.Act x) when p; inside = (line-says (lent s n b) line a (verb.Act x) when p) .inside; room = room (lent s n b) line a (verb.Act x) when p; one-now = line-stamp (lent s n b) line a (verb.Act x) when p })
 
-  pub line-acted : (y : Step) (r : Served) (n′ b′ a′ : List ℕ) → Acted st n b line a x when y n′ b′ a′ → r ≡ served s y → outcomeFrom r n′ b′ a′ ≡ outcome s n b line a
+  pub line-acted : (y : Step) (r : Served) (n′ b′ a′ : List ℕ) → Acted st n b line a x when y n′ b′ a′ → r ≡ served s y → outcomeFrom r n′ b′ a′ ≡ outcome (lent s n b) (call line a)
   line-acted y r n′ b′ a′ g q = rw q (g .is s e p)
 
 pub ruleset acted-lines = (line-actable, line-acted)
@@ -162,68 +179,68 @@ module _ (s : State) (rules : List Rule) (n b line a : List ℕ) (when : Now) (h
       let l : length fates ≡ 1024 = ap length f ∙ length-replicate {A = ℕ} 1024 0 in
       record { prefixes = h .prefixes; rules-sound = h .rules-sound; long = omega (arith, h .asked .ready .used-fits, h .asked .ready .capacity-fits) }
 
-  module _ (o : Verdict) (fates : List ℕ) (j : (l : List ℕ) → JudgesBy s n b l (when .judge) (rulesMean rules) fates Sweep o) where
+  module _ (o : Verdict) (fates : List ℕ) (j : (l : List ℕ) (who : model.Rights) → JudgesBy s n b l (when .judge) who (rulesMean rules) fates Sweep o) where
     pub sweep-can : CanCarryOut s n b line a o (when .stamp) fates
-    sweep-can = rw (h .one-now) (record { ready = h .asked .ready; feasible = (j line) .feasible; room = h .room })
+    sweep-can = rw (h .one-now) (record { ready = h .asked .ready; feasible = (j line anyone) .feasible; room = h .room })
 
     pub sweep-done : (y : Step) (n′ b′ a′ : List ℕ) → CarriedOut s n b line a o (when .stamp) fates y n′ b′ a′ → Swept s rules n b line a when y n′ b′ a′
     sweep-done y n′ b′ a′ g =
         record {
-          is = λ t e q p. (rw (h .one-now) at g) .is t Sweep e (prefixes t n b line a verb.Sweep when p) refl
-              ∙ decided t n b line a verb.Sweep when p _ ((rw (e, sym q) at (j line)) .is);
+          is = λ t e q p. (rw (h .one-now) at g) .is t Sweep e (prefixes (lent t n b) line a verb.Sweep when p) refl
+              ∙ decided (lent t n b) line a verb.Sweep when p _ ((rw (e, sym q) at (j line (sender (lent t n b) line a verb.Sweep when p))) .is);
         }
 
 pub ruleset sweeps = (sweep-asked, sweep-rules, sweep-can, sweep-done)
 
-module _ (s : Settings) (n b line a : List ℕ) (when : Now) (p : Passing s n b line a verb.Sweep when) (st : State) (e : st ≡ stateOf s) where
+module _ (s : Settings) (n b line a : List ℕ) (when : Now) (p : Passing (lent s n b) line a verb.Sweep when) (st : State) (e : st ≡ stateOf s) where
   pub line-sweeps : SweepAsked st (s .rules) n b a when
   line-sweeps =
       rw e (record {
-        asked = asks s n b line a verb.Sweep when p;
-        prefixes = prefixes s n b line a verb.Sweep when p;
-        rules-sound = whole-rules s n b (p .is-whole);
-        room = room s n b line a verb.Sweep when p;
-        one-now = line-stamp s n b line a verb.Sweep when p;
+        asked = asks (lent s n b) line a verb.Sweep when p;
+        prefixes = prefixes (lent s n b) line a verb.Sweep when p;
+        rules-sound = whole-rules (lent s n b) (p .is-whole);
+        room = room (lent s n b) line a verb.Sweep when p;
+        one-now = line-stamp (lent s n b) line a verb.Sweep when p;
       })
 
-  pub line-swept : (y : Step) (r : Served) (n′ b′ a′ : List ℕ) → Swept st (s .rules) n b line a when y n′ b′ a′ → r ≡ served s y → outcomeFrom r n′ b′ a′ ≡ outcome s n b line a
+  pub line-swept : (y : Step) (r : Served) (n′ b′ a′ : List ℕ) → Swept st (s .rules) n b line a when y n′ b′ a′ → r ≡ served s y → outcomeFrom r n′ b′ a′ ≡ outcome (lent s n b) (call line a)
   line-swept y r n′ b′ a′ g q = rw q (g .is s e refl p)
 
 pub ruleset swept-lines = (line-sweeps, line-swept)
 
 -- ## What asks
 
-module _ (s : Settings) (n b line a : List ℕ) (x : Query) (when : Now) (p : Passing s n b line a (verb.Ask x) when) where
+module _ (s : Settings) (n b line a : List ℕ) (x : Query) (when : Now) (p : Passing (lent s n b) line a (verb.Ask x) when) where
   pub query-room : 256 ≤ length a
-  query-room = room s n b line a (verb.Ask x) when p
+  query-room = room (lent s n b) line a (verb.Ask x) when p
 
   pub query-inside : QueryInside line x
-  query-inside = (line-says s n b line a (verb.Ask x) when p) .inside
+  query-inside = (line-says (lent s n b) line a (verb.Ask x) when p) .inside
 
   module _ (st : State) (e : st ≡ stateOf s) where
     pub query-asked : Asked st n b (when .judge) (Ask (queryMeans line x))
-    query-asked = rw e (asks s n b line a (verb.Ask x) when p)
+    query-asked = rw e (asks (lent s n b) line a (verb.Ask x) when p)
 
     module _ (o : Verdict) (j : JudgesOn st n b line (when .judge) (Ask (queryMeans line x)) o) where
       -- The verdict, done, is the outcome.
-      judged-done : done s n b (when .judge) (Ask (queryMeans line x)) a (verdictMeans (judged line (s .next) (when .judge) []) (rowsOf n b (s .used)) o) ≡ outcome s n b line a
-      judged-done = decided s n b line a (verb.Ask x) when p _ (((rw e at j) (rulesMean (s .rules)) []) .is)
+      judged-done : done (lent s n b) (when .judge) (Ask (queryMeans line x)) a (verdictMeans (judged line (s .next) (when .judge) []) (rowsOf n b (s .used)) o) ≡ outcome (lent s n b) (call line a)
+      judged-done = decided (lent s n b) line a (verb.Ask x) when p _ (((rw e at j) (sender (lent s n b) line a (verb.Ask x) when p) (rulesMean (s .rules)) []) .is)
 
-      pub query-refused : (k : ℕ) (r : Served) → o ≡ verdict.Refused k → r .number ≡ k → r .len ≡ 0 → r .settings ≡ s → outcomeFrom r n b a ≡ outcome s n b line a
+      pub query-refused : (k : ℕ) (r : Served) → o ≡ verdict.Refused k → r .number ≡ k → r .len ≡ 0 → r .settings ≡ s → outcomeFrom r n b a ≡ outcome (lent s n b) (call line a)
       query-refused k r t f g h = refused-is r k s n b a f g h ∙ (rw t at judged-done)
 
       module _ (plan : Plan) (t : o ≡ verdict.Accepted plan) where
         pub query-prints : Printable (plan .answer)
-        query-prints = ((rw t at j) [] [] .feasible) .1
+        query-prints = ((rw t at j) anyone [] [] .feasible) .1
 
         pub query-answered : (a′ : List ℕ) (len : ℕ) (text : Answer) (after : Settings) → plan .answer ≡ text → Wrote a 0 (textOf text) 256 a′ len
-            → after ≡ withProgress s (when .stamp) (s .used) (s .next) → outcomeFrom (record { number = 0; len = len; settings = after }) n b a′ ≡ outcome s n b line a
+            → after ≡ withProgress s (when .stamp) (s .used) (s .next) → outcomeFrom (record { number = 0; len = len; settings = after }) n b a′ ≡ outcome (lent s n b) (call line a)
         unfolding added rowsAfter
         query-answered a′ len text after h w g =
-            let same : _ ≡ effect (bucketOf s n b) (both (when .judge)) (Ask (queryMeans line x)) = decide-done (tableChecks (capacity b) (bucketOf s n b) (both (when .judge)) (Ask (queryMeans line x))) _ _ (((rw (e, t) at j) (rulesMean (s .rules)) []) .is) in
+            let same : _ ≡ effect (bucketOf (lent s n b)) (both (when .judge)) (sender (lent s n b) line a (verb.Ask x) when p) (Ask (queryMeans line x)) = decide-done (tableChecks (capacity b) (bucketOf (lent s n b)) (both (when .judge)) (Ask (queryMeans line x))) _ _ (((rw (e, t) at j) (sender (lent s n b) line a (verb.Ask x) when p) (rulesMean (s .rules)) []) .is) in
             kept-is s n b (when .judge) (Ask (queryMeans line x)) a _ len after a′ (rw (sym h) at w)
-            (rw (line-stamp s n b line a (verb.Ask x) when p) at g ∙ settings-after s (Ask (queryMeans line x)) (when .judge) (s .used) (s .next) refl (prefixes s n b line a (verb.Ask x) when p))
-            ((asks s n b line a (verb.Ask x) when p) .ready .holds)
+            (rw (line-stamp (lent s n b) line a (verb.Ask x) when p) at g ∙ settings-after s (Ask (queryMeans line x)) (when .judge) (s .used) (s .next) refl (prefixes (lent s n b) line a (verb.Ask x) when p))
+            ((asks (lent s n b) line a (verb.Ask x) when p) .ready .holds)
             (ap (λ (f : Effect). f .rows) same) (ap (λ (f : Effect). f .taken) same)
             ∙ (rw t at judged-done)
 
@@ -232,25 +249,25 @@ pub ruleset queries = (query-room, query-inside, query-asked, query-refused, que
 -- ## DEFAULT and RULE
 
 pub set-done : (s : Settings) (line a a′ : List ℕ) (x : Setting) (when : Now) (len : ℕ) (u after : Settings) (n b : List ℕ) → Wrote a 0 (textOf answer.Done) 256 a′ len → u ≡ configuredBy s (settingMeans line x)
-    → after ≡ withProgress u (when .stamp) (s .used) (s .next) → Passing s n b line a (verb.Set x) when → outcomeFrom (record { number = 0; len = len; settings = after }) n b a′ ≡ outcome s n b line a
+    → after ≡ withProgress u (when .stamp) (s .used) (s .next) → Passing (lent s n b) line a (verb.Set x) when → outcomeFrom (record { number = 0; len = len; settings = after }) n b a′ ≡ outcome (lent s n b) (call line a)
 unfolding configAfter
 set-done s line a a′ x when len u after n b w c g p =
-    let h = asks s n b line a (verb.Set x) when p in
+    let h = asks (lent s n b) line a (verb.Set x) when p in
     let plan : Plan = record { change = change.Keep; answer = answer.Done } in
     kept-is s n b (when .judge) (Set (settingMeans line x)) a (planMeans (judged line (s .next) (when .judge) []) (rowsOf n b (s .used)) plan) len after a′ w
-    (rw (g, c, line-stamp s n b line a (verb.Set x) when p))
+    (rw (g, c, line-stamp (lent s n b) line a (verb.Set x) when p))
     (h .ready .holds) refl refl
-    ∙ decided s n b line a (verb.Set x) when p (does (planMeans (judged line (s .next) (when .judge) []) (rowsOf n b (s .used)) plan))
-    ((judge.set-done (stateOf s) n b line (when .judge) (rulesMean (s .rules)) [] (settingMeans line x) h) .is)
+    ∙ decided (lent s n b) line a (verb.Set x) when p (does (planMeans (judged line (s .next) (when .judge) []) (rowsOf n b (s .used)) plan))
+    ((judge.set-done (stateOf s) n b line (when .judge) (sender (lent s n b) line a (verb.Set x) when p) (rulesMean (s .rules)) [] (settingMeans line x) h) .is)
 
 -- ## A line that the screen passes, by its verb
 
-module _ (s : Settings) (n b line a : List ℕ) (w : whole s n b ≡ true) (st : State) (i : st ≡ stateOf s) (o : Screened) (h : Screens st line (length a) o) (v : Verb) (when : Now) (e : o ≡ screened.Passed v when) where
-  pub line-passes : (u : Verb) → v ≡ u → Passing s n b line a u when
+module _ (s : Settings) (n b line a : List ℕ) (w : whole (lent s n b) ≡ true) (st : State) (i : st ≡ stateOf s) (o : Screened) (h : Screens st line (length a) o) (v : Verb) (when : Now) (e : o ≡ screened.Passed v when) where
+  pub line-passes : (u : Verb) → v ≡ u → Passing (lent s n b) line a u when
   line-passes u f = record { is-whole = w; passes = rw f at (sym e ∙ (rw i at h) .is (settingsMean s .config)) }
 
   pub line-fits : 256 ≤ length a
-  line-fits = room s n b line a v when (line-passes v refl)
+  line-fits = room (lent s n b) line a v when (line-passes v refl)
 
   module _ (x : Setting) (f : v ≡ verb.Set x) where
     pub line-settable : Settable line s x
@@ -258,16 +275,16 @@ module _ (s : Settings) (n b line a : List ℕ) (w : whole s n b ≡ true) (st :
     line-settable =
         let p = line-passes (verb.Set x) f in
         record {
-          prefixes = prefixes s n b line a (verb.Set x) when p;
-          in-range = and-r (leb ((line-says s n b line a (verb.Set x) when p) .clock) latest) _ (line-ranges s n b line a (verb.Set x) when p);
-          inside = (line-says s n b line a (verb.Set x) when p) .inside;
+          prefixes = prefixes (lent s n b) line a (verb.Set x) when p;
+          in-range = and-r (leb ((line-says (lent s n b) line a (verb.Set x) when p) .clock) latest) _ (line-ranges (lent s n b) line a (verb.Set x) when p);
+          inside = (line-says (lent s n b) line a (verb.Set x) when p) .inside;
         }
 
-    pub line-set : (r : Served) (a′ : List ℕ) → ((n b : List ℕ) → Passing s n b line a (verb.Set x) when → outcomeFrom r n b a′ ≡ outcome s n b line a) → outcomeFrom r n b a′ ≡ outcome s n b line a
+    pub line-set : (r : Served) (a′ : List ℕ) → ((n b : List ℕ) → Passing (lent s n b) line a (verb.Set x) when → outcomeFrom r n b a′ ≡ outcome (lent s n b) (call line a)) → outcomeFrom r n b a′ ≡ outcome (lent s n b) (call line a)
     line-set r a′ g = g n b (line-passes (verb.Set x) f)
 
 pub ruleset lines = (line-stopped, line-passes, line-fits, line-settable, line-set)
 
 -- For callers: the answer stands within its buffer.
-pub answer-fits : (s : Settings) (n b line a n′ b′ a′ : List ℕ) (r : Served) → outcomeFrom r n′ b′ a′ ≡ outcome s n b line a → r .len ≤ length a′
-answer-fits s n b line a n′ b′ a′ r q = subst⁻¹ (λ (o : Outcome). o .len ≤ length (o .answer)) q (outcome-fits s n b line a)
+pub answer-fits : (b : Lent) (g : Call) (n′ b′ a′ : List ℕ) (r : Served) → outcomeFrom r n′ b′ a′ ≡ outcome b g → r .len ≤ length a′
+answer-fits b g n′ b′ a′ r q = subst⁻¹ (λ (o : Outcome). o .len ≤ length (o .answer)) q (outcome-fits b g)

@@ -4,10 +4,12 @@ use mathlib.Core.Path.{_≡_, refl, sym, _∙_}
 use mathlib.Core.Logic.{inl, inr}
 use mathlib.Core.Bool.{Bool, true, false, not, _&&_}
 use mathlib.Core.List.{List, [], _∷_, _++_}
+use mathlib.Core.Option.{Option, some, none}
 use native.Mathlib.Omega.{arith}
 use lib.Dec.{eqb, leb}
+use lib.ListN.{length}
 use borrow.Author.Tests.{eq-eqb, not-true, lt-ltb, le-ltb}
-use Rattle.buffers.specs.Choices.{pick}
+use Rattle.buffers.specs.Choices.{pick, thenSome}
 use Rattle.buffers.specs.Lists.{all}
 use Rattle.buffers.proofs.Tests.{either, clash, and-l, and-r}
 use Rattle.calendar.specs.Calendar.{latest}
@@ -16,7 +18,8 @@ use Rattle.model.specs.Time.{nowOf}
 use Rattle.model.specs.Refusals.{Check, firstOf, verbChecks}
 use Rattle.table.specs.Layout.{capacity}
 use Rattle.bucket.specs.Whole.{Lent, bucketOf, whole}
-use Rattle.outcome.specs.Calls.{Call, heard}
+use Rattle.request.specs.Grammar.{Said, readLine, asked}
+use Rattle.outcome.specs.Calls.{Sent, line, Call, heardOf, heard}
 use Rattle.outcome.specs.Decision.{Effect, refuses, does, decide, effect, decision}
 use Rattle.outcome.specs.Outcome.{refused, refusalOf, outcome}
 use Rattle.outcome.specs.Steps.{carried, done}
@@ -54,6 +57,17 @@ decide-done (x ∷ xs) e f h =
 
 -- ## The outcome
 
+-- What is heard tells the answer buffer's length.
+heard-room : (g : Call) → roomOf (heard g) ≡ length (g .answer)
+heard-room g = go (g .sent)
+  where
+    known : (room : ℕ) (o : Option Said) → roomOf (thenSome o (unreadable room) (λ q. says (asked room q))) ≡ room
+    known room none = refl
+    known room (some q) = refl
+
+    go : (x : Sent) → roomOf (heardOf (length (g .answer)) x) ≡ length (g .answer)
+    go (line s) = known (length (g .answer)) (readLine s)
+
 module _ (b : Lent) (g : Call) where
   -- What is done is refused with the first condition that holds, or carried out.
   done-decide : (now : ℕ) (v : Verb) (xs : List Check) (e : Effect) → numbered xs ≡ true
@@ -69,9 +83,9 @@ module _ (b : Lent) (g : Call) where
   unfolding outcome refusalOf
   outcome-1 w = simp w
 
-  pub outcome-2 : whole b ≡ true → roomOf (heard g) < 256 → refused 2 b (g .answer) ≡ outcome b g
+  pub outcome-2 : whole b ≡ true → length (g .answer) < 256 → refused 2 b (g .answer) ≡ outcome b g
   unfolding outcome refusalOf
-  outcome-2 w l = simp (w, lt-ltb _ _ l)
+  outcome-2 w l = simp (w, heard-room g, lt-ltb _ _ l)
 
   pub outcome-3 : (room : ℕ) → whole b ≡ true → 256 ≤ room → heard g ≡ unreadable room → refused 3 b (g .answer) ≡ outcome b g
   unfolding outcome refusalOf
