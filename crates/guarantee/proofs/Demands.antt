@@ -69,18 +69,18 @@ module _ (b : Lent) (g : Call) where
         accepts = λ e. accepts (refusal-is ∙ first-none (conditions b g) e);
       }
 
-  -- ## No other hub meets them
+-- ## No other hub meets them
 
-  -- A hub that meets demands 1 and 2 on a call returns and leaves what the engine does.
-  pub only-hub : (hub : Hub) → Demand1 hub b g → Demand2 hub b g → hub b g ≡ outcome b g
-  only-hub hub d e =
-      elim (either (eqb (refusalOf b g) 0)) [
-        | inl t ↦
-            let z = eqb-true (refusalOf b g) 0 t in
-            let a = e .accepts (none-holds z) in
-            a .does ∙ sym (accepted-request b g (a .request) (a .hears) z)
-        | inr t ↦
-            let z = eqb-false (refusalOf b g) 0 t in
-            let n : (hub b g) .number ≡ refusalOf b g = e .first-refused (refusalOf b g) (refusal-first b g (refusalOf b g) refl z) in
-            d .writes-nothing (λ q. z (sym n ∙ q)) ∙ ap (λ (k : ℕ). refused k b (g .answer)) n ∙ sym (refused-unchanged b g z)
-      ]
+-- A hub that meets demands 1 and 2 on a call returns and leaves what the engine does.
+pub only-hub : (hub : Hub) (b : Lent) (g : Call) → Demand1 hub b g → Demand2 hub b g → hub b g ≡ outcome b g
+only-hub hub b g d e =
+    elim (either (eqb (refusalOf b g) 0)) [
+      | inl t ↦
+          let z = eqb-true (refusalOf b g) 0 t in
+          let a = e .accepts (none-holds b g z) in
+          a .does ∙ sym (accepted-request b g (a .request) (a .hears) z)
+      | inr t ↦
+          let z = eqb-false (refusalOf b g) 0 t in
+          let n : (hub b g) .number ≡ refusalOf b g = e .first-refused (refusalOf b g) (refusal-first b g (refusalOf b g) refl z) in
+          d .writes-nothing (λ q. z (sym n ∙ q)) ∙ ap (λ (k : ℕ). refused k b (g .answer)) n ∙ sym (refused-unchanged b g z)
+    ]

@@ -45,8 +45,8 @@ module _ (c : ℕ) (b : Lent) (g : Call) (w : Whole c b) where
       let x = bucketOf b in
       let q = a .request in
       record {
-        size = rw (a .does) (accepted-capacity (b .keys) _ ∙ w .size);
-        bucket-is = rw (← same-refusal, z, a .does, a .hears) (accepted-bucket b g q (w .is-whole) (a .hears) z);
+        size = rw (step, a .does) (accepted-capacity (b .keys) _ ∙ w .size);
+        bucket-is = rw (← same-refusal, z, step, a .does, a .hears) (accepted-bucket b g q (w .is-whole) (a .hears) z);
         event-is = rw (← same-refusal, z, a .does, a .hears)
             (ap (λ (f : ℕ → Bool). record { before = x; request = q; answered = f } ∷ []) (fun-ext (answered-is x (nowOf x (q .context)) (q .context .who) (q .verb) (g .answer))));
       }
@@ -55,7 +55,7 @@ module _ (c : ℕ) (b : Lent) (g : Call) (w : Whole c b) where
   refused-follows z =
       let n = ne-eqb (refusalOf b g) 0 z in
       let u = refused-unchanged b g z in
-      record { size = rw u (w .size); bucket-is = rw (← same-refusal, n, u); event-is = rw (← same-refusal, u, n) }
+      record { size = rw (step, u) (w .size); bucket-is = rw (← same-refusal, n, step, u); event-is = rw (← same-refusal, u, n) }
 
   follows : Follows c b g
   follows = elim (either (eqb (refusalOf b g) 0)) [
