@@ -1,37 +1,37 @@
 -- Calls over bytes are calls on what the bytes spell: the demands of the C entries.
-use Prim.Native.Nat.{ℕ, zero, suc, _*_, _/_, _%_, _≤_}
+use Prim.Native.Nat.{ℕ, zero, suc, _*_, _/_, _%_}
 use mathlib.Core.Path.{_≡_, refl, sym, _∙_, ap, subst⁻¹}
 use mathlib.Core.Logic.{inl, inr}
-use mathlib.Core.Bool.{true, false≢true}
+use mathlib.Core.Bool.{Bool, true, false≢true}
 use mathlib.Core.List.{List, map-id}
 use native.Mathlib.Omega.{arith}
 use lib.Dec.{eqb, ltb}
-use lib.ListN.{length, length-replicate}
+use lib.ListN.{length, replicate, length-replicate}
 use borrow.Author.Tests.{eqb-true, eqb-false, ltb-false}
 use Rattle.buffers.proofs.Tests.{either}
 use Rattle.model.specs.Run.{left}
 use Rattle.model.specs.LockClause.{Kept}
 use Rattle.model.proofs.Runs.{left-as, gathered-as}
-use Rattle.settings.specs.Bytes.{settingsLength}
+use Rattle.settings.specs.Bytes.{settingsLength, settingsBytes}
 use Rattle.settings.specs.Meaning.{freshSettings}
 use Rattle.settings.proofs.RoundTrip.{settings-length}
 use Rattle.table.specs.Layout.{capacity}
 use Rattle.bucket.specs.Whole.{Lent, bucketOf, freshLent, whole}
-use Rattle.bucket.proofs.Whole.{whole-parts}
+use Rattle.bucket.proofs.Whole.{whole-parts, fresh-whole}
 use Rattle.outcome.specs.Calls.{Call}
 use Rattle.outcome.specs.Outcome.{Outcome, outcome}
 use Rattle.outcome.proofs.Deciding.{outcome-1}
 use Rattle.outcome.proofs.Demands.{outcome-refused, accepted-of-whole}
-use Rattle.knitpasture.specs.Bytes.{numbersFrom, tableLength, Bytes, lentOf, ByteOutcome, byteOutcome, outcomeBytes, hubServed, fitRows, FreshOutcome, freshOutcome, hubFresh}
-use Rattle.knitpasture.proofs.Left.{pick-ways, spelling-ways, left-number}
-use Rattle.knitpasture.proofs.Hub.{reads-as, hub-hands-on, hub-range, hub-refused}
+use Rattle.knitpasture.specs.Bytes.{numbersFrom, tableLength, Bytes, asBytes, lentOf, ByteOutcome, byteOutcome, outcomeBytes, hubServed, fitRows, FreshOutcome, freshOutcome, hubFresh}
+use Rattle.knitpasture.proofs.Left.{pick-ways, spelling-ways, reads-as, left-number}
+use Rattle.knitpasture.proofs.Hub.{hub-range, hub-refused, hub-hands-on}
 use Rattle.knitpasture.proofs.Fits.{whole-fits}
 use Rattle.knitpasture.proofs.FreshBucket as made
 use Rattle.guarantee.specs.Calls.{step, callEvent, callEvents}
 use Rattle.guarantee.specs.Bytes.{Sized, Demand1Bytes, Demand2Bytes, WrongLengths, freshBytes, FreshMade, byteStep, byteEvent, byteEvents, Demand3Bytes}
 use Rattle.guarantee.proofs.Demands.{demand-2}
 use Rattle.guarantee.proofs.Runs.{Whole, whole-after}
-use Rattle.guarantee.proofs.LockClause.{fresh-is-whole, demand-3}
+use Rattle.guarantee.proofs.LockClause.{demand-3}
 
 -- ## Lengths
 
@@ -132,7 +132,7 @@ wrong-lengths b g wrong =
 -- ## A fresh bucket
 
 module _ (c : ℕ) (b : Bytes) (z : Sized c b) where
-  fresh-left : hubFresh b ≡ _
+  fresh-left : hubFresh b ≡ freshOutcome 0 (asBytes (settingsBytes freshSettings) (replicate (64 * c) 0) (replicate (64 * c) 0))
   fresh-left = made.fresh-made b c (z .some) (z .most) (z .settings-long) (z .rows-long) (z .keys-long)
 
   fresh-spells : lentOf (freshBytes b) ≡ freshLent c
@@ -140,18 +140,29 @@ module _ (c : ℕ) (b : Bytes) (z : Sized c b) where
 
   fresh-sized : Sized c (freshBytes b)
   fresh-sized =
-      let w = fresh-is-whole c (z .some) (z .most) in
-      let r : length ((freshBytes b) .rows) ≡ 64 * c = rw fresh-left (length-replicate {A = ℕ} (64 * c) 0) in
-      whole-sized c (freshBytes b) (rw fresh-left (settings-length freshSettings (whole-fits (freshLent c) (w .is-whole)))) (omega arith) (subst⁻¹ (Whole c) fresh-spells w)
+      let k = length-replicate {A = ℕ} (64 * c) 0 in
+      subst⁻¹ (λ (x : FreshOutcome). Sized c (x .bytes)) fresh-left
+      (record { some = z .some; most = z .most; settings-long = settings-length freshSettings (whole-fits (freshLent c) (fresh-whole c (z .some) (z .most))); rows-long = k; keys-long = k })
+
+-- Bytes that are made fresh have the lengths of some c rows.
+fit-sized : (b : Bytes) → length (b .settings) ≡ settingsLength → length (b .rows) ≡ length (b .keys) → fitRows (length (b .keys)) ≡ true → Sized (capacity (b .keys)) b
+unfolding fitRows
+fit-sized b s r =
+    let n = length (b .keys) in
+    let fits : Bool → Type 0 = λ t. t ≡ true → Sized (capacity (b .keys)) b in
+    pick-ways fits (ltb n 64) (λ _ e. absurd (false≢true e))
+    (λ low. pick-ways fits (ltb tableLength n) (λ _ e. absurd (false≢true e))
+    (λ high e.
+        let k = eqb-true (n % 64) 0 e in
+        record { some = omega (arith, ltb-false n 64 low); most = omega (arith, ltb-false tableLength n high); settings-long = s; rows-long = omega arith; keys-long = omega arith }))
 
 fresh-refused : (b : Bytes) → ((c : ℕ) → Sized c b → ⊥) → hubFresh b ≡ freshOutcome 1 b
-unfolding hubFresh fitRows
+unfolding hubFresh
 fresh-refused b wrong =
-    let k = length (b .keys) in
-    let stays = λ (x : FreshOutcome). x ≡ freshOutcome 1 b in
+    let stays : FreshOutcome → Type 0 = λ x. x ≡ freshOutcome 1 b in
     pick-ways stays (eqb (length (b .settings)) settingsLength)
-    (λ s. pick-ways stays (eqb (length (b .rows)) k)
-    (λ r. pick-ways stays (fitRows k) (λ f. absurd (go s r f)) (λ _. refl))
+    (λ s. pick-ways stays (eqb (length (b .rows)) (length (b .keys)))
+    (λ r. pick-ways stays (fitRows (length (b .keys))) (λ f. absurd (wrong (capacity (b .keys)) (fit-sized b (eqb-true _ _ s) (eqb-true _ _ r) f))) (λ _. refl))
     (λ _. refl))
     (λ _. refl)
 
@@ -166,18 +177,18 @@ fresh-is-made b =
 
 -- ## A list of calls: demand 3 of the C entries
 
-module _ (c : ℕ) (b : Bytes) (gs : List Call) (z : Sized c b) where
+module _ (c : ℕ) where
   sized-after : (b : Bytes) (g : Call) → Sized c b → Sized c (byteStep b g)
   sized-after b g z = (spells-after c b g z) .sized
 
   spelled-after : (b : Bytes) (g : Call) → Sized c b → lentOf (byteStep b g) ≡ step (lentOf b) g
   spelled-after b g z = (spells-after c b g z) .is
 
-  spelled-left : lentOf (left byteStep b gs) ≡ left step (lentOf b) gs
-  spelled-left = left-as byteStep step lentOf (λ g. g) (Sized c) sized-after spelled-after b gs z ∙ ap (left step (lentOf b)) (map-id gs)
+  spelled-left : (b : Bytes) (gs : List Call) → Sized c b → lentOf (left byteStep b gs) ≡ left step (lentOf b) gs
+  spelled-left b gs z = left-as byteStep step lentOf (λ g. g) (Sized c) sized-after spelled-after b gs z ∙ ap (left step (lentOf b)) (map-id gs)
 
-  spelled-events : byteEvents b gs ≡ callEvents (lentOf b) gs
-  spelled-events = gathered-as byteStep step lentOf (λ g. g) (Sized c) sized-after spelled-after byteEvent callEvent (same-event c) b gs z ∙ ap (callEvents (lentOf b)) (map-id gs)
+  spelled-events : (b : Bytes) (gs : List Call) → Sized c b → byteEvents b gs ≡ callEvents (lentOf b) gs
+  spelled-events b gs z = gathered-as byteStep step lentOf (λ g. g) (Sized c) sized-after spelled-after byteEvent callEvent (same-event c) b gs z ∙ ap (callEvents (lentOf b)) (map-id gs)
 
 pub demand-3-bytes : Demand3Bytes
 demand-3-bytes c b z gs =
