@@ -153,8 +153,8 @@ fit-sized b s r =
     pick-ways fits (ltb n 64) (λ _ e. absurd (false≢true e))
     (λ low. pick-ways fits (ltb tableLength n) (λ _ e. absurd (false≢true e))
     (λ high e.
-        let k = eqb-true (n % 64) 0 e in
-        record { some = omega (arith, ltb-false n 64 low); most = omega (arith, ltb-false tableLength n high); settings-long = s; rows-long = omega arith; keys-long = omega arith }))
+    let k = eqb-true (n % 64) 0 e in
+    record { some = omega (arith, ltb-false n 64 low); most = omega (arith, ltb-false tableLength n high); settings-long = s; rows-long = omega arith; keys-long = omega arith }))
 
 fresh-refused : (b : Bytes) → ((c : ℕ) → Sized c b → ⊥) → hubFresh b ≡ freshOutcome 1 b
 unfolding hubFresh
