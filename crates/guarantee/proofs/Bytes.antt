@@ -6,34 +6,36 @@ use mathlib.Core.Bool.{Bool, true, false≢true}
 use mathlib.Core.List.{List, map-id}
 use native.Mathlib.Omega.{arith}
 use lib.Dec.{eqb, ltb}
-use lib.ListN.{length, replicate, length-replicate}
+use lib.ListN.{length}
 use borrow.Author.Tests.{eqb-true, eqb-false, ltb-false}
 use Rattle.buffers.proofs.Tests.{either}
 use Rattle.model.specs.Run.{left}
 use Rattle.model.specs.LockClause.{Kept}
 use Rattle.model.proofs.Runs.{left-as, gathered-as}
-use Rattle.settings.specs.Bytes.{settingsLength, settingsBytes}
-use Rattle.settings.specs.Meaning.{freshSettings}
-use Rattle.settings.proofs.RoundTrip.{settings-length}
+use Rattle.settings.specs.Bytes.{settingsLength}
 use Rattle.table.specs.Layout.{capacity}
 use Rattle.bucket.specs.Whole.{Lent, bucketOf, freshLent, whole}
-use Rattle.bucket.proofs.Whole.{whole-parts, fresh-whole}
+use Rattle.bucket.proofs.Whole.{whole-parts}
 use Rattle.outcome.specs.Calls.{Call}
 use Rattle.outcome.specs.Outcome.{Outcome, outcome}
 use Rattle.outcome.proofs.Deciding.{outcome-1}
 use Rattle.outcome.proofs.Demands.{outcome-refused, accepted-of-whole}
-use Rattle.knitpasture.specs.Bytes.{numbersFrom, tableLength, Bytes, asBytes, lentOf, ByteOutcome, byteOutcome, outcomeBytes, hubServed, fitRows, FreshOutcome, freshOutcome, hubFresh}
-use Rattle.knitpasture.proofs.Left.{pick-ways, spelling-ways, reads-as, left-number}
-use Rattle.knitpasture.proofs.Hub.{hub-range, hub-refused, hub-hands-on}
-use Rattle.knitpasture.proofs.Fits.{whole-fits}
-use Rattle.knitpasture.proofs.FreshBucket as made
+use Rattle.knitpasture.specs.Bytes.{numbersFrom, tableLength, Bytes, lentOf, ByteOutcome, byteOutcome, outcomeBytes, hubServed, fitRows, FreshOutcome, freshOutcome, hubFresh}
+use Rattle.knitpasture.proofs.Left.{pick-ways, Fitting, spelling-ways, reads-as, left-number}
+use Rattle.knitpasture.proofs.Hub.{HandsOn, hub-range, hub-refused, hub-hands-on}
+use Rattle.knitpasture.proofs.FreshBucket.{fresh-made, fresh-hands-on}
 use Rattle.guarantee.specs.Calls.{step, callEvent, callEvents}
 use Rattle.guarantee.specs.Bytes.{Sized, Demand1Bytes, Demand2Bytes, WrongLengths, freshBytes, FreshMade, byteStep, byteEvent, byteEvents, Demand3Bytes}
 use Rattle.guarantee.proofs.Demands.{demand-2}
 use Rattle.guarantee.proofs.Runs.{Whole, whole-after}
-use Rattle.guarantee.proofs.LockClause.{demand-3}
+use Rattle.guarantee.proofs.LockClause.{fresh-is-whole, demand-3}
 
 -- ## Lengths
+
+-- Bytes that hand on a bucket of capacity c have the lengths of c rows.
+handed-sized : (c : ℕ) (b x : Bytes) (l : Lent) → Sized c b → capacity (l .keys) ≡ c → HandsOn l x → Sized c x
+handed-sized c b x l z e h =
+    record { some = z .some; most = z .most; settings-long = h .settings-long; rows-long = omega (arith, h .rows-long); keys-long = omega (arith, h .keys-long) }
 
 numbers-length : (k : ℕ) (b : List ℕ) → length (numbersFrom k b) ≡ k
 unfolding numbersFrom
@@ -41,18 +43,11 @@ numbers-length zero b = refl
 numbers-length (suc k) b = ap suc (numbers-length k _)
 
 -- Bytes that spell what is whole have the lengths of its capacity.
-whole-sized : (c : ℕ) (b : Bytes) → length (b .settings) ≡ settingsLength → length (b .rows) % 8 ≡ 0 → Whole c (lentOf b) → Sized c b
-whole-sized c b s r w =
-    let p = whole-parts (lentOf b) (w .is-whole) in
-    let e = w .size in
+whole-sized : (b : Bytes) → Fitting b → whole (lentOf b) ≡ true → Sized (capacity (b .keys)) b
+whole-sized b f w =
+    let p = whole-parts (lentOf b) w in
     let n = numbers-length (length (b .rows) / 8) (b .rows) in
-    record {
-      some = omega (arith, p .some);
-      most = omega (arith, p .most);
-      settings-long = s;
-      rows-long = omega (arith, p .numbers-long);
-      keys-long = omega (arith, p .keys-long);
-    }
+    record { some = p .some; most = p .most; settings-long = f .settings-long; rows-long = omega (arith, p .numbers-long, f .rows-even); keys-long = p .keys-long }
 
 -- ## A call on bytes of the lengths of c rows
 
@@ -79,9 +74,8 @@ module _ (c : ℕ) (b : Bytes) (g : Call) (z : Sized c b) where
   spells-accepted n =
       let h = hub-hands-on b g (same-number ∙ n) in
       let k = z .keys-long in
-      let r = h .rows-long in
       let w = whole-after c (lentOf b) g (record { is-whole = accepted-of-whole (lentOf b) g n; size = omega arith }) in
-      record { sized = whole-sized c (byteStep b g) (h .settings-long) (omega arith) (subst⁻¹ (Whole c) (h .spells) w); is = h .spells }
+      record { sized = handed-sized c b (byteStep b g) (core .bucket) z (w .size) h; is = h .spells }
 
   spells-refused : (core .number ≡ 0 → ⊥) → Spells
   spells-refused n =
@@ -124,7 +118,7 @@ unfolding hubServed
 wrong-lengths b g wrong =
     spelling-ways b (λ (x : ByteOutcome). x ≡ byteOutcome 1 b (g .answer))
     (λ f. elim (either (whole (lentOf b))) [
-      | inl w ↦ absurd (wrong (capacity (b .keys)) (whole-sized _ b (f .settings-long) (f .rows-even) (record { is-whole = w; size = refl })))
+      | inl w ↦ absurd (wrong (capacity (b .keys)) (whole-sized b f w))
       | inr w ↦ rw (← outcome-1 (lentOf b) g w)
     ])
     refl
@@ -132,17 +126,11 @@ wrong-lengths b g wrong =
 -- ## A fresh bucket
 
 module _ (c : ℕ) (b : Bytes) (z : Sized c b) where
-  fresh-left : hubFresh b ≡ freshOutcome 0 (asBytes (settingsBytes freshSettings) (replicate (64 * c) 0) (replicate (64 * c) 0))
-  fresh-left = made.fresh-made b c (z .some) (z .most) (z .settings-long) (z .rows-long) (z .keys-long)
-
-  fresh-spells : lentOf (freshBytes b) ≡ freshLent c
-  fresh-spells = made.fresh-spells b c (z .some) (z .most) (z .settings-long) (z .rows-long) (z .keys-long)
+  fresh-handed : HandsOn (freshLent c) (freshBytes b)
+  fresh-handed = fresh-hands-on b c (z .some) (z .most) (z .settings-long) (z .rows-long) (z .keys-long)
 
   fresh-sized : Sized c (freshBytes b)
-  fresh-sized =
-      let k = length-replicate {A = ℕ} (64 * c) 0 in
-      subst⁻¹ (λ (x : FreshOutcome). Sized c (x .bytes)) fresh-left
-      (record { some = z .some; most = z .most; settings-long = settings-length freshSettings (whole-fits (freshLent c) (fresh-whole c (z .some) (z .most))); rows-long = k; keys-long = k })
+  fresh-sized = handed-sized c b (freshBytes b) (freshLent c) z ((fresh-is-whole c (z .some) (z .most)) .size) fresh-handed
 
 -- Bytes that are made fresh have the lengths of some c rows.
 fit-sized : (b : Bytes) → length (b .settings) ≡ settingsLength → length (b .rows) ≡ length (b .keys) → fitRows (length (b .keys)) ≡ true → Sized (capacity (b .keys)) b
@@ -169,9 +157,9 @@ fresh-refused b wrong =
 pub fresh-is-made : (b : Bytes) → FreshMade b
 fresh-is-made b =
     record {
-      returns-0 = λ c z. ap (λ (x : FreshOutcome). x .number) (fresh-left c b z);
+      returns-0 = λ c z. ap (λ (x : FreshOutcome). x .number) (fresh-made b c (z .some) (z .most) (z .settings-long) (z .rows-long) (z .keys-long));
       sized = λ c z. fresh-sized c b z;
-      spells = λ c z. fresh-spells c b z;
+      spells = λ c z. (fresh-handed c b z) .spells;
       refuses = fresh-refused b;
     }
 
@@ -193,6 +181,6 @@ module _ (c : ℕ) where
 pub demand-3-bytes : Demand3Bytes
 demand-3-bytes c b z gs =
     let f = fresh-sized c b z in
-    let e = fresh-spells c b z in
+    let e = (fresh-handed c b z) .spells in
     subst⁻¹ (λ (x : Lent). Kept (bucketOf x) (byteEvents (freshBytes b) gs)) (spelled-left c (freshBytes b) gs f ∙ ap (λ (s : Lent). left step s gs) e)
     (rw (spelled-events c (freshBytes b) gs f ∙ ap (λ (s : Lent). callEvents s gs) e) (demand-3 c (z .some) (z .most) gs))

@@ -21,7 +21,7 @@ use Rattle.guarantee.proofs.Runs.{Whole, held-left, events-left}
 
 -- ## Demand 3
 
-fresh-is-whole : (c : ℕ) → 1 ≤ c → c ≤ 1024 → Whole c (freshLent c)
+pub fresh-is-whole : (c : ℕ) → 1 ≤ c → c ≤ 1024 → Whole c (freshLent c)
 fresh-is-whole c some most =
     record {
       is-whole = fresh-whole c some most;
