@@ -1,5 +1,5 @@
 -- Calls over bytes are calls on what the bytes spell: the demands of the C entries.
-use Prim.Native.Nat.{ℕ, zero, suc, _*_, _/_, _%_}
+use Prim.Native.Nat.{ℕ, zero, suc, _/_, _%_}
 use mathlib.Core.Path.{_≡_, refl, sym, _∙_, ap, subst⁻¹}
 use mathlib.Core.Logic.{inl, inr}
 use mathlib.Core.Bool.{Bool, true, false≢true}
@@ -27,7 +27,7 @@ use Rattle.knitpasture.proofs.FreshBucket.{fresh-made, fresh-hands-on}
 use Rattle.guarantee.specs.Calls.{step, callEvent, callEvents}
 use Rattle.guarantee.specs.Bytes.{Sized, Demand1Bytes, Demand2Bytes, WrongLengths, freshBytes, FreshMade, byteStep, byteEvent, byteEvents, Demand3Bytes}
 use Rattle.guarantee.proofs.Demands.{demand-2}
-use Rattle.guarantee.proofs.Runs.{Whole, whole-after}
+use Rattle.guarantee.proofs.Runs.{whole-after}
 use Rattle.guarantee.proofs.LockClause.{fresh-is-whole, demand-3}
 
 -- ## Lengths
