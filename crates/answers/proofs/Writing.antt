@@ -11,7 +11,7 @@ use Rattle.calendar.specs.Calendar.{latest}
 use Rattle.answers.specs.declared.Shown.{Shown}
 use Rattle.answers.specs.declared.Answer.{Answer}
 use Rattle.answers.specs.declared.Answer.the-variants.{Got}
-use Rattle.answers.specs.Text.{fieldsText, okText}
+use Rattle.answers.specs.Text.{longestAnswer, fieldsText, okText}
 use Rattle.answers.specs.Meaning.{textOf, Printable}
 
 -- A wider bound.
@@ -49,25 +49,25 @@ field-then {out} {a} {f} {m} {r} {fs} {exit} {q} x y =
     }
 
 ok-then : {out m : List ℕ} {r : ℕ} {fs : List (List ℕ)} {exit : List ℕ} {q : ℕ}
-    → Wrote out 0 (bytes "ok") 2 m r → Ends m r fs exit q → 256 ≤ length out → length fs ≤ 6 → Wrote out 0 (okText fs) 256 exit q
+    → Wrote out 0 (bytes "ok") 2 m r → Ends m r fs exit q → longestAnswer ≤ length out → length fs ≤ 6 → Wrote out 0 (okText fs) longestAnswer exit q
 unfolding okText
 ok-then {out} {m} {r} {fs} {exit} {q} x y h n =
     let j : ℕ = length fs * 25 + 1 in
     let room : r + j ≤ length m = omega (arith, x .long, x .most) in
     wider (wrote-both out 0 (bytes "ok") 2 m r (fieldsText fs) j exit q (omega arith) x (y .wrote room)) (omega arith)
 
-module _ (out m₁ : List ℕ) (r₁ : ℕ) (exit : List ℕ) (r : ℕ) (room : 256 ≤ length out) (ok : Wrote out 0 (bytes "ok") 2 m₁ r₁) where
-  pub no-field : Wrote m₁ r₁ (10 ∷ []) 1 exit r → Wrote out 0 (okText []) 256 exit r
+module _ (out m₁ : List ℕ) (r₁ : ℕ) (exit : List ℕ) (r : ℕ) (room : longestAnswer ≤ length out) (ok : Wrote out 0 (bytes "ok") 2 m₁ r₁) where
+  pub no-field : Wrote m₁ r₁ (10 ∷ []) 1 exit r → Wrote out 0 (okText []) longestAnswer exit r
   no-field x = ok-then ok (feed-last x) room (omega arith)
 
   module _ (f m₂ : List ℕ) (r₂ : ℕ) (x : Wrote m₁ r₁ (9 ∷ f) 25 m₂ r₂) where
-    pub one-field : Wrote m₂ r₂ (10 ∷ []) 1 exit r → Wrote out 0 (okText (f ∷ [])) 256 exit r
+    pub one-field : Wrote m₂ r₂ (10 ∷ []) 1 exit r → Wrote out 0 (okText (f ∷ [])) longestAnswer exit r
     one-field y = ok-then ok (field-then x (feed-last y)) room (omega arith)
 
-    pub two-fields : (g m₃ : List ℕ) (r₃ : ℕ) → Wrote m₂ r₂ (9 ∷ g) 25 m₃ r₃ → Wrote m₃ r₃ (10 ∷ []) 1 exit r → Wrote out 0 (okText (f ∷ g ∷ [])) 256 exit r
+    pub two-fields : (g m₃ : List ℕ) (r₃ : ℕ) → Wrote m₂ r₂ (9 ∷ g) 25 m₃ r₃ → Wrote m₃ r₃ (10 ∷ []) 1 exit r → Wrote out 0 (okText (f ∷ g ∷ [])) longestAnswer exit r
     two-fields g m₃ r₃ y z = ok-then ok (field-then x (field-then y (feed-last z))) room (omega arith)
 
-    pub more-fields : (fs : List (List ℕ)) → Wrote m₂ r₂ (fieldsText fs) (length fs * 25 + 1) exit r → length fs ≤ 5 → Wrote out 0 (okText (f ∷ fs)) 256 exit r
+    pub more-fields : (fs : List (List ℕ)) → Wrote m₂ r₂ (fieldsText fs) (length fs * 25 + 1) exit r → length fs ≤ 5 → Wrote out 0 (okText (f ∷ fs)) longestAnswer exit r
     more-fields fs y n = ok-then ok (field-then x (record { wrote = λ h. y })) room (omega arith)
 
 module _ (out : List ℕ) (a : ℕ) (f m₁ : List ℕ) (r₁ : ℕ) (g m₂ : List ℕ) (r₂ : ℕ) (exit : List ℕ) (r : ℕ)

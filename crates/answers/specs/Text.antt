@@ -11,6 +11,10 @@ use Rattle.model.specs.Rows.{Row, governance}
 use Rattle.model.specs.Requests.{Version, numbered}
 use Rattle.model.specs.Answers.{Answer, done, made, marked, removed, removedMarker, sweptCounts, shown}
 
+-- the longest answer of one line
+abbrev pub longestAnswer : ℕ
+longestAnswer = 256
+
 -- the fields each behind a tab, and a line feed
 unfoldable pub fieldsText : List (List ℕ) → List ℕ
 fieldsText fs = tabbed fs ++ 10 ∷ []

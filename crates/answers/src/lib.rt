@@ -6,7 +6,7 @@ ghost use Rattle.buffers.specs.Writes.{Wrote};
 ghost use Rattle.text.specs.Printing.{digits};
 ghost use Rattle.calendar.specs.Calendar.{latest};
 ghost use Rattle.dates.specs.Printing.{printDate};
-ghost use Rattle.answers.specs.Text.{fieldsText, okText, modeText, untilText, holdText, rowFields};
+ghost use Rattle.answers.specs.Text.{longestAnswer, fieldsText, okText, modeText, untilText, holdText, rowFields};
 ghost use Rattle.answers.specs.Meaning.{rowShown, textOf, Printable};
 
 // What GET shows of a row.
@@ -65,7 +65,7 @@ fn put_mode(out: &mut [u8], at: usize, mode: u64) -> usize
     if mode == 0 {
         return put_word(out, at, b"-");
     }
-    if mode == 1 {
+    if mode == model::GOVERNANCE {
         return put_word(out, at, b"GOVERNANCE");
     }
     put_word(out, at, b"COMPLIANCE")
@@ -116,8 +116,8 @@ fn put_contents(out: &mut [u8], at: usize, x: Shown) -> usize
 
 // `ok` alone.
 fn write_done(out: &mut [u8]) -> usize
-    requires { ⌜ 256 ≤ length (now out) ⌝ }
-    ensures { λ r. ⌜ Wrote (now (out .entry)) 0 (okText []) 256 (now (out .exit)) r ⌝ }
+    requires { ⌜ longestAnswer ≤ length (now out) ⌝ }
+    ensures { λ r. ⌜ Wrote (now (out .entry)) 0 (okText []) longestAnswer (now (out .exit)) r ⌝ }
 {
     let after_ok = buffers::copy_in(out, 0, b"ok");
     buffers::copy_in(out, after_ok, b"\n")
@@ -125,8 +125,8 @@ fn write_done(out: &mut [u8]) -> usize
 
 // `ok` and a number.
 fn write_number(out: &mut [u8], n: u64) -> usize
-    requires { ⌜ 256 ≤ length (now out) ⌝ }
-    ensures { λ r. ⌜ Wrote (now (out .entry)) 0 (okText (digits n ∷ [])) 256 (now (out .exit)) r ⌝ }
+    requires { ⌜ longestAnswer ≤ length (now out) ⌝ }
+    ensures { λ r. ⌜ Wrote (now (out .entry)) 0 (okText (digits n ∷ [])) longestAnswer (now (out .exit)) r ⌝ }
 {
     let after_ok = buffers::copy_in(out, 0, b"ok");
     let after_number = put_number(out, after_ok, n);
@@ -135,8 +135,8 @@ fn write_number(out: &mut [u8], n: u64) -> usize
 
 // `ok`, a number and a word.
 fn write_word(out: &mut [u8], n: u64, word: &[u8]) -> usize
-    requires { ⌜ (256 ≤ length (now out)) × (length (now word) ≤ 24) ⌝ }
-    ensures { λ r. ⌜ Wrote (now (out .entry)) 0 (okText (digits n ∷ now (word .entry) ∷ [])) 256 (now (out .exit)) r ⌝ }
+    requires { ⌜ (longestAnswer ≤ length (now out)) × (length (now word) ≤ 24) ⌝ }
+    ensures { λ r. ⌜ Wrote (now (out .entry)) 0 (okText (digits n ∷ now (word .entry) ∷ [])) longestAnswer (now (out .exit)) r ⌝ }
 {
     let after_ok = buffers::copy_in(out, 0, b"ok");
     let after_number = put_number(out, after_ok, n);
@@ -146,8 +146,8 @@ fn write_word(out: &mut [u8], n: u64, word: &[u8]) -> usize
 
 // `ok` and two numbers.
 fn write_counts(out: &mut [u8], gone: u64, new: u64) -> usize
-    requires { ⌜ 256 ≤ length (now out) ⌝ }
-    ensures { λ r. ⌜ Wrote (now (out .entry)) 0 (okText (digits gone ∷ digits new ∷ [])) 256 (now (out .exit)) r ⌝ }
+    requires { ⌜ longestAnswer ≤ length (now out) ⌝ }
+    ensures { λ r. ⌜ Wrote (now (out .entry)) 0 (okText (digits gone ∷ digits new ∷ [])) longestAnswer (now (out .exit)) r ⌝ }
 {
     let after_ok = buffers::copy_in(out, 0, b"ok");
     let after_gone = put_number(out, after_ok, gone);
@@ -157,8 +157,8 @@ fn write_counts(out: &mut [u8], gone: u64, new: u64) -> usize
 
 // `ok` and the fields of a row.
 fn write_row(out: &mut [u8], x: Shown) -> usize
-    requires { ⌜ (256 ≤ length (now out)) × (x .until ≤ latest) ⌝ }
-    ensures { λ r. ⌜ Wrote (now (out .entry)) 0 (okText (rowFields (rowShown x))) 256 (now (out .exit)) r ⌝ }
+    requires { ⌜ (longestAnswer ≤ length (now out)) × (x .until ≤ latest) ⌝ }
+    ensures { λ r. ⌜ Wrote (now (out .entry)) 0 (okText (rowFields (rowShown x))) longestAnswer (now (out .exit)) r ⌝ }
 {
     let after_ok = buffers::copy_in(out, 0, b"ok");
     let after_version = put_number(out, after_ok, x.version);
@@ -167,8 +167,8 @@ fn write_row(out: &mut [u8], x: Shown) -> usize
 
 // Writes the text of an accepted line's answer at the buffer's start, and returns its length.
 pub fn write_answer(out: &mut [u8], answer: Answer) -> usize
-    requires { ⌜ (256 ≤ length (now out)) × Printable answer ⌝ }
-    ensures { λ r. ⌜ Wrote (now (out .entry)) 0 (textOf answer) 256 (now (out .exit)) r ⌝ }
+    requires { ⌜ (longestAnswer ≤ length (now out)) × Printable answer ⌝ }
+    ensures { λ r. ⌜ Wrote (now (out .entry)) 0 (textOf answer) longestAnswer (now (out .exit)) r ⌝ }
 {
     match answer {
         Answer::Done => write_done(out),

@@ -8,6 +8,7 @@ use native.Mathlib.Nat.{add-zero}
 use lib.ListN.{length, getD, take, drop, set, replicate, length-append, length-set, take-append-drop, length-drop}
 use lib.Seq.{take-suc, take-at, drop-at, length-take-le, take-set-le, set-split, append-snoc, drop-append-add, take-append-le, take-take}
 use Rattle.model.specs.Rows.{Row}
+use Rattle.model.specs.Settings.{spentNumber}
 use Rattle.model.specs.Sweep.{Fate, stays, goes, gains, inPlace, marker, marks, total, carriedOut}
 use Rattle.table.specs.Layout.{Holds, numbersOfRow, rowsOf, keysFit, capacity}
 use Rattle.table.proofs.Held.{rows-length}
@@ -82,13 +83,13 @@ pub record Marking (t next u : ℕ) (m : List ℕ) (c : ℕ) (xs : List Row) (n 
   pub whole : length (carriedOut t next (stayers m u) xs) ≤ c
   pub most : j ≤ length m
   pub room : i + k ≤ c
-  pub few : next + k ≤ 4294967296
+  pub few : next + k ≤ spentNumber
   pub numbers : length n ≡ 8 * c
   pub keys : length b ≡ 64 * c
 
 module _ (t next u : ℕ) (m : List ℕ) (c : ℕ) (xs : List Row) where
   marking-start : (n b : List ℕ) (left added : ℕ) → length xs ≡ left → Holds c xs n b → u ≤ length m → left ≡ length (stayers m u) → added ≡ total marks (firsts m u)
-      → left + added ≤ c → next + added ≤ 4294967296 → Marking t next u m c xs n b u left added
+      → left + added ≤ c → next + added ≤ spentNumber → Marking t next u m c xs n b u left added
   marking-start n b left added l h g e f r w =
       let y = holds-lay c xs n b h in
       let z = padded-length c xs (h .room) in

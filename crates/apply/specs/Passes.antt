@@ -5,6 +5,7 @@ use mathlib.Core.List.{List, [], _∷_, _++_}
 use lib.ListN.{length, take}
 use Rattle.buffers.specs.Writes.{placed}
 use Rattle.model.specs.Rows.{Row}
+use Rattle.model.specs.Settings.{spentNumber}
 use Rattle.model.specs.Sweep.{Fate, stays, goes, gains, marks, removes, total}
 use Rattle.table.specs.Layout.{Holds, rowsOf, capacity}
 use Rattle.lifecycle.specs.Fates.{fatesIn}
@@ -32,7 +33,7 @@ pub record Carriable (rows keys : List ℕ) (used : ℕ) (fates : List ℕ) (gon
   pub removed : gone ≡ total removes (fatesOf used fates)
   pub markers : added ≡ total marks (fatesOf used fates)
   pub room : used - total removes (fatesOf used fates) + added ≤ capacity keys
-  pub numbers : next + added ≤ 4294967296
+  pub numbers : next + added ≤ spentNumber
 
 -- What the second pass asks: the rows are those that were left.
 pub record Thinned (rows keys : List ℕ) (left used : ℕ) (fates : List ℕ) (added next : ℕ) : Type 0 where
@@ -41,7 +42,7 @@ pub record Thinned (rows keys : List ℕ) (left used : ℕ) (fates : List ℕ) (
   pub rest : left ≡ length (kept (fatesOf used fates) (fatesOf used fates))
   pub markers : added ≡ total marks (fatesOf used fates)
   pub room : left + added ≤ capacity keys
-  pub numbers : next + added ≤ 4294967296
+  pub numbers : next + added ≤ spentNumber
 
 -- The buffers hold the rows that remain, which are so many.
 pub record Remaining (c : ℕ) (xs : List Row) (rows keys : List ℕ) (count : ℕ) : Type 0 where

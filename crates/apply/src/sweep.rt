@@ -81,7 +81,7 @@ fn copy_row_with_marker(
 {
     let numbers = numbers_in(rows, from);
     let block = block_in(keys, from);
-    let marker = [number, 2, stamp, 0, 0, 0, 0, 0];
+    let marker = [number, model::MARKER, stamp, 0, 0, 0, 0, 0];
     put_two_rows(rows, keys, to, marker, numbers, block);
 }
 
@@ -104,7 +104,7 @@ fn remove_rows(rows: &mut [u64], keys: &mut [u8], used: usize, fates: &[u8]) -> 
     while i < used {
         let at = i;
         i += 1;
-        if fates[at] != 1 {
+        if fates[at] != model::GOES {
             copy_row(rows, keys, at, left);
             left += 1;
         }
@@ -145,9 +145,9 @@ fn insert_markers(
     while 0 < k {
         j -= 1;
         let fate = fates[j];
-        if fate != 1 {
+        if fate != model::GOES {
             i -= 1;
-            if fate == 2 {
+            if fate == model::GAINS {
                 k -= 1;
                 copy_row_with_marker(rows, keys, i, i + k, next + k as u64, stamp);
             } else {

@@ -17,7 +17,7 @@ use Rattle.model.specs.Settings.{Bucket, sound, fits, soundSettings}
 use Rattle.settings.specs.declared.Settings.{Settings}
 use Rattle.settings.specs.Meaning.{settingsMean, freshSettings, prefixesAre, settingsSound}
 use Rattle.settings.proofs.Back.{fresh-sound}
-use Rattle.table.specs.Layout.{numbersOf, keysOf, rowsOf, capacity, keysFit, Holds}
+use Rattle.table.specs.Layout.{numbersOf, keysOf, capacity, keysFit, Holds}
 use Rattle.table.proofs.Held.{numbers-laying, keys-laying, held-numbers, held-keys, held-capacity, held-rows}
 use Rattle.bucket.specs.Whole.{Lent, lent, freshLent, usedRows, bucketOf, whole}
 use Rattle.bucket.proofs.Steps.{sound-row}

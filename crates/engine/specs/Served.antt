@@ -8,6 +8,7 @@ use lib.ListN.{length}
 use Rattle.calendar.specs.declared.Now.{Now}
 use Rattle.model.specs.Settings.{soundRules}
 use Rattle.model.specs.Requests as model
+use Rattle.model.specs.Refusals.{leastRoom}
 use Rattle.settings.specs.declared.Rule.{Rule}
 use Rattle.settings.specs.declared.Settings.{Settings}
 use Rattle.settings.specs.declared.State.{State}
@@ -52,7 +53,7 @@ pub record Passing (b : Lent) (line answer : List ℕ) (v : Verb) (when : Now) :
 pub record CanCarryOut (s : State) (numbers keys line answer : List ℕ) (v : Verdict) (now : ℕ) (fates : List ℕ) : Type 0 where
   pub ready : Ready s numbers keys
   pub feasible : Feasible (judged line (s .next) now fates) (capacity keys) (rowsIn s numbers keys) v
-  pub room : 256 ≤ length answer
+  pub room : leastRoom ≤ length answer
 
 -- With any settings of that state, what is returned and left is the verdict's decision, done, where the verb sets nothing.
 pub record CarriedOut (s : State) (numbers keys line answer : List ℕ) (v : Verdict) (now : ℕ) (fates : List ℕ) (x : Step) (numbers′ keys′ answer′ : List ℕ) : Type 0 where
@@ -65,7 +66,7 @@ pub record CarriedOut (s : State) (numbers keys line answer : List ℕ) (v : Ver
 pub record Actable (s : State) (numbers keys line answer : List ℕ) (x : Action) (when : Now) : Type 0 where
   pub asked : Asked s numbers keys (when .judge) (actionMeans line x)
   pub inside : ActionInside line x
-  pub room : 256 ≤ length answer
+  pub room : leastRoom ≤ length answer
   pub one-now : when .stamp ≡ when .judge
 
 -- With the settings of a line that passes, what is returned and left is what comes of the line.
@@ -77,7 +78,7 @@ pub record SweepAsked (s : State) (rules : List Rule) (numbers keys answer : Lis
   pub asked : Asked s numbers keys (when .judge) model.Sweep
   pub prefixes : prefixesAre rules ≡ true
   pub rules-sound : soundRules (rulesMean rules) ≡ true
-  pub room : 256 ≤ length answer
+  pub room : leastRoom ≤ length answer
   pub one-now : when .stamp ≡ when .judge
 
 pub record Swept (s : State) (rules : List Rule) (numbers keys line answer : List ℕ) (when : Now) (x : Step) (numbers′ keys′ answer′ : List ℕ) : Type 0 where

@@ -17,6 +17,7 @@ ghost use mathlib.Core.Bool.{true};
 ghost use mathlib.Core.List.{List};
 ghost use Prim.Native.Nat.{ℕ, _≤_};
 ghost use lib.ListN.{length, replicate};
+ghost use Rattle.model.specs.Refusals.{leastRoom};
 ghost use Rattle.bucket.specs.Whole.{lent, whole};
 ghost use Rattle.request.specs.declared.Verb.the-variants as verb;
 ghost use Rattle.outcome.specs.Calls.{call};
@@ -181,7 +182,7 @@ fn serve_sweep(
 // DEFAULT and RULE leave the table as it is, whatever it holds.
 fn serve_setting(s: Settings, line: &[u8], answer: &mut [u8], setting: Setting, when: Now) -> Served
     requires { ⌜ Settable (now line) s setting ⌝ }
-    requires { ⌜ 256 ≤ length (now answer) ⌝ }
+    requires { ⌜ leastRoom ≤ length (now answer) ⌝ }
     ensures { λ r. ⌜ ((numbers keys : List ℕ) → Passing (lent s numbers keys) (now (line .entry)) (now (answer .entry)) (verb.Set setting) when → outcomeFrom r numbers keys (now (answer .exit)) ≡ outcome (lent s numbers keys) (call (now (line .entry)) (now (answer .entry)))) ⌝ }
 {
     let len = answers::write_answer(answer, Answer::Done);

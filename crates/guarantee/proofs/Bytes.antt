@@ -1,237 +1,186 @@
 -- Calls over bytes are calls on what the bytes spell: the demands of the C entries.
-use Prim.Native.Nat.{ℕ, zero, suc, _*_, _/_, _%_, _≤_}
+use Prim.Native.Nat.{ℕ, zero, suc, _/_, _%_}
 use mathlib.Core.Path.{_≡_, refl, sym, _∙_, ap, subst⁻¹}
 use mathlib.Core.Logic.{inl, inr}
-use mathlib.Core.Bool.{true}
+use mathlib.Core.Bool.{Bool, true, false≢true}
 use mathlib.Core.List.{List, map-id}
 use native.Mathlib.Omega.{arith}
 use lib.Dec.{eqb, ltb}
-use lib.ListN.{length, length-replicate}
-use borrow.Author.Tests.{eqb-true, eqb-false, eq-eqb, ltb-false}
+use lib.ListN.{length}
+use borrow.Author.Tests.{eqb-true, eqb-false, ltb-false}
 use Rattle.buffers.proofs.Tests.{either}
-use Rattle.model.specs.Run.{Event, left}
-use Rattle.model.proofs.Runs.{left-as, gathered-as}
+use Rattle.model.specs.Run.{left}
 use Rattle.model.specs.LockClause.{Kept}
-use Rattle.settings.specs.Meaning.{freshSettings}
-use Rattle.settings.proofs.RoundTrip.{settings-length}
+use Rattle.model.proofs.Runs.{left-as, gathered-as}
+use Rattle.settings.specs.Bytes.{settingsLength}
 use Rattle.table.specs.Layout.{capacity}
-use Rattle.bucket.specs.Whole.{whole}
+use Rattle.bucket.specs.Whole.{Lent, bucketOf, freshLent, whole}
 use Rattle.bucket.proofs.Whole.{whole-parts}
-use Rattle.outcome.specs.Outcome.{Outcome}
+use Rattle.outcome.specs.Calls.{Call}
+use Rattle.outcome.specs.Outcome.{Outcome, outcome}
 use Rattle.outcome.proofs.Deciding.{outcome-1}
-use Rattle.outcome.proofs.Demands.{accepted-of-whole}
-use Rattle.knitpasture.specs.Bytes.{numbersFrom, ByteOutcome, outcomeBytes, hubServed, fitRows, FreshOutcome, freshOutcome, hubFresh}
-use Rattle.knitpasture.proofs.Hub.{reads-as, hub-hands-on, hub-range, hub-refused}
-use Rattle.knitpasture.proofs.Fits.{whole-fits}
-use Rattle.knitpasture.proofs.FreshBucket.{fresh-made, reads-fresh}
-use Rattle.outcome.specs.Calls.{Lent, leaves}
-use Rattle.guarantee.specs.Calls.{Call, held, freshLent, served, step, callEvent, callEvents}
-use Rattle.guarantee.specs.Bytes.{Bytes, lentOf, Sized, servedBytes, leavesBytes, Demand1Bytes, Demand2Bytes, WrongLengths, freshened, freshBytes, FreshMade, byteStep, byteEvent, byteEvents, Demand3Bytes}
-use Rattle.guarantee.proofs.Demands.{demand-1, demand-2}
-use Rattle.guarantee.proofs.Runs.{Whole, whole-after}
-use Rattle.guarantee.proofs.LockClause.{demand-3}
+use Rattle.outcome.proofs.Demands.{outcome-refused, accepted-of-whole}
+use Rattle.knitpasture.specs.Bytes.{numbersFrom, tableLength, Bytes, lentOf, ByteOutcome, byteOutcome, outcomeBytes, hubServed, fitRows, FreshOutcome, freshOutcome, hubFresh}
+use Rattle.knitpasture.proofs.Left.{pick-ways, Fitting, spelling-ways, reads-as, left-number}
+use Rattle.knitpasture.proofs.Hub.{HandsOn, hub-range, hub-refused, hub-hands-on}
+use Rattle.knitpasture.proofs.FreshBucket.{fresh-made, fresh-hands-on}
+use Rattle.guarantee.specs.Calls.{step, callEvent, callEvents}
+use Rattle.guarantee.specs.Bytes.{Sized, Demand1Bytes, Demand2Bytes, WrongLengths, freshBytes, FreshMade, byteStep, byteEvent, byteEvents, Demand3Bytes}
+use Rattle.guarantee.proofs.Demands.{demand-2}
+use Rattle.guarantee.proofs.Runs.{whole-after}
+use Rattle.guarantee.proofs.LockClause.{fresh-is-whole, demand-3}
 
--- ## A call on bytes of the lengths of c rows
+-- ## Lengths
 
-module _ (c : ℕ) (b : Bytes) (l : Call) (z : Sized c b) where
-  is-served : servedBytes b l ≡ outcomeBytes (served (lentOf b) l) (b .settings) (b .rows) (b .keys) (l .answer)
-  is-served =
-      let r = z .rows-long in
-      let m = z .most in
-      reads-as (b .settings) (b .rows) (b .keys) (l .line) (l .answer) (lentOf b .settings) (lentOf b .numbers) (b .keys) (z .settings-long) (omega arith) (omega arith) refl refl refl
-
-  -- It returns what the call on the spelled bucket does.
-  pub same-number : (servedBytes b l) .number ≡ (served (lentOf b) l) .number
-  same-number = elim (either (eqb ((served (lentOf b) l) .number) 0)) [
-    | inl t ↦ ap (λ (o : ByteOutcome). o .number) is-served ∙ rw t (sym (eqb-true ((served (lentOf b) l) .number) 0 t))
-    | inr t ↦ ap (λ (o : ByteOutcome). o .number) is-served ∙ rw t
-  ]
-
-  same-answer : eqb ((served (lentOf b) l) .number) 0 ≡ true → (servedBytes b l) .answer ≡ (served (lentOf b) l) .answer
-  same-answer t = ap (λ (o : ByteOutcome). o .answer) is-served ∙ rw t
-
-  -- What it leaves has the same lengths, and spells what the call on the spelled bucket leaves.
-  pub record Spells : Type 0 where
-    pub sized : Sized c (leavesBytes (servedBytes b l))
-    pub is : lentOf (leavesBytes (servedBytes b l)) ≡ leaves (served (lentOf b) l)
-
-  spells-refused : ((served (lentOf b) l) .number ≡ 0 → ⊥) → Spells
-  spells-refused n =
-      let kept : leavesBytes (servedBytes b l) ≡ b = ap leavesBytes (hub-refused (b .settings) (b .rows) (b .keys) (l .line) (l .answer) (λ e. n (sym same-number ∙ e))) in
-      let same : leaves (served (lentOf b) l) ≡ lentOf b = ap leaves ((demand-1 (lentOf b) l) .writes-nothing n) in
-      record { sized = subst⁻¹ (λ (x : Bytes). Sized c x) kept z; is = ap lentOf kept ∙ sym same }
-
-  spells-accepted : (served (lentOf b) l) .number ≡ 0 → Spells
-  spells-accepted n =
-      let h = hub-hands-on (b .settings) (b .rows) (b .keys) (l .line) (l .answer) (same-number ∙ n) in
-      let k = z .keys-long in
-      let w : Whole c (lentOf b) = record { is-whole = accepted-of-whole (lentOf b .settings) (lentOf b .numbers) (b .keys) (l .line) (l .answer) n; size = omega arith } in
-      let a = whole-after c (lentOf b) l w in
-      let p = whole-parts (served (lentOf b) l .settings) (served (lentOf b) l .numbers) (served (lentOf b) l .keys) (a .is-whole) in
-      record {
-        sized = record {
-          some = z .some;
-          most = z .most;
-          settings-long = h .settings-long;
-          rows-long = h .rows-long ∙ ap (λ (m : ℕ). 64 * m) (a .size);
-          keys-long = ap length (h .keys-are) ∙ p .keys-long ∙ ap (λ (m : ℕ). 64 * m) (a .size);
-        };
-        is = rw (h .settings-read, h .numbers-read, h .keys-are);
-      }
-
-  pub spells-after : Spells
-  spells-after = elim (either (eqb ((served (lentOf b) l) .number) 0)) [
-    | inl t ↦ spells-accepted (eqb-true ((served (lentOf b) l) .number) 0 t)
-    | inr t ↦ spells-refused (eqb-false ((served (lentOf b) l) .number) 0 t)
-  ]
-
-  pub same-event : byteEvent b l ≡ callEvent (lentOf b) l
-  same-event = elim (either (eqb ((served (lentOf b) l) .number) 0)) [
-    | inl t ↦ rw (same-number, t) (rw (same-answer t))
-    | inr t ↦ rw (same-number, t)
-  ]
-
-  -- ## Demand 2 of the C entry
-
-  pub demand-2-bytes : Demand2Bytes c b l
-  demand-2-bytes =
-      record {
-        refused-first = λ n e k. (demand-2 (lentOf b) l) .refused-first n (sym same-number ∙ e) k;
-        first-refused = λ n h. same-number ∙ (demand-2 (lentOf b) l) .first-refused n h;
-        accepts = λ e.
-            let a = (demand-2 (lentOf b) l) .accepts e in
-            let n : (served (lentOf b) l) .number ≡ 0 = ap (λ (o : Outcome). o .number) (a .does) in
-            record {
-              said = a .said;
-              reads = a .reads;
-              outcome = served (lentOf b) l;
-              outcome-is = a .does;
-              does = is-served ∙ rw (eq-eqb ((served (lentOf b) l) .number) 0 n);
-              sized = spells-after .sized;
-              spells = spells-after .is;
-            };
-      }
-
--- ## Demand 1, and wrong lengths
-
-pub demand-1-bytes : (b : Bytes) (l : Call) → Demand1Bytes b l
-demand-1-bytes b l =
-    record {
-      numbered = hub-range (b .settings) (b .rows) (b .keys) (l .line) (l .answer);
-      writes-nothing = hub-refused (b .settings) (b .rows) (b .keys) (l .line) (l .answer);
-    }
+-- Bytes that hand on a bucket of capacity c have the lengths of c rows.
+handed-sized : (c : ℕ) (b x : Bytes) (l : Lent) → Sized c b → capacity (l .keys) ≡ c → HandsOn l x → Sized c x
+handed-sized c b x l z e h =
+    record { some = z .some; most = z .most; settings-long = h .settings-long; rows-long = omega (arith, h .rows-long); keys-long = omega (arith, h .keys-long) }
 
 numbers-length : (k : ℕ) (b : List ℕ) → length (numbersFrom k b) ≡ k
 unfolding numbersFrom
 numbers-length zero b = refl
 numbers-length (suc k) b = ap suc (numbers-length k _)
 
--- What is whole has the lengths of its capacity.
-whole-sized : (b : Bytes) → length (b .settings) ≡ 688 → length (b .rows) % 8 ≡ 0 → whole (lentOf b .settings) (lentOf b .numbers) (b .keys) ≡ true → Sized (capacity (b .keys)) b
-whole-sized b s r w =
-    let p = whole-parts (lentOf b .settings) (lentOf b .numbers) (b .keys) w in
-    record {
-      some = p .some;
-      most = p .most;
-      settings-long = s;
-      rows-long = let n = numbers-length (length (b .rows) / 8) (b .rows) in omega (arith, p .numbers-long);
-      keys-long = p .keys-long;
-    }
+-- Bytes that spell what is whole have the lengths of its capacity.
+whole-sized : (b : Bytes) → Fitting b → whole (lentOf b) ≡ true → Sized (capacity (b .keys)) b
+whole-sized b f w =
+    let p = whole-parts (lentOf b) w in
+    let n = numbers-length (length (b .rows) / 8) (b .rows) in
+    record { some = p .some; most = p .most; settings-long = f .settings-long; rows-long = omega (arith, p .numbers-long, f .rows-even); keys-long = p .keys-long }
 
-pub wrong-lengths : (b : Bytes) (l : Call) → WrongLengths b l
+-- ## A call on bytes of the lengths of c rows
+
+module _ (c : ℕ) (b : Bytes) (g : Call) (z : Sized c b) where
+  -- the call on the spelled bucket
+  abbrev core : Outcome
+  core = outcome (lentOf b) g
+
+  is-served : hubServed b g ≡ outcomeBytes core b (g .answer)
+  is-served =
+      let r = z .rows-long in
+      let m = z .most in
+      reads-as b g (record { settings-long = z .settings-long; rows-most = omega arith; rows-even = omega arith })
+
+  same-number : (hubServed b g) .number ≡ core .number
+  same-number = rw is-served (left-number _ core b (g .answer))
+
+  -- What it leaves has the same lengths, and spells what the call on the spelled bucket leaves.
+  record Spells : Type 0 where
+    pub sized : Sized c (byteStep b g)
+    pub is : lentOf (byteStep b g) ≡ step (lentOf b) g
+
+  spells-accepted : core .number ≡ 0 → Spells
+  spells-accepted n =
+      let h = hub-hands-on b g (same-number ∙ n) in
+      let k = z .keys-long in
+      let w = whole-after c (lentOf b) g (record { is-whole = accepted-of-whole (lentOf b) g n; size = omega arith }) in
+      record { sized = handed-sized c b (byteStep b g) (core .bucket) z (w .size) h; is = h .spells }
+
+  spells-refused : (core .number ≡ 0 → ⊥) → Spells
+  spells-refused n =
+      let kept : byteStep b g ≡ b = ap (λ (o : ByteOutcome). o .bytes) (hub-refused b g (λ e. n (sym same-number ∙ e))) in
+      let same : step (lentOf b) g ≡ lentOf b = ap (λ (o : Outcome). o .bucket) (outcome-refused (lentOf b) g n) in
+      record { sized = subst⁻¹ (Sized c) kept z; is = ap lentOf kept ∙ sym same }
+
+  spells-after : Spells
+  spells-after = elim (either (eqb (core .number) 0)) [
+    | inl t ↦ spells-accepted (eqb-true (core .number) 0 t)
+    | inr t ↦ spells-refused (eqb-false (core .number) 0 t)
+  ]
+
+  same-event : byteEvent b g ≡ callEvent (lentOf b) g
+  same-event = elim (either (eqb (core .number) 0)) [
+    | inl t ↦ simp (is-served, t)
+    | inr t ↦ simp (is-served, t)
+  ]
+
+  -- ## Demand 2 of the C entry
+
+  pub demand-2-bytes : Demand2Bytes c b g
+  demand-2-bytes =
+      let d = demand-2 (lentOf b) g in
+      record {
+        refused-first = λ n e. d .refused-first n (sym same-number ∙ e);
+        first-refused = λ n h. same-number ∙ d .first-refused n h;
+        accepts = λ e.
+            let a = d .accepts e in
+            record { request = a .request; hears = a .hears; outcome = core; outcome-is = a .does; does = is-served ∙ rw (a .does); sized = spells-after .sized; spells = spells-after .is };
+      }
+
+-- ## Demand 1, and wrong lengths
+
+pub demand-1-bytes : (b : Bytes) (g : Call) → Demand1Bytes b g
+demand-1-bytes b g = record { numbered = hub-range b g; writes-nothing = hub-refused b g }
+
+pub wrong-lengths : (b : Bytes) (g : Call) → WrongLengths b g
 unfolding hubServed
-wrong-lengths b l wrong =
-    elim (either (eqb (length (b .settings)) 688)) [
-      | inl t ↦ elim (either (ltb 65536 (length (b .rows)))) [
-        | inl u ↦ simp (t, u)
-        | inr u ↦ elim (either (eqb (length (b .rows) % 8) 0)) [
-          | inl v ↦ elim (either (whole (lentOf b .settings) (lentOf b .numbers) (b .keys))) [
-            | inl w ↦ absurd (wrong (capacity (b .keys)) (whole-sized b (eqb-true _ 688 t) (eqb-true _ 0 v) w))
-            | inr w ↦
-                reads-as (b .settings) (b .rows) (b .keys) (l .line) (l .answer) (lentOf b .settings) (lentOf b .numbers) (b .keys) (eqb-true _ 688 t) (ltb-false 65536 _ u) (eqb-true _ 0 v) refl refl refl
-                ∙ ap (λ (o : Outcome). outcomeBytes o (b .settings) (b .rows) (b .keys) (l .answer)) (sym (outcome-1 (lentOf b .settings) (lentOf b .numbers) (b .keys) (l .line) (l .answer) w))
-          ]
-          | inr v ↦ simp (t, u, v)
-        ]
-      ]
-      | inr t ↦ rw t
-    ]
+wrong-lengths b g wrong =
+    spelling-ways b (λ (x : ByteOutcome). x ≡ byteOutcome 1 b (g .answer))
+    (λ f. elim (either (whole (lentOf b))) [
+      | inl w ↦ absurd (wrong (capacity (b .keys)) (whole-sized b f w))
+      | inr w ↦ rw (← outcome-1 (lentOf b) g w)
+    ])
+    refl
 
 -- ## A fresh bucket
 
-fresh-sized : (c : ℕ) (b : Bytes) → Sized c b → Sized c (freshBytes b)
-fresh-sized c b z =
-    let f = fresh-made (b .settings) (b .rows) (b .keys) c (z .some) (z .most) (z .settings-long) (z .rows-long) (z .keys-long) in
-    let r = reads-fresh (b .settings) (b .rows) (b .keys) c (z .some) (z .most) (z .settings-long) (z .rows-long) (z .keys-long) in
-    record {
-      some = z .some;
-      most = z .most;
-      settings-long = ap (λ (x : FreshOutcome). length (x .settings)) f ∙ settings-length freshSettings (whole-fits freshSettings _ _ (r .is-whole));
-      rows-long = ap (λ (x : FreshOutcome). length (x .rows)) f ∙ length-replicate {A = ℕ} (64 * c) 0;
-      keys-long = ap (λ (x : FreshOutcome). length (x .keys)) f ∙ length-replicate {A = ℕ} (64 * c) 0;
-    }
+module _ (c : ℕ) (b : Bytes) (z : Sized c b) where
+  fresh-handed : HandsOn (freshLent c) (freshBytes b)
+  fresh-handed = fresh-hands-on b c (z .some) (z .most) (z .settings-long) (z .rows-long) (z .keys-long)
 
-fresh-spells : (c : ℕ) (b : Bytes) → Sized c b → lentOf (freshBytes b) ≡ freshLent c
-fresh-spells c b z =
-    let r = reads-fresh (b .settings) (b .rows) (b .keys) c (z .some) (z .most) (z .settings-long) (z .rows-long) (z .keys-long) in
-    let n = (fresh-sized c b z) .rows-long in
-    let k : length ((freshBytes b) .rows) / 8 ≡ 8 * c = omega arith in
-    rw (k, r .settings-read, r .numbers-read, r .keys-are)
+  fresh-sized : Sized c (freshBytes b)
+  fresh-sized = handed-sized c b (freshBytes b) (freshLent c) z ((fresh-is-whole c (z .some) (z .most)) .size) fresh-handed
 
-fresh-refused : (b : Bytes) → ((c : ℕ) → Sized c b → ⊥) → freshened b ≡ freshOutcome 1 (b .settings) (b .rows) (b .keys)
-unfolding hubFresh fitRows
+-- Bytes that are made fresh have the lengths of some c rows.
+fit-sized : (b : Bytes) → length (b .settings) ≡ settingsLength → length (b .rows) ≡ length (b .keys) → fitRows (length (b .keys)) ≡ true → Sized (capacity (b .keys)) b
+unfolding fitRows
+fit-sized b s r =
+    let n = length (b .keys) in
+    let fits : Bool → Type 0 = λ t. t ≡ true → Sized (capacity (b .keys)) b in
+    pick-ways fits (ltb n 64) (λ _ e. absurd (false≢true e))
+    (λ low. pick-ways fits (ltb tableLength n) (λ _ e. absurd (false≢true e))
+    (λ high e.
+    let k = eqb-true (n % 64) 0 e in
+    record { some = omega (arith, ltb-false n 64 low); most = omega (arith, ltb-false tableLength n high); settings-long = s; rows-long = omega arith; keys-long = omega arith }))
+
+fresh-refused : (b : Bytes) → ((c : ℕ) → Sized c b → ⊥) → hubFresh b ≡ freshOutcome 1 b
+unfolding hubFresh
 fresh-refused b wrong =
-    elim (either (eqb (length (b .settings)) 688)) [
-      | inl t ↦ elim (either (eqb (length (b .rows)) (length (b .keys)))) [
-        | inl x ↦ elim (either (ltb (length (b .keys)) 64)) [
-          | inl u ↦ simp (t, x, u)
-          | inr u ↦ elim (either (ltb 65536 (length (b .keys)))) [
-            | inl v ↦ simp (t, x, u, v)
-            | inr v ↦ elim (either (eqb (length (b .keys) % 64) 0)) [
-              | inl w ↦
-                  let low = ltb-false (length (b .keys)) 64 u in
-                  let high = ltb-false 65536 (length (b .keys)) v in
-                  let part = eqb-true (length (b .keys) % 64) 0 w in
-                  let alike = eqb-true (length (b .rows)) (length (b .keys)) x in
-                  absurd (wrong (length (b .keys) / 64) (record { some = omega arith; most = omega arith; settings-long = eqb-true _ 688 t; rows-long = omega arith; keys-long = omega arith }))
-              | inr w ↦ simp (t, x, u, v, w)
-            ]
-          ]
-        ]
-        | inr x ↦ simp (t, x)
-      ]
-      | inr t ↦ rw t
-    ]
+    let stays : FreshOutcome → Type 0 = λ x. x ≡ freshOutcome 1 b in
+    pick-ways stays (eqb (length (b .settings)) settingsLength)
+    (λ s. pick-ways stays (eqb (length (b .rows)) (length (b .keys)))
+    (λ r. pick-ways stays (fitRows (length (b .keys))) (λ f. absurd (wrong (capacity (b .keys)) (fit-sized b (eqb-true _ _ s) (eqb-true _ _ r) f))) (λ _. refl))
+    (λ _. refl))
+    (λ _. refl)
 
 pub fresh-is-made : (b : Bytes) → FreshMade b
 fresh-is-made b =
     record {
-      returns-0 = λ c z. ap (λ (x : FreshOutcome). x .number) (fresh-made (b .settings) (b .rows) (b .keys) c (z .some) (z .most) (z .settings-long) (z .rows-long) (z .keys-long));
+      returns-0 = λ c z. ap (λ (x : FreshOutcome). x .number) (fresh-made b c (z .some) (z .most) (z .settings-long) (z .rows-long) (z .keys-long));
       sized = λ c z. fresh-sized c b z;
-      spells = λ c z. fresh-spells c b z;
+      spells = λ c z. (fresh-handed c b z) .spells;
       refuses = fresh-refused b;
     }
 
 -- ## A list of calls: demand 3 of the C entries
 
-module _ (c : ℕ) (b : Bytes) (ls : List Call) (z : Sized c b) where
-  sized-after : (b : Bytes) (l : Call) → Sized c b → Sized c (byteStep b l)
-  sized-after b l z = (spells-after c b l z) .sized
+module _ (c : ℕ) where
+  sized-after : (b : Bytes) (g : Call) → Sized c b → Sized c (byteStep b g)
+  sized-after b g z = (spells-after c b g z) .sized
 
-  spelled-after : (b : Bytes) (l : Call) → Sized c b → lentOf (byteStep b l) ≡ step (lentOf b) l
-  spelled-after b l z = (spells-after c b l z) .is
+  spelled-after : (b : Bytes) (g : Call) → Sized c b → lentOf (byteStep b g) ≡ step (lentOf b) g
+  spelled-after b g z = (spells-after c b g z) .is
 
-  spelled-left : lentOf (left byteStep b ls) ≡ left step (lentOf b) ls
-  spelled-left = left-as byteStep step lentOf (λ l. l) (Sized c) sized-after spelled-after b ls z ∙ ap (left step (lentOf b)) (map-id ls)
+  spelled-left : (b : Bytes) (gs : List Call) → Sized c b → lentOf (left byteStep b gs) ≡ left step (lentOf b) gs
+  spelled-left b gs z = left-as byteStep step lentOf (λ g. g) (Sized c) sized-after spelled-after b gs z ∙ ap (left step (lentOf b)) (map-id gs)
 
-  spelled-events : byteEvents b ls ≡ callEvents (lentOf b) ls
-  spelled-events = gathered-as byteStep step lentOf (λ l. l) (Sized c) sized-after spelled-after byteEvent callEvent (same-event c) b ls z ∙ ap (callEvents (lentOf b)) (map-id ls)
-
-kept-as : {s t : Lent} {es fs : List Event} → t ≡ s → fs ≡ es → Kept (held s) es → Kept (held t) fs
-kept-as {s} {t} {es} {fs} p q k = subst⁻¹ (λ (x : Lent). Kept (held x) fs) p (subst⁻¹ (λ (x : List Event). Kept (held s) x) q k)
+  spelled-events : (b : Bytes) (gs : List Call) → Sized c b → byteEvents b gs ≡ callEvents (lentOf b) gs
+  spelled-events b gs z = gathered-as byteStep step lentOf (λ g. g) (Sized c) sized-after spelled-after byteEvent callEvent (same-event c) b gs z ∙ ap (callEvents (lentOf b)) (map-id gs)
 
 pub demand-3-bytes : Demand3Bytes
-demand-3-bytes c b z ls =
+demand-3-bytes c b z gs =
     let f = fresh-sized c b z in
-    let e = fresh-spells c b z in
-    kept-as (spelled-left c (freshBytes b) ls f ∙ ap (λ (s : Lent). left step s ls) e) (spelled-events c (freshBytes b) ls f ∙ ap (λ (s : Lent). callEvents s ls) e) (demand-3 c (z .some) (z .most) ls)
+    let e = (fresh-handed c b z) .spells in
+    subst⁻¹ (λ (x : Lent). Kept (bucketOf x) (byteEvents (freshBytes b) gs)) (spelled-left c (freshBytes b) gs f ∙ ap (λ (s : Lent). left step s gs) e)
+    (rw (spelled-events c (freshBytes b) gs f ∙ ap (λ (s : Lent). callEvents s gs) e) (demand-3 c (z .some) (z .most) gs))

@@ -13,22 +13,20 @@ use Rattle.buffers.proofs.Tests.{either, and-l, and-r}
 use Rattle.buffers.proofs.Lists.{all-first}
 use Rattle.calendar.specs.Calendar.{latest}
 use Rattle.model.specs.Rows.{Row, isData, isMarker, bodies, largestSize, soundRow}
-use Rattle.model.specs.Requests.{Name, Get, Ask}
+use Rattle.model.specs.Requests.{Name, Get, Ask, Request, says}
 use Rattle.model.specs.Effects.{hasVersion, rowOf}
 use Rattle.model.specs.Answers.{shown, reply}
 use Rattle.model.proofs.SoundRows.{row-parts}
-use Rattle.bucket.proofs.Whole.{whole-parts, sound-parts}
 use Rattle.table.specs.Layout.{capacity}
+use Rattle.bucket.specs.Whole.{Lent, usedRows, bucketOf}
+use Rattle.bucket.proofs.Whole.{whole-parts, sound-parts}
 use Rattle.judge.proofs.Naming.{date-most}
-use Rattle.answers.proofs.ReadBack.{until-back}
 use Rattle.answers.specs.Text.{answerText}
-use Rattle.request.specs.Grammar.{Said, readLine}
-use Rattle.outcome.specs.Outcome.{written}
-use Rattle.outcome.proofs.Demands.{accepted-of-whole}
-use Rattle.outcome.specs.Calls.{Lent}
-use Rattle.guarantee.specs.Calls.{Call, held, served}
+use Rattle.answers.proofs.ReadBack.{until-back}
+use Rattle.outcome.specs.Calls.{Call, heard}
+use Rattle.outcome.specs.Outcome.{written, outcome}
+use Rattle.outcome.proofs.Demands.{accepted-request, outcome-number, accepted-of-whole}
 use Rattle.guarantee.specs.Promise.{DateReadsBack}
-use Rattle.guarantee.proofs.Demands.{accepts, number-is}
 
 -- ## The row's date
 
@@ -47,17 +45,14 @@ row-date n t x e =
     ]
 
 -- What an accepted GET writes is the text of the row that it names.
-shows : (s : Lent) (l : Call) (n : Name) (q : Said) (x : Row) → (served s l) .number ≡ 0 → readLine (l .line) ≡ some q → q .verb ≡ Ask (Get n) → rowOf (held s .rows) n ≡ some x
-    → (served s l) .answer ≡ written (answerText (shown x)) (l .answer)
+shows : (b : Lent) (g : Call) (n : Name) (q : Request) (x : Row) → (outcome b g) .number ≡ 0 → heard g ≡ says q → q .verb ≡ Ask (Get n) → rowOf (bucketOf b .rows) n ≡ some x
+    → (outcome b g) .answer ≡ written (answerText (shown x)) (g .answer)
 unfolding reply
-shows s l n q x z r v e =
-    let a = accepts s l (sym (number-is s l) ∙ z) in
-    let p : a .said ≡ q = cc in
-    rw (a .does) (rw (p, v, e))
+shows b g n q x z h v e = rw (accepted-request b g q h (sym (outcome-number b g) ∙ z), v, e)
 
-pub date-reads-back : (s : Lent) (l : Call) → DateReadsBack s l
-date-reads-back s l n q x z r v e m =
-    let w = whole-parts (s .settings) (s .numbers) (s .keys) (accepted-of-whole (s .settings) (s .numbers) (s .keys) (l .line) (l .answer) z) in
-    let rows = (sound-parts (capacity (s .keys)) (held s) (w .is-sound)) .rows-sound in
-    let sound = all-first (soundRow (held s .settings .next) (held s .settings .time)) (λ y. same (n .key) (y .key) && hasVersion (n .version) y) (held s .rows) x rows e in
-    rw (shows s l n q x z r v e) (until-back x (drop (length (answerText (shown x))) (l .answer)) m (row-date _ _ x sound))
+pub date-reads-back : (b : Lent) (g : Call) → DateReadsBack b g
+date-reads-back b g n q x z h v e m =
+    let w = whole-parts b (accepted-of-whole b g z) in
+    let rows = (sound-parts (capacity (b .keys)) (bucketOf b) (w .is-sound)) .rows-sound in
+    let sound = all-first (soundRow (b .settings .next) (b .settings .time)) (λ y. same (n .key) (y .key) && hasVersion (n .version) y) (usedRows b) x rows e in
+    rw (shows b g n q x z h v e) (until-back x (drop (length (answerText (shown x))) (g .answer)) m (row-date _ _ x sound))

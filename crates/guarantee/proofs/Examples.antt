@@ -31,20 +31,20 @@ use Rattle.model.specs.Rows.{soundRow}
 use Rattle.model.specs.Settings.{soundRules, soundConfig, fits, sound}
 use Rattle.model.specs.Time.{defaultEnd}
 use Rattle.blocks.specs.Blocks.{blockOf, isBlock}
-use Rattle.settings.specs.Bytes.{settingsOf, settingsBytes}
+use Rattle.settings.specs.Bytes.{settingsLength, settingsOf, settingsBytes}
 use Rattle.settings.specs.Meaning.{settingsSound}
-use Rattle.bucket.specs.Whole.{whole}
+use Rattle.bucket.specs.Whole.{Lent, bucketOf, freshLent, whole}
 use Rattle.fields.specs.Fields.{rightsIn, readRights, readKey, readPrefix, readVersion, readMode, readUntil, readSwitch, readHold, readBypass, readPeriod}
 use Rattle.request.specs.Grammar.{nameAt, retentionAt, termsAt, putOf, copyOf, retainOf, setHoldOf, deleteOf, defaultOf, ruleOf, sweepOf, getOf, otherByWord, verbByWord, requestIn, readLine}
 use Rattle.answers.specs.Text.{fieldsText, okText, modeText, untilText, holdText, answerText}
+use Rattle.outcome.specs.Calls.{Call, call}
 use Rattle.outcome.specs.Outcome.{Outcome, written, refusalOf, outcome}
 use Rattle.outcome.specs.Printed.{printed}
-use Rattle.knitpasture.specs.Bytes.{numbersFrom, numbersBytes, hubServed, fitRows, hubFresh}
-use Rattle.outcome.specs.Calls.{Lent}
-use Rattle.guarantee.specs.Calls.{Call, held, freshLent, served, step}
-use Rattle.guarantee.specs.Lists.{ended, call, lineStep}
+use Rattle.knitpasture.specs.Bytes.{Bytes, asBytes, lentOf, numbersFrom, numbersBytes, hubServed, fitRows, hubFresh}
+use Rattle.guarantee.specs.Calls.{step}
+use Rattle.guarantee.specs.Lists.{ended, lineStep}
 use Rattle.guarantee.specs.Promise.{Hub, Demand1, Demand2}
-use Rattle.guarantee.specs.Bytes.{Bytes, lentOf, servedBytes, freshBytes, byteStep, byteEvents}
+use Rattle.guarantee.specs.Bytes.{freshBytes, byteStep, byteEvents}
 use Rattle.guarantee.proofs.Demands.{only-hub}
 use Rattle.guarantee.proofs.Bytes.{demand-3-bytes}
 
@@ -56,7 +56,7 @@ asks line = call line (replicate 256 0)
 
 -- What a line on a fresh bucket returns.
 abbrev returned : List ℕ → ℕ
-returned line = (served (freshLent 1) (asks line)) .number
+returned line = (outcome (freshLent 1) (asks line)) .number
 
 -- A clock that can't be read meets 3; with the date beside it the line is read, and its key has no row.
 pub record Clocks : Type 0 where
@@ -75,7 +75,7 @@ pub record Starred : Type 0 where
 -- What is printed of a text's lines on a fresh bucket of this capacity, with an answer buffer of this length.
 abbrev printedRun : ℕ → ℕ → List ℕ → List ℕ
 printedRun c room text =
-    gathered lineStep (λ e l. let o = served (e .bucket) (call l (e .answer)) in printed (o .number) (take (o .len) (o .answer))) (ended (freshLent c) (replicate room 0)) (linesOf text)
+    gathered lineStep (λ e l. let o = outcome (e .bucket) (call l (e .answer)) in printed (o .number) (take (o .len) (o .answer))) (ended (freshLent c) (replicate room 0)) (linesOf text)
 
 abbrev text : List ℕ
 text =
@@ -113,12 +113,11 @@ withLocked = step (freshLent 1) lockedPut
 
 -- It says `ok` and does nothing.
 abbrev acknowledged : Hub
-acknowledged s l =
-    record { number = 0; len = 3; settings = s .settings; numbers = s .numbers; keys = s .keys; answer = written (answerText done) (l .answer) }
+acknowledged b g = record { number = 0; len = 3; bucket = b; answer = written (answerText done) (g .answer) }
 
 -- The hub, by the calls that it has served so far.
 abbrev firstLineOnly : List Call → Hub
-firstLineOnly [] = served
+firstLineOnly [] = outcome
 firstLineOnly (k ∷ ks) = acknowledged
 
 -- A hold that it acknowledges is not there.
@@ -129,7 +128,7 @@ hold = asks (bytes "2026-01-06T09:00:00Z\th\tHOLD\tq/7\t1\tON")
 
 -- Bytes of one row, before they are made a fresh bucket.
 abbrev oneRow : Bytes
-oneRow = record { settings = replicate 688 90; rows = replicate 64 90; keys = replicate 64 90 }
+oneRow = asBytes (replicate settingsLength 90) (replicate 64 90) (replicate 64 90)
 
 -- The second call meets 9.
 abbrev calls : List Call
@@ -141,10 +140,10 @@ pub record Examples : Type 0 where
   pub starred : Starred
   -- The run on the sizes of `bucketrun`.
   pub printed-run : printedRun 1024 65536 text ≡ output
-  pub date-printed : fieldOf (firstLine ((served withLocked get) .answer)) 5 ≡ bytes "2033-01-05T00:00:00.007Z"
-  pub date-read : readDate (fieldOf (firstLine ((served withLocked get) .answer)) 5) ≡ some 1988496000007
-  pub refused-9 : (servedBytes (byteStep (freshBytes oneRow) lockedPut) (asks (bytes "2033-01-05T00:00:00.006Z\tdb\tDELETE\tq/7\t1\tyes"))) .number ≡ 9
-  pub held-in-bytes : Held (held (lentOf (left byteStep (freshBytes oneRow) calls))) (byteEvents (freshBytes oneRow) calls) 1 (InCompliance 1988496000007)
+  pub date-printed : fieldOf (firstLine ((outcome withLocked get) .answer)) 5 ≡ bytes "2033-01-05T00:00:00.007Z"
+  pub date-read : readDate (fieldOf (firstLine ((outcome withLocked get) .answer)) 5) ≡ some 1988496000007
+  pub refused-9 : (hubServed (byteStep (freshBytes oneRow) lockedPut) (asks (bytes "2033-01-05T00:00:00.006Z\tdb\tDELETE\tq/7\t1\tyes"))) .number ≡ 9
+  pub held-in-bytes : Held (bucketOf (lentOf (left byteStep (freshBytes oneRow) calls))) (byteEvents (freshBytes oneRow) calls) 1 (InCompliance 1988496000007)
   pub no-first-line-only : Demand1 (firstLineOnly (lockedPut ∷ [])) withLocked hold → Demand2 (firstLineOnly (lockedPut ∷ [])) withLocked hold → ⊥
 
 pub examples : Examples
@@ -161,5 +160,5 @@ examples =
       date-read = refl;
       refused-9 = refl;
       held-in-bytes = (demand-3-bytes 1 oneRow (record { some = lit≤ tt; most = lit≤ tt; settings-long = refl; rows-long = refl; keys-long = refl }) calls) .inCompliance [] [] _ 1 1988496000007 refl refl (lit< tt);
-      no-first-line-only = λ d e. let z : _≡_ {A = ℕ} 0 1 = ap (λ (o : Outcome). getD (o .numbers) 7 0) (only-hub (firstLineOnly (lockedPut ∷ [])) withLocked hold d e) in absurd (omega arith);
+      no-first-line-only = λ d e. let z : _≡_ {A = ℕ} 0 1 = ap (λ (o : Outcome). getD (o .bucket .numbers) 7 0) (only-hub (firstLineOnly (lockedPut ∷ [])) withLocked hold d e) in absurd (omega arith);
     }

@@ -9,16 +9,14 @@ use Rattle.buffers.specs.Ranges.{Within}
 use Rattle.buffers.proofs.Parts.{rest-all}
 use Rattle.text.specs.Lines.{linesOf, feedAt}
 use Rattle.text.proofs.Lines.{lines-at}
-use Rattle.settings.specs.declared.Settings.{Settings}
-use Rattle.bucket.specs.Whole.{whole}
+use Rattle.bucket.specs.Whole.{Lent, lent, whole}
 use Rattle.engine.specs.declared.Served.{Served}
 use Rattle.engine.specs.Served.{outcomeFrom}
+use Rattle.outcome.specs.Calls.{call}
 use Rattle.outcome.specs.Outcome.{Outcome, outcome}
-use Rattle.outcome.proofs.Demands.{unsound-refused}
+use Rattle.outcome.proofs.Deciding.{outcome-1}
 use Rattle.outcome.proofs.Kept.{outcome-whole}
-use Rattle.outcome.specs.Calls.{lent, leaves}
-use Rattle.guarantee.specs.Lists.{Ended, ended, call, servedLines, Serving}
-use Rattle.guarantee.proofs.Demands.{unchanged}
+use Rattle.guarantee.specs.Lists.{Ended, ended, servedLines, Serving}
 
 -- ## The loop over the lines
 
@@ -27,40 +25,38 @@ module _ (t : List ℕ) (i k : ℕ) where
   pub end-most : i < length t → Within k (feedAt (take (length t - i) (drop i t))) (length (take (length t - i) (drop i t))) → i + k ≤ length t
   end-most h w = let l = length-drop i t in let e : k ≤ length (drop i t) = rw (rest-all i t) at (w .most) in omega arith
 
-  module _ (end : Ended) (n₀ b₀ a₀ : List ℕ) where
-    -- One line more is served.
-    pub one-more : (s : Settings) (n b a n′ b′ a′ : List ℕ) (r : Served) → i < length t → Within k (feedAt (take (length t - i) (drop i t))) (length (take (length t - i) (drop i t)))
-        → outcomeFrom r n′ b′ a′ ≡ outcome s n b (take (i + k - i) (drop i t)) a → length n′ ≡ length n → length b′ ≡ length b → length a′ ≡ length a
-        → Serving t end n₀ b₀ a₀ i s n b a → Serving t end n₀ b₀ a₀ (i + k + 1) (r .settings) n′ b′ a′
-    one-more s n b a n′ b′ a′ r h w q ln lb la g =
-        let e : k ≡ feedAt (drop i t) = rw (rest-all i t) at (w .is) in
-        let z : i + k - i ≡ k = omega arith in
-        let o : outcomeFrom r n′ b′ a′ ≡ outcome s n b (take k (drop i t)) a = rw z at q in
-        record {
-          is-whole = subst⁻¹ (λ (x : Outcome). whole (x .settings) (x .numbers) (x .keys) ≡ true) o (outcome-whole s n b (take k (drop i t)) a (g .is-whole));
-          leads = g .leads ∙ ap (servedLines (lent s n b) a) (lines-at t i k h e) ∙ ap (λ (x : Outcome). servedLines (leaves x) (x .answer) (linesOf (drop (i + k + 1) t))) (sym o);
-          most = let m = end-most h w in omega arith;
-          numbers-long = ln ∙ g .numbers-long;
-          keys-long = lb ∙ g .keys-long;
-          answer-long = la ∙ g .answer-long;
-        }
+  -- One line more is served.
+  pub one-more : (end : Ended) (b₀ b : Lent) (a₀ a n′ k′ a′ : List ℕ) (r : Served) → i < length t → Within k (feedAt (take (length t - i) (drop i t))) (length (take (length t - i) (drop i t)))
+      → outcomeFrom r n′ k′ a′ ≡ outcome b (call (take (i + k - i) (drop i t)) a) → length n′ ≡ length (b .numbers) → length k′ ≡ length (b .keys) → length a′ ≡ length a
+      → Serving t end b₀ a₀ i b a → Serving t end b₀ a₀ (i + k + 1) (lent (r .settings) n′ k′) a′
+  one-more end b₀ b a₀ a n′ k′ a′ r h w q ln lk la g =
+      let e : k ≡ feedAt (drop i t) = rw (rest-all i t) at (w .is) in
+      let z : i + k - i ≡ k = omega arith in
+      let o : outcomeFrom r n′ k′ a′ ≡ outcome b (call (take k (drop i t)) a) = rw z at q in
+      record {
+        is-whole = subst⁻¹ (λ (x : Outcome). whole (x .bucket) ≡ true) o (outcome-whole b (call (take k (drop i t)) a) (g .is-whole));
+        leads = g .leads ∙ ap (servedLines b a) (lines-at t i k h e) ∙ ap (λ (x : Outcome). servedLines (x .bucket) (x .answer) (linesOf (drop (i + k + 1) t))) (sym o);
+        most = let m = end-most h w in omega arith;
+        numbers-long = ln ∙ g .numbers-long;
+        keys-long = lk ∙ g .keys-long;
+        answer-long = la ∙ g .answer-long;
+      }
 
-module _ (t n b a : List ℕ) (s : Settings) where
+module _ (t : List ℕ) (b : Lent) (a : List ℕ) where
   -- Before the first line.
-  pub none-yet : whole s n b ≡ true → Serving t (servedLines (lent s n b) a (linesOf t)) n b a 0 s n b a
+  pub none-yet : whole b ≡ true → Serving t (servedLines b a (linesOf t)) b a 0 b a
   none-yet w = record { is-whole = w; leads = refl; most = omega arith; numbers-long = refl; keys-long = refl; answer-long = refl }
 
   -- Behind the last line.
-  pub all-done : (end : Ended) (n₀ b₀ a₀ : List ℕ) (i : ℕ) → length t ≤ i → Serving t end n₀ b₀ a₀ i s n b a → ended (lent s n b) a ≡ end
-  all-done end n₀ b₀ a₀ i h g = sym (rw (drop-of-length-le t h) at (g .leads))
+  pub all-done : (end : Ended) (b₀ : Lent) (a₀ : List ℕ) (i : ℕ) → length t ≤ i → Serving t end b₀ a₀ i b a → ended b a ≡ end
+  all-done end b₀ a₀ i h g = sym (rw (drop-of-length-le t h) at (g .leads))
 
--- ## Buffers that are not whole
+-- ## A bucket that is not whole
 
 -- Refusal 1 meets every line, and nothing changes.
-pub not-whole : (s : Settings) (n b a : List ℕ) (w : Bool) (ls : List (List ℕ)) → w ≡ whole s n b → w ≡ false → ended (lent s n b) a ≡ servedLines (lent s n b) a ls
-not-whole s n b a w [] e h = refl
-not-whole s n b a w (l ∷ ls) e h =
-    let z = unchanged (lent s n b) (call l a) (unsound-refused s n b l a (sym e ∙ h)) in
-    not-whole s n b a w ls e h ∙ ap (λ (x : Outcome). servedLines (leaves x) (x .answer) ls) (sym z)
+pub not-whole : (b : Lent) (a : List ℕ) (w : Bool) (ls : List (List ℕ)) → w ≡ whole b → w ≡ false → ended b a ≡ servedLines b a ls
+not-whole b a w [] e h = refl
+not-whole b a w (l ∷ ls) e h =
+    not-whole b a w ls e h ∙ ap (λ (x : Outcome). servedLines (x .bucket) (x .answer) ls) (outcome-1 b (call l a) (sym e ∙ h))
 
 pub ruleset serving = (end-most, one-more, none-yet, all-done, not-whole)

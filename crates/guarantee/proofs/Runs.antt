@@ -1,93 +1,77 @@
--- A list of calls on whole buffers is the model's run of their lines.
+-- A list of calls on a whole bucket is the model's run of what is heard of them.
 use Prim.Native.Nat.{ℕ}
-use mathlib.Core.Path.{_≡_, sym, _∙_, ap, fun-ext}
+use mathlib.Core.Path.{_≡_, _∙_, ap, fun-ext}
 use mathlib.Core.Logic.{inl, inr}
 use mathlib.Core.Bool.{Bool, true}
 use mathlib.Core.List.{List, [], _∷_, map}
 use lib.Dec.{eqb}
-use lib.ListN.{length}
 use borrow.Author.Tests.{eqb-true, eqb-false, ne-eqb}
 use Rattle.buffers.proofs.Tests.{either}
-use Rattle.model.specs.Requests.{Line, reads}
 use Rattle.model.specs.Time.{nowOf}
 use Rattle.model.specs.Refusals.{refusal}
-use Rattle.model.specs.Answers.{answerTo, givesNumber}
 use Rattle.model.specs.Run as model
 use Rattle.model.specs.Run.{left}
 use Rattle.model.proofs.Runs.{left-as, gathered-as}
 use Rattle.table.specs.Layout.{capacity}
-use Rattle.bucket.specs.Whole.{whole}
-use Rattle.request.specs.Grammar.{lineOf, asked}
-use Rattle.outcome.specs.Outcome.{refusalOf}
+use Rattle.bucket.specs.Whole.{Lent, bucketOf, whole}
+use Rattle.outcome.specs.Calls.{Call, heard}
+use Rattle.outcome.specs.Outcome.{refusalOf, outcome}
+use Rattle.outcome.proofs.Demands.{refused-unchanged}
 use Rattle.outcome.proofs.Kept.{model-refusal, accepted-bucket, accepted-capacity, outcome-whole}
-use Rattle.outcome.specs.Calls.{Lent, leaves}
-use Rattle.guarantee.specs.Calls.{Call, held, served, step, callEvent, callEvents, answersNumber}
+use Rattle.guarantee.specs.Calls.{step, callEvent, callEvents}
 use Rattle.guarantee.specs.Promise.{Accepted}
-use Rattle.guarantee.proofs.Demands.{accepts, unchanged, number-is}
+use Rattle.guarantee.proofs.Demands.{accepts}
 use Rattle.guarantee.proofs.Answering.{answered-is}
 
--- Lent buffers of this capacity that refusal 1 does not meet.
-pub record Whole (c : ℕ) (s : Lent) : Type 0 where
-  pub is-whole : whole (s .settings) (s .numbers) (s .keys) ≡ true
-  pub size : capacity (s .keys) ≡ c
-
--- The line of a call, as the bucket meets it.
-abbrev pub lineIn : Call → Line
-lineIn l = lineOf (length (l .answer)) (l .line)
-
-abbrev pub linesIn : List Call → List Line
-linesIn ls = map lineIn ls
+-- A lent bucket of this capacity that refusal 1 does not meet.
+pub record Whole (c : ℕ) (b : Lent) : Type 0 where
+  pub is-whole : whole b ≡ true
+  pub size : capacity (b .keys) ≡ c
 
 -- ## One call
 
-module _ (c : ℕ) (s : Lent) (l : Call) (w : Whole c s) where
-  abbrev number : ℕ
-  number = refusalOf (s .settings) (s .numbers) (s .keys) (l .line) (l .answer)
+-- It leaves and says what the model does.
+record Follows (c : ℕ) (b : Lent) (g : Call) : Type 0 where
+  pub size : capacity ((step b g) .keys) ≡ c
+  pub bucket-is : bucketOf (step b g) ≡ model.serve c (bucketOf b) (heard g)
+  pub event-is : callEvent b g ≡ model.lineEvent c (bucketOf b) (heard g)
 
-  same-refusal : number ≡ refusal c (held s) (lineIn l)
-  same-refusal = rw (← w .size) (model-refusal (s .settings) (s .numbers) (s .keys) (l .line) (l .answer) (w .is-whole))
+module _ (c : ℕ) (b : Lent) (g : Call) (w : Whole c b) where
+  same-refusal : refusalOf b g ≡ refusal c (bucketOf b) (heard g)
+  same-refusal = rw (← w .size) (model-refusal b g (w .is-whole))
 
-  -- What an accepted call leaves, and what it says.
-  held-accepted : Accepted served s l → number ≡ 0 → held (leaves (served s l)) ≡ model.serve c (held s) (lineIn l)
-  held-accepted a z =
-      let r = sym same-refusal ∙ z in
-      rw (a .does, a .reads) (accepted-bucket (s .settings) (s .numbers) (s .keys) (l .line) (l .answer) (a .said) (w .is-whole) (a .reads) z ∙ sym (rw (rw (a .reads) at r)))
+  accepted-follows : Accepted outcome b g → refusalOf b g ≡ 0 → Follows c b g
+  accepted-follows a z =
+      let x = bucketOf b in
+      let q = a .request in
+      record {
+        size = rw (step, a .does) (accepted-capacity (b .keys) _ ∙ w .size);
+        bucket-is = rw (← same-refusal, z, step, a .does, a .hears) (accepted-bucket b g q (w .is-whole) (a .hears) z);
+        event-is = rw (← same-refusal, z, a .does, a .hears)
+            (ap (λ (f : ℕ → Bool). record { before = x; request = q; answered = f } ∷ []) (fun-ext (answered-is x (nowOf x (q .context)) (q .context .who) (q .verb) (g .answer))));
+      }
 
-  held-refused : (number ≡ 0 → ⊥) → held (leaves (served s l)) ≡ model.serve c (held s) (lineIn l)
-  held-refused z = rw (unchanged s l z, ne-eqb (refusal c (held s) (lineIn l)) 0 (λ e. z (same-refusal ∙ e)))
+  refused-follows : (refusalOf b g ≡ 0 → ⊥) → Follows c b g
+  refused-follows z =
+      let n = ne-eqb (refusalOf b g) 0 z in
+      let u = refused-unchanged b g z in
+      record { size = rw (step, u) (w .size); bucket-is = rw (← same-refusal, n, step, u); event-is = rw (← same-refusal, u, n) }
 
-  pub held-after : held (leaves (served s l)) ≡ model.serve c (held s) (lineIn l)
-  held-after = elim (either (eqb number 0)) [
-    | inl t ↦ held-accepted (accepts s l (eqb-true number 0 t)) (eqb-true number 0 t)
-    | inr t ↦ held-refused (eqb-false number 0 t)
+  follows : Follows c b g
+  follows = elim (either (eqb (refusalOf b g) 0)) [
+    | inl t ↦ let z = eqb-true (refusalOf b g) 0 t in accepted-follows (accepts b g z) z
+    | inr t ↦ refused-follows (eqb-false (refusalOf b g) 0 t)
   ]
 
-  size-after : capacity ((leaves (served s l)) .keys) ≡ c
-  size-after = elim (either (eqb number 0)) [
-    | inl t ↦ rw ((accepts s l (eqb-true number 0 t)) .does) (accepted-capacity (s .keys) _ ∙ w .size)
-    | inr t ↦ rw (unchanged s l (eqb-false number 0 t)) (w .size)
-  ]
-
-  pub whole-after : Whole c (leaves (served s l))
-  whole-after = record { is-whole = outcome-whole (s .settings) (s .numbers) (s .keys) (l .line) (l .answer) (w .is-whole); size = size-after }
-
-  -- An accepted call says what the model's accepted line says.
-  event-accepted : (a : Accepted served s l) → number ≡ 0 → callEvent s l ≡ model.event (held s) (lineIn l)
-  event-accepted a z =
-      let q = asked (length (l .answer)) (a .said) in
-      let e : answersNumber (a .said .verb) ((served s l) .answer) ≡ (λ v. givesNumber v (answerTo (held s) q)) = rw (a .does) (fun-ext (λ v. answered-is (held s) (nowOf (held s) (q .context)) (q .verb) (l .answer) v)) in
-      rw (number-is s l, z, a .reads) (ap (λ (f : ℕ → Bool). record { before = held s; request = q; answered = f } ∷ []) e)
-
-  pub same-event : callEvent s l ≡ model.lineEvent c (held s) (lineIn l)
-  same-event = elim (either (eqb number 0)) [
-    | inl t ↦ event-accepted (accepts s l (eqb-true number 0 t)) (eqb-true number 0 t) ∙ sym (rw (← same-refusal, t))
-    | inr t ↦ rw (number-is s l, ← same-refusal, t)
-  ]
+  pub whole-after : Whole c (step b g)
+  whole-after = record { is-whole = outcome-whole b g (w .is-whole); size = follows .size }
 
 -- ## A list of calls
 
-pub held-left : (c : ℕ) (s : Lent) (ls : List Call) → Whole c s → held (left step s ls) ≡ model.run c (held s) (linesIn ls)
-held-left c s ls w = left-as step (model.serve c) held lineIn (Whole c) (whole-after c) (held-after c) s ls w
+module _ (c : ℕ) where
+  pub held-left : (b : Lent) (gs : List Call) → Whole c b → bucketOf (left step b gs) ≡ model.run c (bucketOf b) (map heard gs)
+  held-left = left-as step (model.serve c) bucketOf heard (Whole c) (whole-after c) (λ b g w. (follows c b g w) .bucket-is)
 
-pub events-left : (c : ℕ) (s : Lent) (ls : List Call) → Whole c s → callEvents s ls ≡ model.lineEvents c (held s) (linesIn ls)
-events-left c s ls w = gathered-as step (model.serve c) held lineIn (Whole c) (whole-after c) (held-after c) callEvent (model.lineEvent c) (same-event c) s ls w
+  pub events-left : (b : Lent) (gs : List Call) → Whole c b → callEvents b gs ≡ model.lineEvents c (bucketOf b) (map heard gs)
+  events-left =
+      gathered-as step (model.serve c) bucketOf heard (Whole c) (whole-after c) (λ b g w. (follows c b g w) .bucket-is) callEvent (model.lineEvent c) (λ b g w. (follows c b g w) .event-is)

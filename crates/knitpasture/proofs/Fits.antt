@@ -1,7 +1,7 @@
 -- What is whole fits its bytes: settings and numbers are within eight bytes each.
 use Prim.Native.Nat.{ℕ, zero, suc, _≤_, _<_}
 use mathlib.Core.Path.{_≡_, refl, sym, ap, _∙_}
-use mathlib.Core.Logic.{_⊎_, inl, inr, ⊎-elim}
+use mathlib.Core.Logic.{inl, inr, ⊎-elim}
 use mathlib.Core.Bool.{true, _&&_, _||_}
 use mathlib.Core.List.{List, [], _∷_}
 use native.Mathlib.Omega.{arith}
@@ -18,12 +18,11 @@ use Rattle.calendar.specs.Calendar.{latest}
 use Rattle.model.specs.Rows.{Row, isMode, isData, isMarker, soundRetention, soundData, soundMarker, soundRow}
 use Rattle.model.specs.Settings as model
 use Rattle.model.specs.Settings.{spentNumber, soundDefault, isDays, isSet, soundRule, soundRules, soundConfig, soundSettings}
-use Rattle.settings.specs.declared.Settings.{Settings}
 use Rattle.settings.specs.declared.Rule.{Rule}
 use Rattle.settings.specs.Bytes.{isWord, ruleFits, settingsFit}
 use Rattle.settings.specs.Meaning.{ruleMeans, rulesMean, settingsMean, prefixesAre}
-use Rattle.table.specs.Layout.{numbersOf, capacity, rowsOf}
-use Rattle.bucket.specs.Whole.{bucketOf, whole}
+use Rattle.table.specs.Layout.{numbersOf, capacity}
+use Rattle.bucket.specs.Whole.{Lent, usedRows, bucketOf, whole}
 use Rattle.bucket.proofs.Whole.{whole-parts, sound-parts}
 
 word : (n k : ℕ) → n ≤ k → k < 18446744073709551616 → isWord n ≡ true
@@ -95,11 +94,12 @@ settings-most s e =
     record { time = leb-true (s .time) latest (and-l _ _ e); next = leb-true (s .next) spentNumber (and-l _ _ g); default = and-l _ _ h; rules = and-r (soundDefault (s .config .default)) _ h }
 
 -- Settings that are whole fit their 688 bytes.
-pub whole-fits : (s : Settings) (n b : List ℕ) → whole s n b ≡ true → settingsFit s ≡ true
+pub whole-fits : (b : Lent) → whole b ≡ true → settingsFit (b .settings) ≡ true
 unfolding settingsFit soundRules
-whole-fits s n b w =
-    let p = whole-parts s n b w in
-    let m = settings-most (settingsMean s) ((sound-parts (capacity b) (bucketOf s n b) (p .is-sound)) .settings-sound) in
+whole-fits b w =
+    let s = b .settings in
+    let p = whole-parts b w in
+    let m = settings-most (settingsMean s) ((sound-parts (capacity (b .keys)) (bucketOf b) (p .is-sound)) .settings-sound) in
     let d = default-most (record { mode = s .mode; count = s .count; unit = s .unit }) (m .default) in
     let u : s .used ≤ 1024 = omega (arith, p .room, p .most) in
     let many : length (s .rules) ≡ 8 = sym (rules-many (s .rules)) ∙ eqb-true (length (rulesMean (s .rules))) 8 (and-l _ _ (m .rules)) in
@@ -192,9 +192,10 @@ rows-words next time (suc c) (x ∷ xs) hn ht e =
     row-words next time x (numbersOf c xs) hn ht (and-l _ _ e) (rows-words next time c xs hn ht (and-r (soundRow next time x) _ e))
 
 -- Numbers that are whole fit eight bytes each.
-pub whole-words : (s : Settings) (n b : List ℕ) → whole s n b ≡ true → all isWord n ≡ true
-whole-words s n b w =
-    let p = whole-parts s n b w in
-    let q = sound-parts (capacity b) (bucketOf s n b) (p .is-sound) in
-    let m = settings-most (settingsMean s) (q .settings-sound) in
-    ap (all isWord) (p .holds .numbers-are) ∙ rows-words (s .next) (s .time) (capacity b) (rowsOf n b (s .used)) (m .next) (m .time) (q .rows-sound)
+pub whole-words : (b : Lent) → whole b ≡ true → all isWord (b .numbers) ≡ true
+whole-words b w =
+    let c = capacity (b .keys) in
+    let p = whole-parts b w in
+    let q = sound-parts c (bucketOf b) (p .is-sound) in
+    let m = settings-most (settingsMean (b .settings)) (q .settings-sound) in
+    ap (all isWord) (p .holds .numbers-are) ∙ rows-words (b .settings .next) (b .settings .time) c (usedRows b) (m .next) (m .time) (q .rows-sound)

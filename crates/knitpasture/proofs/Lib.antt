@@ -1,7 +1,8 @@
 pub mod Numbers
+pub mod Left
+pub mod Words
 pub mod Serving
 pub mod Keys
 pub mod Fits
 pub mod Hub
-pub mod Words
 pub mod FreshBucket

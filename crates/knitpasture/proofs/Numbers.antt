@@ -127,10 +127,10 @@ bytes-back (suc k) b e h =
     let w : spelled 8 (number (take 8 b)) ≡ take 8 b = rw l at (spelled-number (take 8 b) (bytes-take 8 b h)) in
     rw (w, bytes-back k (drop 8 b) d (bytes-drop 8 b h)) (take-append-drop 8 b)
 
--- Zeros read as zeros.
-pub zeros-read : (k : ℕ) → numbersFrom k (replicate (8 * k) 0) ≡ replicate k 0
-unfolding numbersFrom number
-zeros-read zero = refl
-zeros-read (suc k) =
+-- Zeros are written as zeros.
+pub zeros-written : (k : ℕ) → numbersBytes (replicate k 0) ≡ replicate (8 * k) 0
+unfolding numbersBytes spelled
+zeros-written zero = refl
+zeros-written (suc k) =
     let e : 8 * suc k ≡ suc (suc (suc (suc (suc (suc (suc (suc (8 * k)))))))) = omega arith in
-    rw e (ap (λ (l : List ℕ). 0 ∷ l) (zeros-read k))
+    rw (e, zeros-written k)

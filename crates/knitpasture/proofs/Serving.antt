@@ -1,78 +1,61 @@
--- A line served, a row's key and a fresh bucket, over numbers and over bytes: one law for each way through.
+-- A call, a row's key and a fresh bucket, over numbers and over bytes: one law for each way through.
 use Prim.Native.Nat.{ℕ, _-_, _/_, _≤_}
 use mathlib.Core.Path.{_≡_, sym, ap, _∙_}
-use mathlib.Core.Logic.{inl, inr}
 use mathlib.Core.Bool.{Bool, true, false}
 use mathlib.Core.List.{List}
 use native.Mathlib.Omega.{arith}
-use lib.Dec.{eqb}
 use lib.ListN.{length, replicate}
 use lib.Seq.{drop-length, length-take-le}
-use borrow.Author.Tests.{eqb-false, eq-eqb, ne-eqb}
+use borrow.Author.Tests.{eq-eqb, ne-eqb}
 use borrow.Rule.Slice.PartMut.{midOf}
 use Rattle.buffers.specs.Choices.{pick}
 use Rattle.buffers.specs.Moves.{movedDown}
-use Rattle.buffers.proofs.Tests.{either}
 use Rattle.settings.specs.declared.Settings.{Settings}
-use Rattle.settings.specs.Bytes.{settingsOf, settingsBytes}
+use Rattle.settings.specs.Bytes.{settingsLength, settingsOf, settingsBytes}
 use Rattle.settings.specs.Meaning.{freshSettings}
-use Rattle.bucket.specs.Whole.{keyOf}
-use Rattle.outcome.specs.Outcome.{Outcome, refused, outcome}
+use Rattle.bucket.specs.Whole.{lent, keyOf}
+use Rattle.outcome.specs.Calls.{Call, call}
+use Rattle.outcome.specs.Outcome.{Outcome, outcome}
 use Rattle.outcome.proofs.Demands.{outcome-refused}
 use Rattle.engine.specs.declared.Served.{Served}
 use Rattle.engine.specs.Served.{outcomeFrom}
-use Rattle.knitpasture.specs.Bytes.{numbersFrom, numbersBytes, ByteOutcome, byteOutcome, outcomeWords, wordsServed, spelledServed, spelledKey, freshOutcome}
+use Rattle.knitpasture.specs.Bytes.{numbersFrom, numbersBytes, tableLength, Bytes, asBytes, spelledBy, ByteOutcome, byteOutcome, wordsServed, spelledServed, freshOutcome}
+use Rattle.knitpasture.proofs.Words.{rowsSpelled, spelled-words}
 
--- ## A line on rows as numbers
+-- ## A call on rows as numbers
 
-pub words-wrong : (settings n keys line answer : List ℕ) → (length settings ≡ 688 → ⊥) → byteOutcome 1 settings n keys answer ≡ wordsServed settings n keys line answer
+pub words-wrong : (b : Bytes) (line answer : List ℕ) → (length (b .settings) ≡ settingsLength → ⊥) → byteOutcome 1 b answer ≡ wordsServed b (call line answer)
 unfolding wordsServed
-words-wrong settings n keys line answer h = rw (ne-eqb (length settings) 688 h)
+words-wrong b line answer h = rw (ne-eqb (length (b .settings)) settingsLength h)
 
-module _ (s : Settings) (r : Served) (settings n keys line answer n′ keys′ answer′ : List ℕ) (e : outcomeFrom r n′ keys′ answer′ ≡ outcome s n keys line answer) (d : s ≡ settingsOf settings) (l : length settings ≡ 688) where
-  pub words-refused : (r .number ≡ 0 → ⊥) → byteOutcome (r .number) settings n′ keys′ answer′ ≡ wordsServed settings n keys line answer
+module _ (s : Settings) (r : Served) (settings n keys n′ keys′ answer′ : List ℕ) (g : Call) (e : outcomeFrom r n′ keys′ answer′ ≡ outcome (lent s n keys) g) (d : s ≡ settingsOf settings) (l : length settings ≡ settingsLength) where
+  pub words-refused : (r .number ≡ 0 → ⊥) → byteOutcome (r .number) (asBytes settings n′ keys′) answer′ ≡ wordsServed (asBytes settings n keys) g
   unfolding wordsServed
   words-refused z =
-      let u : outcome s n keys line answer ≡ refused ((outcome s n keys line answer) .number) s n keys answer = outcome-refused s n keys line answer (λ q. z (ap (λ (o : Outcome). o .number) e ∙ q)) in
-      let en : n′ ≡ n = ap (λ (o : Outcome). o .numbers) (e ∙ u) in
-      let ek : keys′ ≡ keys = ap (λ (o : Outcome). o .keys) (e ∙ u) in
-      let ea : answer′ ≡ answer = ap (λ (o : Outcome). o .answer) (e ∙ u) in
-      rw (eq-eqb (length settings) 688 l, ← d, ← e, ne-eqb (r .number) 0 z, en, ek, ea)
+      let u = outcome-refused (lent s n keys) g (λ q. z (ap (λ (o : Outcome). o .number) e ∙ q)) in
+      rw (eq-eqb (length settings) settingsLength l, ← d, ← e, ne-eqb (r .number) 0 z)
+      (ap (λ (o : Outcome). byteOutcome (r .number) (asBytes settings (o .bucket .numbers) (o .bucket .keys)) (o .answer)) (e ∙ u))
 
-  pub words-accepted : (settings′ : List ℕ) → r .number ≡ 0 → settings′ ≡ settingsBytes (r .settings) → byteOutcome 0 settings′ n′ keys′ answer′ ≡ wordsServed settings n keys line answer
+  pub words-accepted : (settings′ : List ℕ) → r .number ≡ 0 → settings′ ≡ settingsBytes (r .settings) → byteOutcome 0 (asBytes settings′ n′ keys′) answer′ ≡ wordsServed (asBytes settings n keys) g
   unfolding wordsServed
-  words-accepted settings′ z f = rw (eq-eqb (length settings) 688 l, ← d, ← e, eq-eqb (r .number) 0 z, f)
+  words-accepted settings′ z f = rw (eq-eqb (length settings) settingsLength l, ← d, ← e, eq-eqb (r .number) 0 z, f)
 
 pub ruleset words-cases = (words-wrong, words-refused, words-accepted)
 
--- ## A line on rows as bytes
+-- ## A call on rows as bytes
 
-module _ (k number : ℕ) (settings rows n keys line answer settings′ n′ keys′ answer′ : List ℕ) (e : byteOutcome number settings′ n′ keys′ answer′ ≡ wordsServed settings n keys line answer) (f : n ≡ numbersFrom k rows) (l : length settings ≡ 688) where
-  abbrev o : Outcome
-  o = outcome (settingsOf settings) n keys line answer
+module _ (k number : ℕ) (settings rows keys n settings′ n′ keys′ answer′ : List ℕ) (g : Call) (e : byteOutcome number (asBytes settings′ n′ keys′) answer′ ≡ wordsServed (asBytes settings n keys) g) (f : n ≡ numbersFrom k rows) (l : length settings ≡ settingsLength) where
+  abbrev b : Bytes
+  b = asBytes settings rows keys
 
-  words-are : byteOutcome number settings′ n′ keys′ answer′ ≡ outcomeWords o settings n keys answer
-  unfolding wordsServed
-  words-are = rw (eq-eqb (length settings) 688 l) at e
+  spelled : rowsSpelled rows (byteOutcome number (asBytes settings′ n′ keys′) answer′) ≡ spelledServed k b g
+  spelled = ap (rowsSpelled rows) (rw f at e) ∙ sym (spelled-words k b g l)
 
-  -- what is left of the call but its rows, beside these
-  abbrev beside : List ℕ → ByteOutcome → ByteOutcome
-  beside rows′ b = byteOutcome (b .number) (b .settings) rows′ (b .keys) (b .answer)
+  pub spelled-refused : (number ≡ 0 → ⊥) → byteOutcome number (asBytes settings′ rows keys′) answer′ ≡ spelledServed k b g
+  spelled-refused z = rw (ne-eqb number 0 z) at spelled
 
-  pub spelled-refused : (number ≡ 0 → ⊥) → byteOutcome number settings′ rows keys′ answer′ ≡ spelledServed k settings rows keys line answer
-  spelled-refused z =
-      elim (either (eqb (o .number) 0)) [
-        | inl t ↦ absurd (z (ap (λ (b : ByteOutcome). b .number) (rw t at words-are)))
-        | inr t ↦ rw (← f, t) (ap (beside rows) (rw t at words-are))
-      ]
-
-  pub spelled-accepted : (rows′ : List ℕ) → number ≡ 0 → rows′ ≡ numbersBytes n′ → byteOutcome 0 settings′ rows′ keys′ answer′ ≡ spelledServed k settings rows keys line answer
-  spelled-accepted rows′ z g =
-      elim (either (eqb (o .number) 0)) [
-        | inl t ↦ let q = rw t at words-are in
-            rw (← f, t, g, ap (λ (b : ByteOutcome). b .rows) q) (rw z at (ap (beside (numbersBytes (o .numbers))) q))
-        | inr t ↦ absurd (eqb-false (o .number) 0 t (sym (ap (λ (b : ByteOutcome). b .number) (rw t at words-are)) ∙ z))
-      ]
+  pub spelled-accepted : (rows′ : List ℕ) → number ≡ 0 → rows′ ≡ numbersBytes n′ → byteOutcome 0 (asBytes settings′ rows′ keys′) answer′ ≡ spelledServed k b g
+  spelled-accepted rows′ z h = rw h (rw z at spelled)
 
 pub ruleset spelled-cases = (spelled-refused, spelled-accepted)
 
@@ -82,33 +65,33 @@ part-long rows room h =
     let n : length rows / 8 - 0 ≡ length rows / 8 = omega arith in
     rw n (length-take-le (length rows / 8) room h)
 
-pub part-few : (rows room : List ℕ) → length room ≡ 512 → length rows ≤ 4096 → length (midOf 0 (length rows / 8 - 0) room) ≡ length rows / 8
-part-few rows room e h = part-long rows room (omega arith)
-
-pub part-most : (rows room : List ℕ) → length room ≡ 8192 → length rows ≤ 65536 → length (midOf 0 (length rows / 8 - 0) room) ≡ length rows / 8
+pub part-most : (rows room : List ℕ) → length room ≡ 8192 → length rows ≤ tableLength → length (midOf 0 (length rows / 8 - 0) room) ≡ length rows / 8
 part-most rows room e h = part-long rows room (omega arith)
 
-module _ (o : ByteOutcome) (settings rows keys line answer room : List ℕ) where
+module _ (o : ByteOutcome) (settings rows keys room : List ℕ) (g : Call) where
+  abbrev served : ℕ → ByteOutcome
+  served k = spelledServed k (asBytes settings rows keys) g
+
   abbrev Part : Type 0
-  Part = o ≡ spelledServed (length (midOf 0 (length rows / 8 - 0) room)) settings rows keys line answer
+  Part = o ≡ served (length (midOf 0 (length rows / 8 - 0) room))
 
   abbrev All : Type 0
-  All = o ≡ spelledServed (length rows / 8) settings rows keys line answer
+  All = o ≡ served (length rows / 8)
 
   pub few-served : length room ≡ 512 → length rows ≤ 4096 → Part → All
-  few-served e h q = q ∙ ap (λ (k : ℕ). spelledServed k settings rows keys line answer) (part-few rows room e h)
+  few-served e h q = q ∙ ap served (part-long rows room (omega arith))
 
-  pub most-served : length room ≡ 8192 → length rows ≤ 65536 → Part → All
-  most-served e h q = q ∙ ap (λ (k : ℕ). spelledServed k settings rows keys line answer) (part-most rows room e h)
+  pub most-served : length room ≡ 8192 → length rows ≤ tableLength → Part → All
+  most-served e h q = q ∙ ap served (part-most rows room e h)
 
 -- ## A row's key
 
-pub key-spelled : (k i : ℕ) (s : Settings) (settings rows n keys key : List ℕ) → key ≡ keyOf s n keys i → s ≡ settingsOf settings → n ≡ numbersFrom k rows
-    → length key ≡ length (spelledKey k settings rows keys i)
+pub key-spelled : (k i : ℕ) (s : Settings) (settings rows n keys key : List ℕ) → key ≡ keyOf (lent s n keys) i → s ≡ settingsOf settings → n ≡ numbersFrom k rows
+    → length key ≡ length (keyOf (spelledBy k (asBytes settings rows keys)) i)
 key-spelled k i s settings rows n keys key e d f = rw (e, d, f)
 
-pub key-served : (r i k n : ℕ) (settings rows keys : List ℕ) → r ≡ length (spelledKey n settings rows keys i) → n ≡ k → r ≡ length (spelledKey k settings rows keys i)
-key-served r i k n settings rows keys q e = q ∙ ap (λ (m : ℕ). length (spelledKey m settings rows keys i)) e
+pub key-served : (r i k n : ℕ) (b : Bytes) → r ≡ length (keyOf (spelledBy n b) i) → n ≡ k → r ≡ length (keyOf (spelledBy k b) i)
+key-served r i k n b q e = q ∙ ap (λ (m : ℕ). length (keyOf (spelledBy m b) i)) e
 
 -- The length of a choice is the choice of the lengths.
 pub length-pick : (r : ℕ) (t : Bool) (a b : List ℕ) → r ≡ pick t (length a) (length b) → r ≡ length (pick t a b)
@@ -122,6 +105,6 @@ pub cleared : (b exit : List ℕ) → exit ≡ movedDown (length b) b → exit �
 unfolding movedDown
 cleared b exit e = e ∙ rw drop-length
 
-pub fresh-left : (s : Settings) (settings rows keys settings′ rows′ keys′ : List ℕ) → s ≡ freshSettings → settings′ ≡ settingsBytes s → rows′ ≡ replicate (length rows) 0 → keys′ ≡ replicate (length keys) 0
-    → freshOutcome 0 settings′ rows′ keys′ ≡ freshOutcome 0 (settingsBytes freshSettings) (replicate (length rows) 0) (replicate (length keys) 0)
-fresh-left s settings rows keys settings′ rows′ keys′ f e g h = rw (g, h, e, f)
+pub fresh-left : (s : Settings) (rows keys settings′ rows′ keys′ : List ℕ) → s ≡ freshSettings → settings′ ≡ settingsBytes s → rows′ ≡ replicate (length rows) 0 → keys′ ≡ replicate (length keys) 0
+    → freshOutcome 0 (asBytes settings′ rows′ keys′) ≡ freshOutcome 0 (asBytes (settingsBytes freshSettings) (replicate (length rows) 0) (replicate (length keys) 0))
+fresh-left s rows keys settings′ rows′ keys′ f e g h = rw (g, h, e, f)

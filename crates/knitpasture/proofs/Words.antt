@@ -1,67 +1,58 @@
 -- Of every call over numbers: its number is 0 to 12, and a refusal leaves every buffer as it was. A call over bytes is the call over the numbers that they spell, its rows spelled again.
 use Prim.Native.Nat.{ℕ, _/_, _%_, _≤_}
-use mathlib.Core.Path.{_≡_}
+use mathlib.Core.Path.{_≡_, refl, _∙_}
 use mathlib.Core.Logic.{inl, inr}
 use mathlib.Core.List.{List}
 use native.Mathlib.Omega.{arith}
 use lib.Dec.{eqb}
 use lib.ListN.{length}
-use borrow.Author.Tests.{eq-eqb, le-ltb}
+use borrow.Author.Tests.{eqb-true, eq-eqb}
 use Rattle.buffers.specs.Choices.{pick}
 use Rattle.buffers.proofs.Tests.{either}
-use Rattle.settings.specs.Bytes.{settingsOf}
-use Rattle.outcome.specs.Outcome.{Outcome, outcome}
-use Rattle.outcome.proofs.Demands.{refusal-range, outcome-number}
-use Rattle.knitpasture.specs.Bytes.{numbersFrom, numbersBytes, ByteOutcome, byteOutcome, wordsServed, hubServed}
+use Rattle.model.specs.Refusals.{lastRefusal}
+use Rattle.settings.specs.Bytes.{settingsLength, settingsOf}
+use Rattle.bucket.specs.Whole.{lent}
+use Rattle.outcome.specs.Calls.{Call}
+use Rattle.outcome.specs.Outcome.{outcome}
+use Rattle.knitpasture.specs.Bytes.{numbersFrom, numbersBytes, tableLength, Bytes, asBytes, spelledBy, ByteOutcome, byteOutcome, wordsServed, spelledServed, hubServed}
+use Rattle.knitpasture.proofs.Left.{pick-ways, reads-as, RefusalKeeps, left-kept, left-range}
 
--- what a call over numbers leaves, its rows as bytes: those after an accepted line, else those before it
-abbrev pub rowsSpelled : List ℕ → ByteOutcome → ByteOutcome
-rowsSpelled rows w = byteOutcome (w .number) (w .settings) (pick (eqb (w .number) 0) (numbersBytes (w .rows)) rows) (w .keys) (w .answer)
-
-pub words-as-bytes : (settings rows keys line answer : List ℕ) → length rows ≤ 65536 → length rows % 8 ≡ 0
-    → hubServed settings rows keys line answer ≡ rowsSpelled rows (wordsServed settings (numbersFrom (length rows / 8) rows) keys line answer)
-unfolding hubServed wordsServed
-words-as-bytes settings rows keys line answer m e =
-    let o : Outcome = outcome (settingsOf settings) (numbersFrom (length rows / 8) rows) keys line answer in
-    elim (either (eqb (length settings) 688)) [
-      | inl t ↦ elim (either (eqb (o .number) 0)) [
-        | inl u ↦ simp (t, le-ltb 65536 (length rows) m, eq-eqb (length rows % 8) 0 e, u)
-        | inr u ↦ simp (t, le-ltb 65536 (length rows) m, eq-eqb (length rows % 8) 0 e, u)
-      ]
-      | inr t ↦ rw t
-    ]
-
-module _ (settings numbers keys line answer : List ℕ) where
-  -- the outcome of the line on what the settings' bytes spell
-  abbrev core : Outcome
-  core = outcome (settingsOf settings) numbers keys line answer
-
-  abbrev call : ByteOutcome
-  call = wordsServed settings numbers keys line answer
-
-  core-most : core .number ≤ 12
-  core-most = rw (outcome-number (settingsOf settings) numbers keys line answer) (refusal-range (settingsOf settings) numbers keys line answer)
-
+module _ (b : Bytes) (g : Call) where
   -- Demand 1, over numbers: the number is 0 to 12.
-  pub words-range : call .number ≤ 12
+  pub words-range : (wordsServed b g) .number ≤ lastRefusal
   unfolding wordsServed
   words-range =
-      elim (either (eqb (length settings) 688)) [
-        | inl t ↦ elim (either (eqb (core .number) 0)) [
-          | inl u ↦ simp (t, u) (omega arith)
-          | inr u ↦ simp (t, u) core-most
-        ]
-        | inr t ↦ rw t (omega arith)
-      ]
+      pick-ways (λ (x : ByteOutcome). x .number ≤ lastRefusal) (eqb (length (b .settings)) settingsLength)
+      (λ _. left-range _ _ b g) (λ _. omega arith)
 
-  -- A number other than 0 leaves every buffer as it was.
-  pub words-kept : (call .number ≡ 0 → ⊥) → call ≡ byteOutcome (call .number) settings numbers keys answer
+  pub words-kept : RefusalKeeps b (g .answer) (wordsServed b g)
   unfolding wordsServed
-  words-kept z =
-      elim (either (eqb (length settings) 688)) [
-        | inl t ↦ elim (either (eqb (core .number) 0)) [
-          | inl u ↦ absurd (z (simp (t, u)))
-          | inr u ↦ simp (t, u)
-        ]
-        | inr t ↦ rw t
-      ]
+  words-kept =
+      pick-ways (RefusalKeeps b (g .answer)) (eqb (length (b .settings)) settingsLength)
+      (λ _. left-kept _ (outcome (lent (settingsOf (b .settings)) (b .rows) (b .keys)) g) b (g .answer)) (λ _ _. refl)
+
+-- what a call over numbers leaves, its rows as bytes: those after an accepted call, else those before it
+abbrev pub rowsSpelled : List ℕ → ByteOutcome → ByteOutcome
+rowsSpelled rows w = byteOutcome (w .number) (asBytes (w .bytes .settings) (pick (eqb (w .number) 0) (numbersBytes (w .bytes .rows)) rows) (w .bytes .keys)) (w .answer)
+
+-- the bytes with n numbers that their rows spell
+abbrev pub asNumbers : ℕ → Bytes → Bytes
+asNumbers n b = asBytes (b .settings) (numbersFrom n (b .rows)) (b .keys)
+
+pub spelled-words : (n : ℕ) (b : Bytes) (g : Call) → length (b .settings) ≡ settingsLength → spelledServed n b g ≡ rowsSpelled (b .rows) (wordsServed (asNumbers n b) g)
+unfolding wordsServed
+spelled-words n b g l =
+    elim (either (eqb ((outcome (spelledBy n b) g) .number) 0)) [
+      | inl t ↦ simp (eq-eqb (length (b .settings)) settingsLength l, t)
+      | inr t ↦ simp (eq-eqb (length (b .settings)) settingsLength l, t)
+    ]
+
+pub words-as-bytes : (b : Bytes) (g : Call) → length (b .rows) ≤ tableLength → length (b .rows) % 8 ≡ 0 → hubServed b g ≡ rowsSpelled (b .rows) (wordsServed (asNumbers (length (b .rows) / 8) b) g)
+unfolding hubServed wordsServed
+words-as-bytes b g m e =
+    elim (either (eqb (length (b .settings)) settingsLength)) [
+      | inl t ↦
+          let l = eqb-true (length (b .settings)) settingsLength t in
+          reads-as b g (record { settings-long = l; rows-most = m; rows-even = e }) ∙ spelled-words (length (b .rows) / 8) b g l
+      | inr t ↦ rw t
+    ]

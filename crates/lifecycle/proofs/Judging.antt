@@ -14,7 +14,6 @@ use Rattle.buffers.proofs.Lists.{same-path}
 use Rattle.buffers.proofs.Parts.{part-first}
 use Rattle.blocks.specs.Blocks.{keyIn, isBlock}
 use Rattle.blocks.proofs.Blocks.{block-short}
-use Rattle.model.specs.Rows.{Row}
 use Rattle.model.specs.Settings as model
 use Rattle.model.specs.Sweep.{fate, fates}
 use Rattle.table.specs.Layout.{rowAt, rowsOf}

@@ -6,3 +6,4 @@ pub mod Words
 pub mod Fates
 pub mod RowFates
 pub mod Judging
+pub mod Wrapping

@@ -61,13 +61,13 @@ fn current_fate(rows: &[u64], at: usize, days: u64, instant: u64) -> u8
     ensures { λ r. ⌜ ((keys : List ℕ) → r ≡ fateByte (currentBy days instant (rowAt (now (rows .entry)) keys at))) ⌝ }
 {
     let n = table::numbers_at(rows, at);
-    if n.kind != 1 {
-        return 0;
+    if n.kind != model::DATA {
+        return model::STAYS;
     }
     if is_over(days, n.created, instant) {
-        return 2;
+        return model::GAINS;
     }
-    0
+    model::STAYS
 }
 
 // The fate of a row that isn't current, by its key's days since the creation of the next newer row, the one before it.
@@ -79,11 +79,11 @@ fn noncurrent_fate(rows: &[u64], at: usize, days: u64, instant: u64) -> u8
     let newer = table::numbers_at(rows, at - 1);
     if is_over(days, newer.created, instant) {
         if locks::is_locked(n, instant, false) {
-            return 0;
+            return model::STAYS;
         }
-        return 1;
+        return model::GOES;
     }
-    0
+    model::STAYS
 }
 
 // The two blocks hold one key. Words are compared up to the key's end; the first that differs decides.
@@ -185,7 +185,7 @@ fn judge_rows(
 fn removes(fate: u8) -> usize
     ensures { λ r. ⌜ Within r (removes (fateOf fate)) 1 ⌝ }
 {
-    if fate == 1 {
+    if fate == model::GOES {
         return 1;
     }
     0
@@ -195,13 +195,13 @@ fn removes(fate: u8) -> usize
 fn marks(fate: u8) -> usize
     ensures { λ r. ⌜ Within r (marks (fateOf fate)) 1 ⌝ }
 {
-    if fate == 2 {
+    if fate == model::GAINS {
         return 1;
     }
     0
 }
 
-// Passes eight fates at a time, as long as all of them are 0, and returns where the others start.
+// Passes eight fates at a time, as long as all of them stay, and returns where the others start.
 fn pass_zeros(fates: &[u8], from: usize, used: usize) -> usize
     requires { ⌜ (from ≤ used) × (used ≤ length (now fates)) ⌝ }
     ensures { λ r. ⌜ Passed (now (fates .entry)) from r used ⌝ }
@@ -232,7 +232,7 @@ fn count(fates: &[u8], used: usize) -> Counts
     Counts { removed, added }
 }
 
-// Judges every row, each key's rules once, and counts. A fate is 0 for a row that stays, 1 for one that goes, 2 for one that gains a marker.
+// Judges every row, each key's rules once, and counts.
 pub fn judge_table(
     rows: &[u64],
     keys: &[u8],

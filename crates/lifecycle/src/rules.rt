@@ -27,17 +27,11 @@ pub fn no_days() -> [u64; 16]
     [0u64; 16]
 }
 
-// The lesser of two numbers of days, of which 0 stand for no action.
+// The lesser of two numbers of days, of which 0 stand for no action: less one, it wraps round to the largest number.
 fn lesser(a: u64, b: u64) -> u64
     ensures { λ r. ⌜ r ≡ lesser a b ⌝ }
 {
-    if a == 0 {
-        return b;
-    }
-    if b == 0 {
-        return a;
-    }
-    if a < b {
+    if std::num::wrapping_sub_u64(a, 1) < std::num::wrapping_sub_u64(b, 1) {
         return a;
     }
     b

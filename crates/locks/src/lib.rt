@@ -28,7 +28,7 @@ pub enum NewLock {
 pub fn is_locked(n: Numbers, instant: u64, bypass: bool) -> bool
     ensures { λ r. ⌜ ((k : List ℕ) → r ≡ locked instant «bypass» (rowFrom n k)) ⌝ }
 {
-    (n.hold == 1) | ((instant < n.until) & ((n.mode == 2) | ((n.mode == 1) & !bypass)))
+    (n.hold == 1) | ((instant < n.until) & ((n.mode == model::COMPLIANCE) | ((n.mode == model::GOVERNANCE) & !bypass)))
 }
 
 // The mode given is COMPLIANCE.
@@ -61,7 +61,7 @@ pub fn is_admitted(n: Numbers, instant: u64, bypass: bool, r: Retention) -> bool
     if n.until <= instant {
         return true;
     }
-    if n.mode == 2 {
+    if n.mode == model::COMPLIANCE {
         return gives_compliance(mode) & is_no_earlier(until, n.until);
     }
     if bypass {
@@ -94,7 +94,7 @@ pub fn new_lock(s: State, r: Retention, instant: u64) -> NewLock
     let until = r.until;
     match mode {
         Mode::Missing => default_lock(s, instant),
-        Mode::Governance => NewLock::Lock(1, fields::date_number(until)),
-        Mode::Compliance => NewLock::Lock(2, fields::date_number(until)),
+        Mode::Governance => NewLock::Lock(model::GOVERNANCE, fields::date_number(until)),
+        Mode::Compliance => NewLock::Lock(model::COMPLIANCE, fields::date_number(until)),
     }
 }

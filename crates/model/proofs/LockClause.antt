@@ -7,7 +7,6 @@ use mathlib.Core.List.{List, [], _∷_, _++_, append-assoc, append-nil, nil≢co
 use native.Mathlib.Omega.{arith}
 use lib.Dec.{eqb}
 use borrow.Author.Tests.{eqb-true, not-true}
-use Rattle.buffers.specs.Choices.{pick}
 use Rattle.buffers.proofs.Tests.{either}
 use Rattle.model.specs.Rows.{Row, governance, compliance}
 use Rattle.model.specs.Settings.{Bucket, fresh}

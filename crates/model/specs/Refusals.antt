@@ -194,9 +194,13 @@ requestChecks c b (says q) =
 abbrev pub lastRefusal : ℕ
 lastRefusal = 12
 
+-- The least length of an answer buffer.
+abbrev pub leastRoom : ℕ
+leastRoom = 256
+
 -- The conditions in 01's order; whether the whole is sound is told apart, since buffers hold more than the bucket.
 abbrev pub checks : Bool → ℕ → Bucket → Heard → List Check
-checks whole c b l = check 1 (not whole) ∷ check 2 (ltb (roomOf l) 256) ∷ requestChecks c b l
+checks whole c b l = check 1 (not whole) ∷ check 2 (ltb (roomOf l) leastRoom) ∷ requestChecks c b l
 
 -- The refusal: the first condition that holds, or 0.
 unfoldable pub refusal : ℕ → Bucket → Heard → ℕ

@@ -35,6 +35,13 @@ pub const GOVERNANCE: u64 = 1;
 
 pub const COMPLIANCE: u64 = 2;
 
+// The fates of a row in a sweep: it stays, it goes, it gains a marker.
+pub const STAYS: u8 = 0;
+
+pub const GOES: u8 = 1;
+
+pub const GAINS: u8 = 2;
+
 // The largest length of a body, in bytes.
 pub const LARGEST_SIZE: u64 = 5497558138880;
 

@@ -18,7 +18,7 @@ use Rattle.text.proofs.Fields.{place-within, place-field}
 use Rattle.calendar.specs.Calendar.{latest}
 use Rattle.dates.specs.Reading.{readDate}
 use Rattle.dates.proofs.Reading.{read-most}
-use Rattle.model.specs.Settings.{days, years, isPeriod}
+use Rattle.model.specs.Settings.{largestNumber, spentNumber, days, years, isPeriod}
 use Rattle.model.specs.Rows.{bodies}
 use Rattle.model.specs.Requests.{numbered, isVersion, isName, isModeField, isDateField, isRetention, isPeriodField, inRange}
 use Rattle.fields.specs.declared.Version.{Version}
@@ -105,10 +105,10 @@ module _ (s : List ℕ) where
   clock-in : (t : ℕ) → readDate s ≡ some t → leb t latest ≡ true
   clock-in t e = le-leb t latest (read-most s t e)
 
-  numbered-in : (n : ℕ) → positiveOf 4294967295 s ≡ some n → isVersion (some (numbered n)) ≡ true
+  numbered-in : (n : ℕ) → positiveOf largestNumber s ≡ some n → isVersion (some (numbered n)) ≡ true
   numbered-in n e =
-      let h = positive-range 4294967295 s n e in
-      and-i (leb 1 n) _ (le-leb 1 n (h .from)) (lt-ltb n 4294967296 (omega arith))
+      let h = positive-range largestNumber s n e in
+      and-i (leb 1 n) _ (le-leb 1 n (h .from)) (lt-ltb n spentNumber (omega arith))
 
   days-in : (n : ℕ) → positiveOf 36500 s ≡ some n → isPeriod n days ≡ true
   days-in n e = let h = positive-range 36500 s n e in rw (le-leb 1 n (h .from), le-leb n 36500 (h .to))

@@ -8,7 +8,7 @@ use Rattle.buffers.specs.Choices.{pick, thenSome, isSome}
 use Rattle.calendar.specs.declared.Now.{Now}
 use Rattle.model.specs.Settings.{Config}
 use Rattle.model.specs.Requests as model
-use Rattle.model.specs.Refusals.{firstOf, fieldChecks}
+use Rattle.model.specs.Refusals.{firstOf, fieldChecks, leastRoom}
 use Rattle.model.specs.Time.{nowAt}
 use Rattle.settings.specs.declared.State.{State}
 use Rattle.fields.specs.declared.Rights.{Rights}
@@ -42,7 +42,7 @@ screenedAs n v when = pick (eqb n 0) (Passed v when) (Refused n)
 -- what a line comes to by refusals 2 to 6
 unfoldable pub screenedLine : Config → ℕ → List ℕ → ℕ → Screened
 screenedLine s time line room =
-    pick (ltb room 256) (Refused 2)
+    pick (ltb room leastRoom) (Refused 2)
     (thenSome (requestIn line) (Refused 3) (λ q.
     screenedAs (requestRefusal s time line q) (q .verb) (nowAt time (q .clock))))
 

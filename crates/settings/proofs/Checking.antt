@@ -79,8 +79,8 @@ prefixes-last t n m d p r =
 
 pub settings-checked : (s : Settings) (d r : Bool) → d ≡ model.soundDefault (record { mode = s .mode; count = s .count; unit = s .unit })
     → r ≡ prefixesAre (s .rules) && model.soundRules (rulesMean (s .rules))
-    → (leb (s .time) latest && (leb 1 (s .next) && (leb (s .next) 4294967296 && (d && r)))) ≡ settingsSound s
+    → (leb (s .time) latest && (leb 1 (s .next) && (leb (s .next) model.spentNumber && (d && r)))) ≡ settingsSound s
 unfolding settingsSound model.soundConfig
 settings-checked s d r e f =
     let default = model.soundDefault (record { mode = s .mode; count = s .count; unit = s .unit }) in
-    rw (e, f) (prefixes-last (leb (s .time) latest) (leb 1 (s .next)) (leb (s .next) 4294967296) default (prefixesAre (s .rules)) (model.soundRules (rulesMean (s .rules))))
+    rw (e, f) (prefixes-last (leb (s .time) latest) (leb 1 (s .next)) (leb (s .next) model.spentNumber) default (prefixesAre (s .rules)) (model.soundRules (rulesMean (s .rules))))

@@ -2,7 +2,7 @@
 use Prim.Native.Nat.{_+_, _-_}
 use lib.ListN.{length}
 use Rattle.text.specs.Lines.{linesOf}
-use Rattle.outcome.specs.Calls.{lent}
+use Rattle.bucket.specs.Whole.{lent}
 use Rattle.guarantee.specs.Lists.{servedLines, Serving}
 use Rattle.guarantee.proofs.Lines.{serving}
 use borrow.Author.Needs.{needs}
@@ -11,7 +11,7 @@ use Rattle.guarantee.proofs.serve_each.Tie as tie
 
 abbrev Inv-loop : tie.InvT-loop
 Inv-loop rows₀ keys₀ text answer₀ after₀ i₀ rows keys answer after i =
-    Serving text (servedLines (lent after₀ rows₀ keys₀) answer₀ (linesOf text)) rows₀ keys₀ answer₀ i after rows keys answer
+    Serving text (servedLines (lent after₀ rows₀ keys₀) answer₀ (linesOf text)) (lent after₀ rows₀ keys₀) answer₀ i (lent after rows keys) answer
 
 abbrev μ-loop : tie.MeasureT-loop
 μ-loop rows₀ keys₀ text answer₀ after₀ i₀ rows keys answer after i = length text + 1 - i

@@ -17,7 +17,7 @@ use ghost.Atoms.{Atoms, sem}
 use contract.Lifetimes.{Lfts}
 use contract.Monad.{Fun, fact}
 use contract.Running.{givenOf, tables, tablesOf}
-use types.Kit.{Given, Item, ‵, raw, given, _⊛_, some, later, _$_, _∵_, !, qed, by, move, keep, drop, use1, use2, split, join, pick, fsplit, fsplit3, fjoin, fjoin3, feqI, feqL, suffices, frame, await, rewrite, done, ⋆}
+use types.Kit.{Given, Item, ‵, raw, _⊛_, some, later, _$_, _∵_, !, qed, by, move, keep, drop, use1, use2, split, join, pick, fsplit, fsplit3, fjoin, fjoin3, feqI, feqL, suffices, frame, await, rewrite, done, ⋆}
 use types.Run.{look, look-raw, init, store-raw, forget, stop, hop, fld, from, load, addr, of-opd, and-then, no-more, assigns, land, returns, enter, alloc1, alloc0, params1, pass1, pass0, free1, free0}
 use types.Part.{agg, whole, sub, look-in}
 use types.SemTy.{Body}
@@ -41,6 +41,8 @@ use denote.Triple.Table.{entered, cited}
 use denote.Triple.Walked.{says, Stays, stay-ref, stay-none-slice, gave-slice, walkOf, AllGo, goes-ref, goes-none-slice, goes-gave-slice, Walks, ends-at, walked, walk-meets}
 use denote.Exit.{yes}
 use Rattle.settings.specs.declared.Settings.{Settings}
+use Rattle.bucket.specs.Whole.{lent}
+use Rattle.outcome.specs.Calls.{call}
 use Rattle.outcome.specs.Outcome.{outcome}
 use Rattle.engine.specs.Served.{outcomeFrom}
 use Rattle.knitpasture.specs.Lent.{lentOutcomeFrom}
@@ -121,7 +123,7 @@ module _ {M : Type 1} (𝓤 : URA M) (H : Heap 𝓤) (A : Atoms 𝓤) (W : Given
 
   abbrev Says : Served → Lasts → Type 0
   Says r zs =
-      outcomeFrom r (zs .1 .0) (zs .1 .1 .0) (zs .1 .1 .1 .1 .0) ≡ outcome h (x₁ .now) (x₂ .now) (x₃ .now) (x₄ .now)
+      outcomeFrom r (zs .1 .0) (zs .1 .1 .0) (zs .1 .1 .1 .1 .0) ≡ outcome (lent h (x₁ .now) (x₂ .now)) (call (x₃ .now) (x₄ .now))
 
   asked : ent 𝓤 (sep 𝓤 (sep 𝓤 (A .lft κ₁ q₁) (sep 𝓤 (A .lft κ₂ q₂) (sep 𝓤 (A .lft κ₃ q₃) (sep 𝓤 (A .lft κ₄ q₄) (sem 𝓤 H A ftrue))))) (sem 𝓤 H A whole-own)) (Serve 𝓤 H A at-mem run .pre to)
   asked = qed W (toks ∷ ‵ whole-own ∷ []) ∵ join ! $ frame ! $ done !
