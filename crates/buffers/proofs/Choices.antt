@@ -7,6 +7,11 @@ use lib.Dec.{ltb, eqb}
 use borrow.Author.Tests.{lt-ltb, le-ltb, eq-eqb, ne-eqb}
 use Rattle.buffers.specs.Choices.{pick}
 
+-- What holds of both choices holds of the choice.
+pub pick-ways : {A : Type 0} {x y : A} (P : A → Type 0) (t : Bool) → (t ≡ true → P x) → (t ≡ false → P y) → P (pick t x y)
+pick-ways P true f g = f refl
+pick-ways P false f g = g refl
+
 module _ (A : Type 0) (v x y : A) where
   pub pick-yes : (r t : Bool) → r ≡ t → r ≡ true → v ≡ x → v ≡ pick t x y
   pick-yes r t e h q = cc

@@ -9,6 +9,7 @@ use lib.Dec.{eqb, ltb}
 use lib.ListN.{length}
 use borrow.Author.Tests.{eqb-true, eqb-false, ltb-false}
 use Rattle.buffers.proofs.Tests.{either}
+use Rattle.buffers.proofs.Choices.{pick-ways}
 use Rattle.model.specs.Run.{left}
 use Rattle.model.specs.LockClause.{Kept}
 use Rattle.model.proofs.Runs.{left-as, gathered-as}
@@ -21,7 +22,7 @@ use Rattle.outcome.specs.Outcome.{Outcome, outcome}
 use Rattle.outcome.proofs.Deciding.{outcome-1}
 use Rattle.outcome.proofs.Demands.{outcome-refused, accepted-of-whole}
 use Rattle.knitpasture.specs.Bytes.{numbersFrom, tableLength, Bytes, lentOf, ByteOutcome, byteOutcome, outcomeBytes, hubServed, fitRows, FreshOutcome, freshOutcome, hubFresh}
-use Rattle.knitpasture.proofs.Left.{pick-ways, Fitting, spelling-ways, reads-as, left-number}
+use Rattle.knitpasture.proofs.Left.{Fitting, spelling-ways, reads-as, left-number}
 use Rattle.knitpasture.proofs.Hub.{HandsOn, hub-range, hub-refused, hub-hands-on}
 use Rattle.knitpasture.proofs.FreshBucket.{fresh-made, fresh-hands-on}
 use Rattle.guarantee.specs.Calls.{step, callEvent, callEvents}

@@ -1,12 +1,11 @@
 -- What is left by a call over bytes: by lengths that fit or do not, and by a call that is accepted or refused.
 use Prim.Native.Nat.{ℕ, _%_, _≤_}
 use mathlib.Core.Path.{_≡_, refl, sym}
-use mathlib.Core.Bool.{Bool, true, false}
 use mathlib.Core.List.{List}
 use lib.Dec.{eqb, ltb}
 use lib.ListN.{length}
 use borrow.Author.Tests.{eqb-true, eqb-false, ltb-false, eq-eqb, le-ltb}
-use Rattle.buffers.specs.Choices.{pick}
+use Rattle.buffers.proofs.Choices.{pick-ways}
 use Rattle.model.specs.Refusals.{lastRefusal}
 use Rattle.settings.specs.Bytes.{settingsLength, settingsBytes}
 use Rattle.bucket.specs.Whole.{Lent}
@@ -14,11 +13,6 @@ use Rattle.outcome.specs.Calls.{Call}
 use Rattle.outcome.specs.Outcome.{Outcome, outcome}
 use Rattle.outcome.proofs.Demands.{refusal-range, outcome-number}
 use Rattle.knitpasture.specs.Bytes.{tableLength, Bytes, asBytes, lentOf, spelling, ByteOutcome, byteOutcome, outcomeLeft, outcomeBytes, hubServed}
-
--- What holds of both choices holds of the choice.
-pub pick-ways : {A : Type 0} {x y : A} (P : A → Type 0) (t : Bool) → (t ≡ true → P x) → (t ≡ false → P y) → P (pick t x y)
-pick-ways P true f g = f refl
-pick-ways P false f g = g refl
 
 -- ## The lengths
 

@@ -5,14 +5,14 @@ use mathlib.Core.Bool.{true}
 use mathlib.Core.List.{List, [], _∷_, _++_, append-assoc, append-nil}
 use native.Mathlib.Omega.{arith}
 use native.Mathlib.Numerals.{add-one}
-use lib.ListN.{length, getD, take, drop, set, replicate, length-append, length-take, length-drop, take-append-drop}
-use lib.Seq.{take-suc, take-suc-set, take-all, take-at, drop-at, drop-drop, getD-drop}
+use lib.ListN.{length, getD, take, drop, set, replicate, length-append, length-take}
+use lib.Seq.{take-suc, take-suc-set, take-all, take-at, drop-at, drop-drop}
 use borrow.Author.Tests.{ltb-true}
 use Rattle.buffers.specs.Lists.{all}
-use Rattle.buffers.specs.Words.{number, spelled, AllBytes}
+use Rattle.buffers.specs.Words.{number, spelled}
 use Rattle.buffers.specs.Writes.{Wrote}
 use Rattle.buffers.proofs.Tests.{and-l, and-r}
-use Rattle.buffers.proofs.Words.{length-spelled, number-spelled, spelled-number}
+use Rattle.buffers.proofs.Words.{length-spelled, number-spelled}
 use Rattle.buffers.proofs.Writes.{wrote-both, wrote-as}
 use Rattle.settings.specs.Bytes.{isWord}
 use Rattle.settings.proofs.Decoding.{filled}
@@ -106,26 +106,6 @@ numbers-back (n ∷ ns) h =
     let b : n < 18446744073709551616 = ltb-true n 18446744073709551616 (and-l _ _ h) in
     ap₂ (λ (x : ℕ) (l : List ℕ). x ∷ l) (ap number t ∙ number-spelled 8 n (omega arith))
     (ap (numbersFrom (length ns)) d ∙ numbers-back ns (and-r (isWord n) _ h))
-
-bytes-take : (n : ℕ) (b : List ℕ) → AllBytes b → AllBytes (take n b)
-bytes-take zero b h k = omega arith
-bytes-take (suc n) [] h k = omega arith
-bytes-take (suc n) (x ∷ b) h zero = h 0
-bytes-take (suc n) (x ∷ b) h (suc k) = bytes-take n b (λ i. h (suc i)) k
-
-bytes-drop : (n : ℕ) (b : List ℕ) → AllBytes b → AllBytes (drop n b)
-bytes-drop n b h k = rw getD-drop (h (n + k))
-
--- Bytes that were read are written as themselves.
-pub bytes-back : (k : ℕ) (b : List ℕ) → length b ≡ 8 * k → AllBytes b → numbersBytes (numbersFrom k b) ≡ b
-unfolding numbersFrom numbersBytes
-bytes-back zero [] e h = refl
-bytes-back zero (x ∷ b) e h = absurd (omega arith)
-bytes-back (suc k) b e h =
-    let l : length (take 8 b) ≡ 8 = simp length-take (omega arith) in
-    let d : length (drop 8 b) ≡ 8 * k = simp length-drop (omega arith) in
-    let w : spelled 8 (number (take 8 b)) ≡ take 8 b = rw l at (spelled-number (take 8 b) (bytes-take 8 b h)) in
-    rw (w, bytes-back k (drop 8 b) d (bytes-drop 8 b h)) (take-append-drop 8 b)
 
 -- Zeros are written as zeros.
 pub zeros-written : (k : ℕ) → numbersBytes (replicate k 0) ≡ replicate (8 * k) 0

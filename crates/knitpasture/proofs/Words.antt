@@ -9,13 +9,14 @@ use lib.ListN.{length}
 use borrow.Author.Tests.{eqb-true, eq-eqb}
 use Rattle.buffers.specs.Choices.{pick}
 use Rattle.buffers.proofs.Tests.{either}
+use Rattle.buffers.proofs.Choices.{pick-ways}
 use Rattle.model.specs.Refusals.{lastRefusal}
 use Rattle.settings.specs.Bytes.{settingsLength, settingsOf}
 use Rattle.bucket.specs.Whole.{lent}
 use Rattle.outcome.specs.Calls.{Call}
 use Rattle.outcome.specs.Outcome.{outcome}
 use Rattle.knitpasture.specs.Bytes.{numbersFrom, numbersBytes, tableLength, Bytes, asBytes, spelledBy, ByteOutcome, byteOutcome, wordsServed, spelledServed, hubServed}
-use Rattle.knitpasture.proofs.Left.{pick-ways, reads-as, RefusalKeeps, left-kept, left-range}
+use Rattle.knitpasture.proofs.Left.{reads-as, RefusalKeeps, left-kept, left-range}
 
 module _ (b : Bytes) (g : Call) where
   -- Demand 1, over numbers: the number is 0 to 12.

@@ -3,12 +3,12 @@ use Prim.Native.Nat.{ℕ, _+_, _≤_}
 use mathlib.Core.Path.{_≡_, refl}
 use mathlib.Core.Logic.{inl, inr}
 use mathlib.Core.Bool.{Bool, true, false, _&&_, true≢false}
-use mathlib.Core.List.{List, [], _∷_}
+use mathlib.Core.List.{List}
 use mathlib.Core.Option.{Option, some, none}
 use native.Mathlib.Omega.{arith}
 use lib.Dec.{eqb, leb, ltb}
 use lib.ListN.{length, set, length-set}
-use borrow.Author.Tests.{eqb-true, ltb-false, leb-true, le-leb, not-false}
+use borrow.Author.Tests.{ltb-false, leb-true, le-leb, not-false}
 use Rattle.buffers.specs.Choices.{pick, isSome, orZero}
 use Rattle.buffers.specs.Lists.{all}
 use Rattle.buffers.proofs.Tests.{either, and-i, and-l, and-r, or-r}
@@ -17,13 +17,12 @@ use Rattle.text.specs.Keys.{isKey, isPrefix}
 use Rattle.calendar.specs.declared.Now.{Now}
 use Rattle.calendar.specs.Calendar.{latest}
 use Rattle.model.specs.Rows.{Row, isMode, ordered, soundData, soundRow, bodies, largestSize}
-use Rattle.model.specs.Settings.{Rule, Config, Bucket, fresh, absentRule, spentNumber, isDays, isSet, soundDefault, soundRule, soundRules, soundConfig, fits, sound}
-use Rattle.model.specs.Requests.{Name, Retention, Terms, Period, Setting, DefaultRetention, LifecycleRule, Verb, Put, Copy, Retain, Hold, AddMarker, DeleteVersion, Set, Sweep, Ask, Context, Request, Heard, unreadable, says, isModeField, isPeriodField, isName, isRetention, isSetting, inRange}
+use Rattle.model.specs.Settings.{Rule, Config, Bucket, absentRule, spentNumber, isDays, isSet, soundDefault, soundRule, soundRules, soundConfig, fits, sound}
+use Rattle.model.specs.Requests.{Name, Retention, Terms, Period, Setting, DefaultRetention, LifecycleRule, Verb, Put, Copy, Retain, Hold, AddMarker, DeleteVersion, Set, Sweep, Ask, Context, Request, says, isModeField, isPeriodField, isName, isRetention, isSetting, inRange}
 use Rattle.model.specs.Time.{nowOf}
 use Rattle.model.specs.Sweep.{marks, counted}
 use Rattle.model.specs.Effects.{rowOf, isNamed, setRetention, setHold, holdNumber, added, rowsAfter, defaultFrom, setConfig, configAfter, after}
 use Rattle.model.specs.Refusals.{oneOf, settingHalf, halfGiven, pastDate, missing, namesMarker, tooLate, spends, full, refusal}
-use Rattle.model.specs.Run.{serve, run}
 use Rattle.model.proofs.Order.{all-insert, ordered-insert, ordered-keep, ordered-change}
 use Rattle.model.proofs.Sweeping.{all-swept, ordered-swept}
 use Rattle.model.proofs.Accepted.{Accepted, accepted-line}
@@ -203,28 +202,3 @@ sound-after c b q e =
     let s₆ = ordered-after c b (nowOf b g) (q .verb) w in
     let s₇ = rows-after c b g (nowOf b g) w (omega arith) (q .verb) p in
     search and-i depth 12
-
--- A line leaves a sound bucket sound.
-pub sound-line : (c : ℕ) (b : Bucket) (l : Heard) → sound c b ≡ true → sound c (serve c b l) ≡ true
-sound-line c b (unreadable room) s =
-    elim (either (eqb (refusal c b (unreadable room)) 0)) [
-      | inl e ↦ rw e s
-      | inr e ↦ rw e s
-    ]
-sound-line c b (says q) s =
-    elim (either (eqb (refusal c b (says q)) 0)) [
-      | inl e ↦ rw e (sound-after c b q (eqb-true (refusal c b (says q)) 0 e))
-      | inr e ↦ rw e s
-    ]
-
-pub sound-run : (c : ℕ) (b : Bucket) (ls : List Heard) → sound c b ≡ true → sound c (run c b ls) ≡ true
-sound-run c b [] s = s
-sound-run c b (l ∷ ls) s = sound-run c (serve c b l) ls (sound-line c b l s)
-
-pub fresh-sound : (c : ℕ) → sound c fresh ≡ true
-unfolding sound fits soundConfig soundRules isPrefix
-fresh-sound c = and-i (leb 0 c) _ (le-leb 0 c (omega arith)) refl
-
--- After any list of lines on a fresh bucket of any capacity the bucket is sound: refusal 1 is never met.
-pub always-sound : (c : ℕ) (ls : List Heard) → sound c (run c fresh ls) ≡ true
-always-sound c ls = sound-run c fresh ls (fresh-sound c)

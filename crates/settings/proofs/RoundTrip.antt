@@ -1,21 +1,20 @@
--- Settings that are written read as themselves, and 688 bytes that are read are written as themselves.
-use Prim.Native.Nat.{ℕ, zero, suc, _+_, _*_, _≤_}
-use mathlib.Core.Path.{_≡_, refl, sym}
+-- Settings that are written read as themselves.
+use Prim.Native.Nat.{ℕ, zero, suc, _+_, _*_}
+use mathlib.Core.Path.{_≡_, refl}
 use mathlib.Core.Bool.{true}
 use mathlib.Core.List.{List, [], _∷_, _++_, append-assoc}
 use native.Mathlib.Omega.{arith}
 use lib.Dec.{eqb}
-use lib.ListN.{length, take, drop, length-append, length-take, length-drop, take-append-drop, drop-of-length-le}
-use lib.Seq.{drop-drop, getD-drop}
+use lib.ListN.{length, length-append}
 use borrow.Author.Tests.{eqb-true, ltb-true}
 use Rattle.buffers.specs.Lists.{all}
-use Rattle.buffers.specs.Words.{number, spelled, AllBytes}
+use Rattle.buffers.specs.Words.{number, spelled}
 use Rattle.buffers.proofs.Tests.{and-both}
-use Rattle.buffers.proofs.Words.{length-spelled, number-spelled, spelled-number}
+use Rattle.buffers.proofs.Words.{length-spelled, number-spelled}
 use Rattle.buffers.proofs.Parts.{middle}
 use Rattle.settings.specs.declared.Settings.{Settings}
 use Rattle.settings.specs.declared.Rule.{Rule}
-use Rattle.settings.specs.Bytes.{ruleBytes, rulesBytes, settingsBytes, wordAt, ruleAt, settingsOf, isWord, ruleFits, settingsFit}
+use Rattle.settings.specs.Bytes.{ruleBytes, rulesBytes, settingsBytes, ruleAt, settingsOf, isWord, ruleFits, settingsFit}
 use Rattle.settings.proofs.Decoding.{rule-made, settings-made}
 use Rattle.settings.proofs.Encoding.{rule-length, whole-length}
 
@@ -131,52 +130,3 @@ settings-back s f =
     (word-back (s .count) (g .count))
     (word-back (s .unit) (g .unit))
     (rules-back (s .rules) head 8 48 refl (g .eight) (g .rules))
-
--- ## From bytes to settings and back
-
-bytes-take : (n : ℕ) (b : List ℕ) → AllBytes b → AllBytes (take n b)
-bytes-take zero b h k = omega arith
-bytes-take (suc n) [] h k = omega arith
-bytes-take (suc n) (x ∷ b) h zero = h 0
-bytes-take (suc n) (x ∷ b) h (suc k) = bytes-take n b (λ i. h (suc i)) k
-
--- A word that was read is written as itself.
-word-again : (a : ℕ) (b : List ℕ) → a + 8 ≤ length b → AllBytes b → spelled 8 (wordAt b a) ≡ take 8 (drop a b)
-word-again a b h k =
-    let n : length (take 8 (drop a b)) ≡ 8 = simp (length-take, length-drop) (omega arith) in
-    rw n at (spelled-number (take 8 (drop a b)) (bytes-take 8 (drop a b) (λ i. rw getD-drop (k (a + i)))))
-
--- A part and what stands behind it.
-cut : (a n m : ℕ) (b : List ℕ) → a + n ≡ m → take n (drop a b) ++ drop m b ≡ drop a b
-cut a n m b e = rw (← e, ← drop-drop n a b) (take-append-drop n (drop a b))
-
-rule-again : (a n : ℕ) (b : List ℕ) → a + 80 ≡ n → n ≤ length b → AllBytes b → ruleBytes (ruleAt b a) ++ drop n b ≡ drop a b
-rule-again a n b e h k =
-    rw (word-again (a + 64) b (omega arith) k, word-again (a + 72) b (omega arith) k, append-assoc, append-assoc, cut (a + 72) 8 n b (omega arith), cut (a + 64) 8 (a + 72) b (omega arith))
-    (cut a 64 (a + 64) b refl)
-
-rules-again : (k a : ℕ) (b : List ℕ) → a + 80 * k ≡ length b → AllBytes b → rulesBytes (rulesAt k a b) ≡ drop a b
-unfolding rulesAt
-rules-again zero a b e h = sym (drop-of-length-le b {i = a} (omega arith))
-rules-again (suc k) a b e h = rw (rules-again k (a + 80) b (omega arith) h) (rule-again a (a + 80) b refl (omega arith) h)
-
--- 688 bytes that were read are written as themselves.
-pub bytes-back : (b : List ℕ) → length b ≡ 688 → AllBytes b → settingsBytes (settingsOf b) ≡ b
-unfolding settingsOf settingsBytes rulesAt
-bytes-back b h k =
-    let r : rulesBytes (rulesAt 8 48 b) ≡ drop 48 b = rules-again 8 48 b (omega arith) k in
-    rw (
-      word-again 0 b (omega arith) k,
-      word-again 8 b (omega arith) k,
-      word-again 16 b (omega arith) k,
-      word-again 24 b (omega arith) k,
-      word-again 32 b (omega arith) k,
-      word-again 40 b (omega arith) k,
-      r,
-      cut 40 8 48 b refl,
-      cut 32 8 40 b refl,
-      cut 24 8 32 b refl,
-      cut 16 8 24 b refl,
-      cut 8 8 16 b refl,
-    )
-    (cut 0 8 8 b refl)
