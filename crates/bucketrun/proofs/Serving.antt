@@ -1,22 +1,23 @@
 -- Laws of the loops over a block: what holds between two lines, and between two parts.
 use Prim.Native.Nat.{ℕ, zero, suc, _+_, _-_, _≤_, _<_}
-use mathlib.Core.Path.{_≡_, refl, sym, _∙_, ap, ap₂}
+use mathlib.Core.Path.{_≡_, refl, sym, _∙_, ap, ap₂, subst⁻¹}
 use mathlib.Core.Bool.{true, false}
 use mathlib.Core.List.{List, [], _∷_, _++_, append-nil}
 use native.Mathlib.Omega.{arith}
 use lib.ListN.{length, take, drop, length-take, length-drop, length-replicate, take-append-drop}
-use lib.Seq.{length-take-le, drop-at, drop-drop, take-add, take-append-le}
+use lib.Seq.{length-take-le, drop-at, drop-drop, take-add, take-append-le, drop-append-le}
 use borrow.Rule.Slice.PartMut.{midOf, putMid, take-put, same-len-mid}
 use Rattle.buffers.specs.Ranges.{Within}
-use Rattle.buffers.specs.Writes.{Wrote}
+use Rattle.buffers.specs.Writes.{placed, Wrote}
 use Rattle.buffers.proofs.Tests.{clash}
 use Rattle.buffers.proofs.Parts.{rest-all, part-cut}
+use Rattle.buffers.proofs.Writes.{wrote-both}
 use Rattle.text.specs.Lines.{linesOf, feedAt}
 use Rattle.bucket.specs.Whole.{Lent, lent, whole}
 use Rattle.outcome.specs.Calls.{call, heard}
 use Rattle.outcome.specs.Outcome.{Outcome, outcome}
 use Rattle.outcome.specs.Printed.{printed, printedOf}
-use Rattle.outcome.proofs.Heard.{heard-room, same-left, same-printed}
+use Rattle.outcome.proofs.Heard.{heard-room, same-left, same-printed, same-behind}
 use Rattle.outcome.proofs.Kept.{outcome-whole}
 use Rattle.engine.specs.declared.Served.{Served}
 use Rattle.engine.specs.Served.{outcomeFrom}
@@ -25,7 +26,6 @@ use Rattle.bucketrun.specs.Program.{answerRoom, servedLine, leftBy, prin
 use Rattle.bucketrun.specs.Course.{Servable, Through, BetweenLines, ServedSome, BetweenParts, ServedAll}
 use Rattle.bucketrun.proofs.Lines.{none-feed, none-end, end-append, end-first, lines-append, lines-first}
 use Rattle.bucketrun.proofs.Cutting.{left-append, printed-append}
-use Rattle.bucketrun.proofs.Printing.{wrote-front}
 
 -- ## The first bytes of a block, and more of them
 
@@ -95,15 +95,34 @@ answer-most b l out n′ k′ p at r q e =
     let m : length p ≡ _ = e ∙ ap length (part-cut out at 65536) ∙ length-take 65536 (drop at out) in
     omega (arith, answer-fits b _ n′ k′ p r q)
 
-part-read : (out p : List ℕ) (at k len : ℕ) → at ≤ length out → len ≤ length p → take len (drop at (putMid at k out p)) ≡ take len p
-part-read out p at k len h m =
-    ap (take len) (drop-at (take at out) (p ++ drop k (drop at out)) at (length-take-le at out h)) ∙ take-append-le len p (drop k (drop at out)) m
+-- A part of the output, put back.
+module _ (out p : List ℕ) (at k : ℕ) (h : at + k ≤ length out) (l : length p ≡ k) where
+  at-part : drop at (putMid at k out p) ≡ p ++ drop k (drop at out)
+  at-part = drop-at (take at out) (p ++ drop k (drop at out)) at (length-take-le at out (omega arith))
+
+  part-read : (len : ℕ) → len ≤ k → take len (drop at (putMid at k out p)) ≡ take len p
+  part-read len m = ap (take len) at-part ∙ take-append-le len p (drop k (drop at out)) (omega arith)
+
+  -- What is written over a part that has stayed behind it, is written over what was there before.
+  over-part : (vs : List ℕ) → length vs ≤ k → drop (length vs) p ≡ drop (length vs) (take k (drop at out)) → placed (putMid at k out p) at vs ≡ placed out at vs
+  over-part vs m e =
+      let n = length-drop at out in
+      let w = length-take-le k (drop at out) (omega arith) in
+      let rest = drop k (drop at out) in
+      let d : drop (at + length vs) (putMid at k out p) ≡ drop (at + length vs) out =
+      sym (drop-drop (length vs) at (putMid at k out p)) ∙ ap (drop (length vs)) at-part
+      ∙ drop-append-le (length vs) p rest (omega arith)
+      ∙ ap (λ (x : List ℕ). x ++ rest) e
+      ∙ sym (drop-append-le (length vs) (take k (drop at out)) rest (omega arith))
+      ∙ ap (drop (length vs)) (take-append-drop k (drop at out))
+      ∙ drop-drop (length vs) at out in
+      ap₂ (λ (x y : List ℕ). x ++ vs ++ y) (take-put at k out p (omega arith)) d
 
 pub first-line : (b : Lent) (out block : List ℕ) (from : ℕ) → from ≤ length block → Servable b out → BetweenLines b block from out b out 0 from
 first-line b out block from l a =
     let z : from - from ≡ 0 = omega arith in
     record {
-      served = record { span = record { from = omega arith; to = l }; through = rw z (through-none b (drop from block) (a .is-whole)); prints = rw z; most = omega arith };
+      served = record { span = record { from = omega arith; to = l }; through = rw z (through-none b (drop from block) (a .is-whole)); prints = rw z (record { next = refl; holds = refl; long = refl; most = omega arith }); most = omega arith };
       long = a .long;
       numbers-same = refl;
       keys-same = refl;
@@ -133,30 +152,37 @@ module _ (h : Lent) (block : List ℕ) (from : ℕ) (out₀ : List ℕ) (b : Len
       let u : i + k + 1 - from ≡ i - from + suc k = omega (arith, t .span .from) in
       let la : length a ≡ 65536 = length-take-le 65536 (drop at out) (rw length-drop (omega (arith, g .long))) in
       let lo : length out′ ≡ length out = v .long ∙ same-len-mid at (at + 65536 - at) out p lp in
+      let l : length p ≡ 65536 = lp ∙ ap length (part-cut out at 65536) ∙ la in
       let f : k ≡ feedAt rest = rw (rest-all i block, left-is) at (e .is) in
       let y : k < length rest = rw (← left-is, length-drop) (omega arith) in
       let x : o ≡ outcome b (call (take k rest) a) = rw (d, c, left-is) at q in
       let w = line-through b rest k f y a la o x (t .through .is-whole) in
-      let s : take (r .len) (drop at (putMid at (at + 65536 - at) out p)) ≡ take (r .len) p = part-read out p at (at + 65536 - at) (r .len) (omega (arith, t .most)) (answer-fits b _ n′ k′ p r q) in
+      let s : printed (r .number) (take (r .len) (drop at (putMid at (at + 65536 - at) out p))) ≡ printedOf o =
+      rw c (ap (printed (r .number)) (part-read out p at 65536 (omega (arith, g .long)) l (r .len) (omega (arith, answer-fits b _ n′ k′ p r q)))) in
+      let behind : drop (length (printedOf o)) p ≡ drop (length (printedOf o)) a = subst⁻¹ (λ (z : Outcome). drop (length (printedOf z)) (z .answer) ≡ drop (length (printedOf z)) a) x (same-behind b (call (take k rest) a)) in
+      let wrote : Wrote out at (printedOf o) 65536 out′ j =
+      (let v = rw (s, c) at v in
+      record { next = v .next; holds = v .holds ∙ over-part out p at 65536 (omega (arith, g .long)) l (printedOf o) (omega (arith, v .next, v .most)) behind; long = lo; most = v .most }) in
+      let both = wrote-both out₀ 0 _ 131072 out at (printedOf o) 65536 out′ j (omega arith) (t .prints) wrote in
+      let prints =
+      ap (λ (z : List ℕ). printedBy h (linesOf (take (i - from) (drop from block))) ++ z) (line-printed b rest k f y a la o x)
+      ∙ sym (printed-both h (drop from block) (i - from) b (t .through) (suc k) (o .bucket) w) in
       record {
         served =
             record {
               span = record { from = omega (arith, t .span .from); to = omega arith };
               through = rw u (through-both h (drop from block) (i - from) b (t .through) (suc k) (o .bucket) w);
-              prints =
-                  rw u (wrote-front (putMid at (at + 65536 - at) out p) at _ 65536 out′ j (omega (arith, t .most, same-len-mid at (at + 65536 - at) out p lp)) v
-                  ∙ ap₂ (λ (xs ys : List ℕ). xs ++ ys) (take-put at (at + 65536 - at) out p (omega (arith, t .most)) ∙ t .prints) (ap (printed (r .number)) s ∙ line-printed b rest k f y a la o x)
-                  ∙ sym (printed-both h (drop from block) (i - from) b (t .through) (suc k) (o .bucket) w));
-              most = omega (arith, v .most, g .long);
+              prints = rw u (record { next = both .next ∙ ap (λ (z : List ℕ). 0 + length z) prints; holds = both .holds ∙ ap (placed out₀ 0) prints; long = both .long; most = omega (arith, wrote .most) });
+              most = omega (arith, wrote .most, g .long);
             };
         long = lo ∙ g .long;
         numbers-same = ln ∙ g .numbers-same;
         keys-same = lk ∙ g .keys-same;
-        out-same = lo ∙ g .out-same;
+        out-same = both .long;
       }
 
   -- No line feed is left.
-  pub lines-done : (k : ℕ) → Within k (feedAt (take (length block - i) (drop i block))) (length (take (length block - i) (drop i block))) → length block ≤ i + k → ServedSome h block from b out at i
+  pub lines-done : (k : ℕ) → Within k (feedAt (take (length block - i) (drop i block))) (length (take (length block - i) (drop i block))) → length block ≤ i + k → ServedSome h block from out₀ b out at i
   lines-done k e q =
       let t = g .served in
       let x = rw (rest-all i block) at e in
@@ -165,7 +191,7 @@ module _ (h : Lent) (block : List ℕ) (from : ℕ) (out₀ : List ℕ) (b : Len
       record { served = t; all = λ y. omega (arith, end-rest h (drop from block) (i - from) b (t .through), rw left-is at n) }
 
   -- An answer might not fit.
-  pub lines-stopped : 65536 < at → ServedSome h block from b out at i
+  pub lines-stopped : 65536 < at → ServedSome h block from out₀ b out at i
   lines-stopped q = record { served = g .served; all = λ y. absurd (omega (arith, q, y)) }
 
 -- ## Between two parts
@@ -181,7 +207,7 @@ module _ (h : Lent) (block out₀ : List ℕ) (b : Lent) (out : List ℕ) (i : �
   pub part-servable : Servable b out
   part-servable = record { is-whole = g .through .is-whole; long = g .long }
 
-  module _ (b′ : Lent) (out′ : List ℕ) (at j : ℕ) (d : ServedSome b block i b′ out′ at j) where
+  module _ (b′ : Lent) (out′ : List ℕ) (at j : ℕ) (d : ServedSome b block i out b′ out′ at j) where
     on : i + (j - i) ≡ j
     on = omega (arith, d .served .span .from)
 
@@ -191,8 +217,7 @@ module _ (h : Lent) (block out₀ : List ℕ) (b : Lent) (out : List ℕ) (i : �
     -- Where output waits, a line was served.
     pub part-less : 65536 < at → length block - j < length block - i
     part-less q =
-        let t : length (take at out′) ≡ at = length-take-le at out′ (d .served .most) in
-        let x = some-served b (drop i block) (j - i) (omega (arith, ap length (d .served .prints))) in
+        let x = some-served b (drop i block) (j - i) (omega (arith, d .served .prints .next)) in
         omega (arith, d .served .span .to)
 
     pub part-next : length (b′ .numbers) ≡ length (b .numbers) → length (b′ .keys) ≡ length (b .keys) → length out′ ≡ length out → BetweenParts h block out₀ b′ out′ j

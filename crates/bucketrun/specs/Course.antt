@@ -5,6 +5,7 @@ use mathlib.Core.Bool.{Bool, true, false}
 use mathlib.Core.List.{List, []}
 use lib.ListN.{length, take, drop}
 use Rattle.buffers.specs.Ranges.{Span}
+use Rattle.buffers.specs.Writes.{Wrote}
 use Rattle.text.specs.Lines.{linesOf}
 use Rattle.text.specs.Keys.{contains}
 use Rattle.settings.specs.declared.Settings.{Settings}
@@ -25,24 +26,24 @@ pub record Through (h : Lent) (block : List ℕ) (i : ℕ) (b : Lent) : Type 0 w
   pub inside : i ≤ length block
   pub cut : endedLength (take i block) ≡ i
 
--- The lines from one place to another are served, and what they print stands at the output's start.
-pub record ServedTo (h : Lent) (block : List ℕ) (from : ℕ) (b : Lent) (out : List ℕ) (at i : ℕ) : Type 0 where
+-- The lines from one place to another are served, and what they print is written at the output's start; the output with ₀ is the one that came.
+pub record ServedTo (h : Lent) (block : List ℕ) (from : ℕ) (out₀ : List ℕ) (b : Lent) (out : List ℕ) (at i : ℕ) : Type 0 where
   pub span : Span from i (length block)
   pub through : Through h (drop from block) (i - from) b
-  pub prints : take at out ≡ printedBy h (linesOf (take (i - from) (drop from block)))
+  pub prints : Wrote out₀ 0 (printedBy h (linesOf (take (i - from) (drop from block)))) 131072 out at
   pub most : at ≤ length out
 
--- Between two of them; the output with ₀ is the one that came.
+-- Between two of them.
 pub record BetweenLines (h : Lent) (block : List ℕ) (from : ℕ) (out₀ : List ℕ) (b : Lent) (out : List ℕ) (at i : ℕ) : Type 0 where
-  pub served : ServedTo h block from b out at i
+  pub served : ServedTo h block from out₀ b out at i
   pub long : length out ≡ 131072
   pub numbers-same : length (b .numbers) ≡ length (h .numbers)
   pub keys-same : length (b .keys) ≡ length (h .keys)
   pub out-same : length out ≡ length out₀
 
 -- Where there is room for more, all lines are served that a line feed ends.
-pub record ServedSome (h : Lent) (block : List ℕ) (from : ℕ) (b : Lent) (out : List ℕ) (at i : ℕ) : Type 0 where
-  pub served : ServedTo h block from b out at i
+pub record ServedSome (h : Lent) (block : List ℕ) (from : ℕ) (out₀ : List ℕ) (b : Lent) (out : List ℕ) (at i : ℕ) : Type 0 where
+  pub served : ServedTo h block from out₀ b out at i
   pub all : at ≤ 65536 → i - from ≡ endedLength (drop from block)
 
 -- Between two parts of a block, each of which is written once it is served.

@@ -71,7 +71,7 @@ fn serve_some(
 ) -> Course
     requires { ⌜ from ≤ length (now block) ⌝ }
     requires { ⌜ Servable (lent s (now rows) (now keys)) (now out) ⌝ }
-    ensures { λ r. ⌜ ServedSome (lent s (now (rows .entry)) (now (keys .entry))) (now (block .entry)) from (lent (r .settings) (now (rows .exit)) (now (keys .exit))) (now (out .exit)) (r .at) (r .served) ⌝ }
+    ensures { λ r. ⌜ ServedSome (lent s (now (rows .entry)) (now (keys .entry))) (now (block .entry)) from (now (out .entry)) (lent (r .settings) (now (rows .exit)) (now (keys .exit))) (now (out .exit)) (r .at) (r .served) ⌝ }
 {
     let mut after = s;
     let mut at = 0;

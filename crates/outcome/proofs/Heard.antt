@@ -4,8 +4,8 @@ use mathlib.Core.Path.{_≡_, refl, ap}
 use mathlib.Core.Bool.{Bool, true, false}
 use mathlib.Core.List.{List}
 use lib.Dec.{eqb}
-use lib.ListN.{length}
-use lib.Seq.{take-append-seam}
+use lib.ListN.{length, drop}
+use lib.Seq.{take-append-seam, drop-append-seam}
 use Rattle.buffers.specs.Choices.{pick}
 use Rattle.model.specs.Requests.{Request, Heard, unreadable, says}
 use Rattle.request.specs.Grammar.{readLine}
@@ -31,6 +31,11 @@ module _ (b : Lent) (g g′ : Call) where
 
   pub same-printed : heard g ≡ heard g′ → printedOf (outcome b g) ≡ printedOf (outcome b g′)
   same-printed = both-outcomes (λ o p. printedOf o ≡ printedOf p) (λ k. refl) (λ q. simp take-append-seam)
+
+-- Behind what is printed the answer buffer is as it was.
+pub same-behind : (b : Lent) (g : Call) → drop (length (printedOf (outcome b g))) ((outcome b g) .answer) ≡ drop (length (printedOf (outcome b g))) (g .answer)
+same-behind b g =
+    both-outcomes b g g (λ o p. drop (length (printedOf o)) (o .answer) ≡ drop (length (printedOf o)) (g .answer)) (λ k. refl) (λ q. simp (take-append-seam, drop-append-seam)) refl
 
 pub heard-room : (l a a′ : List ℕ) → length a ≡ length a′ → heard (call l a) ≡ heard (call l a′)
 heard-room l a a′ e = ap (λ (n : ℕ). heardOf n (line l)) e
