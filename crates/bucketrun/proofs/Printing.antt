@@ -1,10 +1,10 @@
 -- Laws of what a line prints: its answer where it stands, or its refusal.
 use Prim.Native.Nat.{ℕ, _+_, _≤_}
-use mathlib.Core.Path.{_≡_, refl, sym, ap}
+use mathlib.Core.Path.{_≡_, refl, sym, _∙_, ap}
 use mathlib.Core.List.{List, [], _∷_, _++_}
 use native.Mathlib.Omega.{arith}
-use lib.ListN.{length, take, drop, length-drop}
-use lib.Seq.{length-take-le}
+use lib.ListN.{length, take, drop, length-append, length-drop}
+use lib.Seq.{length-take-le, take-at}
 use borrow.Author.Tests.{eq-eqb, ne-eqb}
 use Rattle.buffers.specs.Texts.{bytes}
 use Rattle.buffers.specs.Writes.{Wrote}
@@ -12,6 +12,12 @@ use Rattle.buffers.proofs.Parts.{placed-same}
 use Rattle.buffers.proofs.Writes.{wrote-both}
 use Rattle.text.specs.Printing.{digits}
 use Rattle.outcome.specs.Printed.{refusalText, printed}
+
+-- Up to the place after it stands what was written, behind what stood before it.
+pub wrote-front : (out : List ℕ) (at : ℕ) (vs : List ℕ) (k : ℕ) (exit : List ℕ) (r : ℕ) → at ≤ length out → Wrote out at vs k exit r → take r exit ≡ take at out ++ vs
+wrote-front out at vs k exit r h w =
+    let t = length-take-le at out h in
+    ap (take r) (w .holds) ∙ take-at (take at out ++ vs) (drop (at + length vs) out) r (rw length-append (omega (arith, w .next)))
 
 pub prints-answer : (out : List ℕ) (at number len : ℕ) → at + 65536 ≤ length out → len ≤ 65536 → number ≡ 0 → Wrote out at (printed number (take len (drop at out))) 65536 out (at + len)
 prints-answer out at number len h l e =
