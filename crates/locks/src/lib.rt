@@ -28,7 +28,9 @@ pub enum NewLock {
 pub fn is_locked(n: Numbers, instant: u64, bypass: bool) -> bool
     ensures { λ r. ⌜ ((k : List ℕ) → r ≡ locked instant «bypass» (rowFrom n k)) ⌝ }
 {
-    (n.hold == 1) | ((instant < n.until) & ((n.mode == model::COMPLIANCE) | ((n.mode == model::GOVERNANCE) & !bypass)))
+    (n.hold == 1)
+        | ((instant < n.until)
+            & ((n.mode == model::COMPLIANCE) | ((n.mode == model::GOVERNANCE) & !bypass)))
 }
 
 // The mode given is COMPLIANCE.
