@@ -17,6 +17,7 @@ use Rattle.settings.proofs.Back.{means-back}
 use Rattle.table.specs.Layout.{rowsOf, capacity, Holds}
 use Rattle.table.proofs.Held.{rows-length}
 use Rattle.answers.specs.declared.Answer.{Answer}
+use Rattle.answers.specs.Text.{longestAnswer}
 use Rattle.answers.specs.Meaning.{textOf, Printable}
 use Rattle.judge.specs.declared.Change.{Change}
 use Rattle.judge.specs.declared.Plan.{Plan}
@@ -37,20 +38,20 @@ use Rattle.engine.specs.Served.{outcomeFrom, served, CanCarryOut, Carrie
 -- ## Outcomes by their parts
 
 -- A refusal of the code.
-pub refused-is : (r : Served) (k : ℕ) (s : Settings) (n b a : List ℕ) → r .number ≡ k → r .len ≡ 0 → r .settings ≡ s → outcomeFrom r n b a ≡ refused k (lent s n b) a
-refused-is r k s n b a e f g = rw (e, f, g)
+pub refused-is : (r : Served) (k : ℕ) (s : Settings) (n keys a : List ℕ) → r .number ≡ k → r .len ≡ 0 → r .settings ≡ s → outcomeFrom r n keys a ≡ refused k (lent s n keys) a
+refused-is r k s n keys a e f g = rw (e, f, g)
 
-same-outcome : (l m : ℕ) (s t : Settings) (n n′ b b′ a a′ : List ℕ) → l ≡ m → s ≡ t → n ≡ n′ → b ≡ b′ → a ≡ a′
-    → outcomeFrom (record { number = 0; len = l; settings = s }) n b a ≡ outcomeFrom (record { number = 0; len = m; settings = t }) n′ b′ a′
-same-outcome l m s t n n′ b b′ a a′ e1 e2 e3 e4 e5 = rw (e1, e2, e3, e4, e5)
+same-outcome : (l m : ℕ) (s t : Settings) (n n′ keys keys′ a a′ : List ℕ) → l ≡ m → s ≡ t → n ≡ n′ → keys ≡ keys′ → a ≡ a′
+    → outcomeFrom (record { number = 0; len = l; settings = s }) n keys a ≡ outcomeFrom (record { number = 0; len = m; settings = t }) n′ keys′ a′
+same-outcome l m s t n n′ keys keys′ a a′ e1 e2 e3 e4 e5 = rw (e1, e2, e3, e4, e5)
 
 -- An effect, carried out.
-pub carried-is : (s : Settings) (n b : List ℕ) (now : ℕ) (v : Verb) (a : List ℕ) (e : Effect) (len : ℕ) (after : Settings) (n′ b′ a′ : List ℕ) → Wrote a 0 (e .text) 256 a′ len
-    → after ≡ settingsFrom (settingsAfter (settingsMean s) now (e .taken) v) (length (e .rows)) → Holds (capacity b) (e .rows) n′ b′
-    → outcomeFrom (record { number = 0; len = len; settings = after }) n′ b′ a′ ≡ carried (lent s n b) now v a e
-carried-is s n b now v a e len after n′ b′ a′ w q h =
+pub carried-is : (s : Settings) (n keys : List ℕ) (now : ℕ) (v : Verb) (a : List ℕ) (e : Effect) (len : ℕ) (after : Settings) (n′ keys′ a′ : List ℕ) → Wrote a 0 (e .text) longestAnswer a′ len
+    → after ≡ settingsFrom (settingsAfter (settingsMean s) now (e .taken) v) (length (e .rows)) → Holds (capacity keys) (e .rows) n′ keys′
+    → outcomeFrom (record { number = 0; len = len; settings = after }) n′ keys′ a′ ≡ carried (lent s n keys) now v a e
+carried-is s n keys now v a e len after n′ keys′ a′ w q h =
     let z : 0 + length (e .text) ≡ length (e .text) = omega arith in
-    same-outcome len (length (e .text)) after _ n′ _ b′ _ a′ (written (e .text) a)
+    same-outcome len (length (e .text)) after _ n′ _ keys′ _ a′ (written (e .text) a)
     (omega (arith, w .next))
     q
     (h .numbers-are)
@@ -58,12 +59,12 @@ carried-is s n b now v a e len after n′ b′ a′ w q h =
     (w .holds ∙ ap (λ (k : ℕ). e .text ++ drop k a) z)
 
 -- An effect that keeps the rows and takes no number leaves the buffers as they are.
-pub kept-is : (s : Settings) (n b : List ℕ) (now : ℕ) (v : Verb) (a : List ℕ) (e : Effect) (len : ℕ) (after : Settings) (a′ : List ℕ) → Wrote a 0 (e .text) 256 a′ len
-    → after ≡ settingsFrom (record { time = now; next = s .next; config = configAfter (settingsMean s .config) v }) (s .used) → Holds (capacity b) (rowsOf n b (s .used)) n b
-    → e .rows ≡ rowsOf n b (s .used) → e .taken ≡ 0 → outcomeFrom (record { number = 0; len = len; settings = after }) n b a′ ≡ carried (lent s n b) now v a e
-kept-is s n b now v a e len after a′ w q h er et =
+pub kept-is : (s : Settings) (n keys : List ℕ) (now : ℕ) (v : Verb) (a : List ℕ) (e : Effect) (len : ℕ) (after : Settings) (a′ : List ℕ) → Wrote a 0 (e .text) longestAnswer a′ len
+    → after ≡ settingsFrom (record { time = now; next = s .next; config = configAfter (settingsMean s .config) v }) (s .used) → Holds (capacity keys) (rowsOf n keys (s .used)) n keys
+    → e .rows ≡ rowsOf n keys (s .used) → e .taken ≡ 0 → outcomeFrom (record { number = 0; len = len; settings = after }) n keys a′ ≡ carried (lent s n keys) now v a e
+kept-is s n keys now v a e len after a′ w q h er et =
     let z : s .next + 0 ≡ s .next = omega arith in
-    carried-is s n b now v a e len after n b a′ w (rw (er, et, z, rows-length n b (s .used)) q) (rw er h)
+    carried-is s n keys now v a e len after n keys a′ w (rw (er, et, z, rows-length n keys (s .used)) q) (rw er h)
 
 -- The settings after a step.
 pub settle-done : (s : Settings) (x : Step) (after : Settings) → after ≡ withProgress s (x .time) (x .used) (x .next) → record { number = x .number; len = x .len; settings = after } ≡ served s x
@@ -77,15 +78,15 @@ pub settings-after : (s : Settings) (v : Verb) (now used next : ℕ) → setting
 unfolding configAfter
 settings-after s v now used next e h = rw e (sym (means-back (withProgress s now used next) h))
 
-module _ (s : State) (n b line a : List ℕ) (o : Verdict) (now : ℕ) (fates : List ℕ) where
-  pub verdict-refused : (k : ℕ) → o ≡ verdict.Refused k → CarriedOut s n b line a o now fates (record { number = k; len = 0; time = s .time; used = s .used; next = s .next }) n b a
+module _ (s : State) (n keys line a : List ℕ) (o : Verdict) (now : ℕ) (fates : List ℕ) where
+  pub verdict-refused : (k : ℕ) → o ≡ verdict.Refused k → CarriedOut s n keys line a o now fates (record { number = k; len = 0; time = s .time; used = s .used; next = s .next }) n keys a
   verdict-refused k e = record { is = λ t v q h c. rw (e, q) }
 
-  module _ (p : CanCarryOut s n b line a o now fates) (plan : Plan) (e : o ≡ verdict.Accepted plan) where
-    feasible : Feasible (judged line (s .next) now fates) (capacity b) (rowsIn s n b) (verdict.Accepted plan)
+  module _ (p : CanCarryOut s n keys line a o now fates) (plan : Plan) (e : o ≡ verdict.Accepted plan) where
+    feasible : Feasible (judged line (s .next) now fates) (capacity keys) (rowsIn s n keys) (verdict.Accepted plan)
     feasible = rw e at (p .feasible)
 
-    pub plan-can : Applicable (judged line (s .next) now fates) n b (s .used) (plan .change)
+    pub plan-can : Applicable (judged line (s .next) now fates) n keys (s .used) (plan .change)
     plan-can =
         let r = p .ready in
         record { held = r .holds; can = feasible .0; small = r .capacity-fits; used-small = omega (arith, r .used-fits, r .capacity-fits); next-fits = r .next-fits }
@@ -93,13 +94,13 @@ module _ (s : State) (n b line a : List ℕ) (o : Verdict) (now : ℕ) (fates : 
     pub plan-prints : Printable (plan .answer)
     plan-prints = feasible .1
 
-    pub plan-done : (change : Change) (text : Answer) (n′ b′ a′ : List ℕ) (g : Progress) (len : ℕ) → plan .change ≡ change → plan .answer ≡ text
-        → Applied (judged line (s .next) now fates) (capacity b) (rowsOf n b (s .used)) change n′ b′ g → Wrote a 0 (textOf text) 256 a′ len
-        → CarriedOut s n b line a o now fates (record { number = 0; len = len; time = now; used = g .used; next = g .next }) n′ b′ a′
-    plan-done change text n′ b′ a′ g len pc pt d w =
+    pub plan-done : (change : Change) (text : Answer) (n′ keys′ a′ : List ℕ) (g : Progress) (len : ℕ) → plan .change ≡ change → plan .answer ≡ text
+        → Applied (judged line (s .next) now fates) (capacity keys) (rowsOf n keys (s .used)) change n′ keys′ g → Wrote a 0 (textOf text) longestAnswer a′ len
+        → CarriedOut s n keys line a o now fates (record { number = 0; len = len; time = now; used = g .used; next = g .next }) n′ keys′ a′
+    plan-done change text n′ keys′ a′ g len pc pt d w =
         record {
           is = λ t v q h c. let i = rw q at d in
-              rw (e, pc, pt) (carried-is t n b now v a (planMeans (judged line (t .next) now fates) (rowsOf n b (t .used)) (record { change = change; answer = text })) len (withProgress t now (g .used) (g .next)) n′ b′ a′ w
+              rw (e, pc, pt) (carried-is t n keys now v a (planMeans (judged line (t .next) now fates) (rowsOf n keys (t .used)) (record { change = change; answer = text })) len (withProgress t now (g .used) (g .next)) n′ keys′ a′ w
               (rw (i .used-is, i .next-is) (settings-after t v now _ _ c h))
               (i .held));
         }

@@ -5,16 +5,13 @@ use mathlib.Core.Bool.{Bool, true, false}
 use mathlib.Core.List.{List, []}
 use mathlib.Core.Option.{some}
 use native.Mathlib.Omega.{arith}
-use lib.Dec.{leb}
 use lib.ListN.{length, replicate, length-replicate}
 use Rattle.buffers.specs.Writes.{Wrote}
-use Rattle.buffers.proofs.Tests.{and-r}
 use Rattle.calendar.specs.declared.Now.{Now}
-use Rattle.calendar.specs.Calendar.{latest}
 use Rattle.model.specs.Requests as model
 use Rattle.model.specs.Requests.{Set, Sweep, Ask, says, inRange}
 use Rattle.model.specs.Effects.{added, rowsAfter, configAfter}
-use Rattle.model.specs.Refusals.{fieldChecks, tableChecks}
+use Rattle.model.specs.Refusals.{fieldChecks, tableChecks, leastRoom}
 use Rattle.settings.specs.declared.Rule.{Rule}
 use Rattle.settings.specs.declared.Settings.{Settings}
 use Rattle.settings.specs.declared.State.{State}
@@ -30,7 +27,7 @@ use Rattle.request.specs.declared.Query.{Query}
 use Rattle.request.specs.declared.Verb.{Verb}
 use Rattle.request.specs.declared.Verb.the-variants as verb
 use Rattle.request.specs.Grammar.{Said, saidBy, readLine, asked}
-use Rattle.request.specs.Meaning.{actionMeans, settingMeans, queryMeans, verbMeans, ActionInside, QueryInside}
+use Rattle.request.specs.Meaning.{actionMeans, settingMeans, queryMeans, verbMeans, ActionInside, QueryInside, VerbInside}
 use Rattle.request.proofs.Ranges.{read-in-range}
 use Rattle.request.proofs.Actions.{action-unset}
 use Rattle.screen.specs.declared.Screened.{Screened}
@@ -39,6 +36,7 @@ use Rattle.screen.specs.Screen.{screened as fieldRefusal, screenedLine, Screens
 use Rattle.screen.proofs.Lines.{Comes, short, unread, barred, passed, comes}
 use Rattle.answers.specs.declared.Answer.{Answer}
 use Rattle.answers.specs.declared.Answer.the-variants as answer
+use Rattle.answers.specs.Text.{longestAnswer}
 use Rattle.answers.specs.Meaning.{textOf, Printable}
 use Rattle.judge.specs.declared.Change.the-variants as change
 use Rattle.judge.specs.declared.Plan.{Plan}
@@ -58,25 +56,25 @@ use Rattle.engine.specs.Configured.{Settable, configuredBy}
 use Rattle.engine.specs.declared.Served.{Served}
 use Rattle.engine.specs.declared.Step.{Step}
 use Rattle.engine.specs.Served.{outcomeFrom, served, Passing, CanCarryOut, CarriedOut, Actable, Acted, SweepAsked, Swept}
-use Rattle.engine.proofs.Ready.{whole-rules, line-says, line-judge, line-stamp, line-ranges, line-asked}
+use Rattle.engine.proofs.Ready.{whole-rules, line-says, line-judge, line-stamp, line-asked}
 use Rattle.engine.proofs.Carrying.{refused-is, kept-is, settings-after}
 
 -- ## Refusals
 
-pub line-1 : (r : Served) (s : Settings) (n b line a : List ℕ) (w : Bool) → w ≡ whole (lent s n b) → w ≡ false → r .number ≡ 1 → r .len ≡ 0 → r .settings ≡ s → outcomeFrom r n b a ≡ outcome (lent s n b) (call line a)
-line-1 r s n b line a w e f x y z = refused-is r 1 s n b a x y z ∙ outcome-1 (lent s n b) (call line a) (sym e ∙ f)
+pub line-1 : (r : Served) (s : Settings) (n keys line a : List ℕ) (w : Bool) → w ≡ whole (lent s n keys) → w ≡ false → r .number ≡ 1 → r .len ≡ 0 → r .settings ≡ s → outcomeFrom r n keys a ≡ outcome (lent s n keys) (call line a)
+line-1 r s n keys line a w e f x y z = refused-is r 1 s n keys a x y z ∙ outcome-1 (lent s n keys) (call line a) (sym e ∙ f)
 
 -- What is heard of a line that can be read.
 hears : (line a : List ℕ) (q : Said) → readLine line ≡ some q → heard (call line a) ≡ says (asked (length a) q)
 hears line a q e = rw e
 
 module _ (b : Lent) (line a : List ℕ) (w : whole b ≡ true) where
-  said-is : (q : Said) → 256 ≤ length a → readLine line ≡ some q
+  said-is : (q : Said) → leastRoom ≤ length a → readLine line ≡ some q
       → done b (max (b .settings .time) (q .clock)) (q .verb) a (decision (capacity (b .keys)) (bucketOf b) (asked (length a) q)) ≡ outcome b (call line a)
   said-is q l e = outcome-said b (call line a) (asked (length a) q) w l (hears line a q e) (read-in-range line q e)
 
   -- A line that its own fields refuse.
-  said-stops : (k : ℕ) (q : Said) → 256 ≤ length a → readLine line ≡ some q → k ≡ fieldRefusal (settingsMean (b .settings) .config) (q .who) (max (b .settings .time) (q .clock)) (q .verb) → (k ≡ 0 → ⊥) → refused k b a ≡ outcome b (call line a)
+  said-stops : (k : ℕ) (q : Said) → leastRoom ≤ length a → readLine line ≡ some q → k ≡ fieldRefusal (settingsMean (b .settings) .config) (q .who) (max (b .settings .time) (q .clock)) (q .verb) → (k ≡ 0 → ⊥) → refused k b a ≡ outcome b (call line a)
   unfolding fieldRefusal
   said-stops k q l e h z =
       let c = bucketOf b in
@@ -86,7 +84,7 @@ module _ (b : Lent) (line a : List ℕ) (w : whole b ≡ true) where
       ∙ said-is q l e
 
   -- A line that they don't refuse is done as the table decides.
-  said-passes : (q : Said) (now : ℕ) → 256 ≤ length a → readLine line ≡ some q → now ≡ max (b .settings .time) (q .clock) → 0 ≡ fieldRefusal (settingsMean (b .settings) .config) (q .who) now (q .verb)
+  said-passes : (q : Said) (now : ℕ) → leastRoom ≤ length a → readLine line ≡ some q → now ≡ max (b .settings .time) (q .clock) → 0 ≡ fieldRefusal (settingsMean (b .settings) .config) (q .who) now (q .verb)
       → done b now (q .verb) a (tableDecision (capacity (b .keys)) (bucketOf b) (both now) (q .who) (q .verb)) ≡ outcome b (call line a)
   unfolding fieldRefusal
   said-passes q now l e t h =
@@ -106,32 +104,35 @@ module _ (b : Lent) (line a : List ℕ) (w : whole b ≡ true) where
       go r (barred l q f z) e = let h = ap lineRefusal e in said-stops k (saidBy line q) l (rw f) h (λ i. z (sym h ∙ i))
       go r (passed l q f z) e = let x : _≡_ {A = ℕ} 0 1 = cc in absurd (omega arith)
 
-pub line-stopped : (s : Settings) (n b line a : List ℕ) → whole (lent s n b) ≡ true → (st : State) (o : Screened) (k : ℕ) (r : Served) → st ≡ stateOf s → Screens st line (length a) o → o ≡ screened.Refused k → r .number ≡ k → r .len ≡ 0 → r .settings ≡ s → outcomeFrom r n b a ≡ outcome (lent s n b) (call line a)
-line-stopped s n b line a w st o k r i h e x y z = refused-is r k s n b a x y z ∙ stops (lent s n b) line a w k (sym e ∙ (rw i at h) .is (settingsMean s .config))
+pub line-stopped : (s : Settings) (n keys line a : List ℕ) → whole (lent s n keys) ≡ true → (st : State) (o : Screened) (k : ℕ) (r : Served) → st ≡ stateOf s → Screens st line (length a) o → o ≡ screened.Refused k → r .number ≡ k → r .len ≡ 0 → r .settings ≡ s → outcomeFrom r n keys a ≡ outcome (lent s n keys) (call line a)
+line-stopped s n keys line a w st o k r i h e x y z = refused-is r k s n keys a x y z ∙ stops (lent s n keys) line a w k (sym e ∙ (rw i at h) .is (settingsMean s .config))
 
 -- ## A line that passes
 
-module _ (b : Lent) (line a : List ℕ) (v : Verb) (when : Now) (p : Passing b line a v when) where
+-- Who sends it, what judging it asks, and that what the table decides of it, done, is its outcome.
+record Known (b : Lent) (line a : List ℕ) (v : Verb) (when : Now) : Type 0 where
+  who : model.Rights
   prefixes : prefixesAre (b .settings .rules) ≡ true
-  prefixes = (whole-parts b (p .is-whole)) .prefixes
+  room : leastRoom ≤ length a
+  inside : VerbInside line v
+  asked : Asked (stateOf (b .settings)) (b .numbers) (b .keys) (when .judge) (verbMeans line v)
+  one-now : when .stamp ≡ when .judge
+  decided : (d : Decision) → d ≡ tableDecision (capacity (b .keys)) (bucketOf b) (both (when .judge)) who (verbMeans line v) → done b (when .judge) (verbMeans line v) a d ≡ outcome b (call line a)
 
-  room : 256 ≤ length a
-  room = (line-says b line a v when p) .room-fits
-
-  asks : Asked (stateOf (b .settings)) (b .numbers) (b .keys) (when .judge) (verbMeans line v)
-  asks = line-asked b line a v when p
-
-  -- Who sends it.
-  abbrev sender : model.Rights
-  sender = (line-says b line a v when p) .who
-
-  -- What the table decides of it, done, is its outcome.
-  decided : (d : Decision) → d ≡ tableDecision (capacity (b .keys)) (bucketOf b) (both (when .judge)) sender (verbMeans line v) → done b (when .judge) (verbMeans line v) a d ≡ outcome b (call line a)
-  decided d e =
-      let q = line-says b line a v when p in
-      ap (λ (x : Decision). done b (when .judge) (verbMeans line v) a x) e
-      ∙ said-passes b line a (p .is-whole) _ (when .judge) (q .room-fits) (q .says) (line-judge b line a v when p)
-      (q .passes ∙ ap (λ (t : ℕ). fieldRefusal (settingsMean (b .settings) .config) (q .who) t (verbMeans line v)) (line-stamp b line a v when p))
+known : {b : Lent} {line a : List ℕ} {v : Verb} {when : Now} → Passing b line a v when → Known b line a v when
+known {b} {line} {a} {v} {when} p =
+    let q = line-says b line a v when p in
+    record {
+      who = q .who;
+      prefixes = (whole-parts b (p .is-whole)) .prefixes;
+      room = q .room-fits;
+      inside = q .inside;
+      asked = line-asked b line a v when p;
+      one-now = line-stamp b line a v when p;
+      decided = λ d e. ap (λ (x : Decision). done b (when .judge) (verbMeans line v) a x) e
+          ∙ said-passes b line a (p .is-whole) _ (when .judge) (q .room-fits) (q .says) (line-judge b line a v when p)
+          (q .passes ∙ ap (λ (t : ℕ). fieldRefusal (settingsMean (b .settings) .config) (q .who) t (verbMeans line v)) (line-stamp b line a v when p));
+    }
 
 -- Some sender: whether a verdict can be carried out hangs on none.
 anyone : model.Rights
@@ -139,39 +140,39 @@ anyone = record { r = false; w = false; d = false; t = false; h = false; b = fal
 
 -- ## An action
 
-module _ (s : State) (n b line a : List ℕ) (x : Action) (when : Now) (h : Actable s n b line a x when) where
-  pub act-asked : Asked s n b (when .judge) (actionMeans line x)
+module _ (s : State) (n keys line a : List ℕ) (x : Action) (when : Now) (h : Actable s n keys line a x when) where
+  pub act-asked : Asked s n keys (when .judge) (actionMeans line x)
   act-asked = h .asked
 
   pub act-inside : ActionInside line x
   act-inside = h .inside
 
-  module _ (o : Verdict) (fates : List ℕ) (j : JudgesOn s n b line (when .judge) (actionMeans line x) o) where
-    pub act-can : CanCarryOut s n b line a o (when .stamp) fates
+  module _ (o : Verdict) (fates : List ℕ) (j : JudgesOn s n keys line (when .judge) (actionMeans line x) o) where
+    pub act-can : CanCarryOut s n keys line a o (when .stamp) fates
     act-can = rw (h .one-now) (record { ready = h .asked .ready; feasible = (j anyone [] fates) .feasible; room = h .room })
 
-    pub act-done : (y : Step) (n′ b′ a′ : List ℕ) → CarriedOut s n b line a o (when .stamp) fates y n′ b′ a′ → Acted s n b line a x when y n′ b′ a′
-    act-done y n′ b′ a′ g =
+    pub act-done : (y : Step) (n′ keys′ a′ : List ℕ) → CarriedOut s n keys line a o (when .stamp) fates y n′ keys′ a′ → Acted s n keys line a x when y n′ keys′ a′
+    act-done y n′ keys′ a′ g =
         record {
-          is = λ t e p. (rw (h .one-now) at g) .is t (actionMeans line x) e (prefixes (lent t n b) line a (verb.Act x) when p) (action-unset line x)
-              ∙ decided (lent t n b) line a (verb.Act x) when p _ ((rw e at j (sender (lent t n b) line a (verb.Act x) when p) (rulesMean (t .rules)) fates) .is);
+          is = λ t e p. let q = known p in
+              (rw (h .one-now) at g) .is t (actionMeans line x) e (q .prefixes) (action-unset line x) ∙ q .decided _ ((rw e at j (q .who) (rulesMean (t .rules)) fates) .is);
         }
 
 pub ruleset actions = (act-asked, act-inside, act-can, act-done)
 
-module _ (s : Settings) (n b line a : List ℕ) (x : Action) (when : Now) (p : Passing (lent s n b) line a (verb.Act x) when) (st : State) (e : st ≡ stateOf s) where
-  pub line-actable : Actable st n b line a x when
-  line-actable = rw e (record { asked = asks (lent s n b) line a (verb.Act x) when p; inside = (line-says (lent s n b) line a (verb.Act x) when p) .inside; room = room (lent s n b) line a (verb.Act x) when p; one-now = line-stamp (lent s n b) line a (verb.Act x) when p })
+module _ (s : Settings) (n keys line a : List ℕ) (x : Action) (when : Now) (p : Passing (lent s n keys) line a (verb.Act x) when) (st : State) (e : st ≡ stateOf s) where
+  pub line-actable : Actable st n keys line a x when
+  line-actable = let q = known p in rw e (record { asked = q .asked; inside = q .inside; room = q .room; one-now = q .one-now })
 
-  pub line-acted : (y : Step) (r : Served) (n′ b′ a′ : List ℕ) → Acted st n b line a x when y n′ b′ a′ → r ≡ served s y → outcomeFrom r n′ b′ a′ ≡ outcome (lent s n b) (call line a)
-  line-acted y r n′ b′ a′ g q = rw q (g .is s e p)
+  pub line-acted : (y : Step) (r : Served) (n′ keys′ a′ : List ℕ) → Acted st n keys line a x when y n′ keys′ a′ → r ≡ served s y → outcomeFrom r n′ keys′ a′ ≡ outcome (lent s n keys) (call line a)
+  line-acted y r n′ keys′ a′ g q = rw q (g .is s e p)
 
 pub ruleset acted-lines = (line-actable, line-acted)
 
 -- ## SWEEP
 
-module _ (s : State) (rules : List Rule) (n b line a : List ℕ) (when : Now) (h : SweepAsked s rules n b a when) where
-  pub sweep-asked : Asked s n b (when .judge) Sweep
+module _ (s : State) (rules : List Rule) (n keys line a : List ℕ) (when : Now) (h : SweepAsked s rules n keys a when) where
+  pub sweep-asked : Asked s n keys (when .judge) Sweep
   sweep-asked = h .asked
 
   pub sweep-rules : (fates : List ℕ) → fates ≡ replicate 1024 0 → Sweepable s rules fates
@@ -179,68 +180,67 @@ module _ (s : State) (rules : List Rule) (n b line a : List ℕ) (when : Now) (h
       let l : length fates ≡ 1024 = ap length f ∙ length-replicate {A = ℕ} 1024 0 in
       record { prefixes = h .prefixes; rules-sound = h .rules-sound; long = omega (arith, h .asked .ready .used-fits, h .asked .ready .capacity-fits) }
 
-  module _ (o : Verdict) (fates : List ℕ) (j : (l : List ℕ) (who : model.Rights) → JudgesBy s n b l (when .judge) who (rulesMean rules) fates Sweep o) where
-    pub sweep-can : CanCarryOut s n b line a o (when .stamp) fates
+  module _ (o : Verdict) (fates : List ℕ) (j : (l : List ℕ) (who : model.Rights) → JudgesBy s n keys l (when .judge) who (rulesMean rules) fates Sweep o) where
+    pub sweep-can : CanCarryOut s n keys line a o (when .stamp) fates
     sweep-can = rw (h .one-now) (record { ready = h .asked .ready; feasible = (j line anyone) .feasible; room = h .room })
 
-    pub sweep-done : (y : Step) (n′ b′ a′ : List ℕ) → CarriedOut s n b line a o (when .stamp) fates y n′ b′ a′ → Swept s rules n b line a when y n′ b′ a′
-    sweep-done y n′ b′ a′ g =
+    pub sweep-done : (y : Step) (n′ keys′ a′ : List ℕ) → CarriedOut s n keys line a o (when .stamp) fates y n′ keys′ a′ → Swept s rules n keys line a when y n′ keys′ a′
+    sweep-done y n′ keys′ a′ g =
         record {
-          is = λ t e q p. (rw (h .one-now) at g) .is t Sweep e (prefixes (lent t n b) line a verb.Sweep when p) refl
-              ∙ decided (lent t n b) line a verb.Sweep when p _ ((rw (e, sym q) at (j line (sender (lent t n b) line a verb.Sweep when p))) .is);
+          is = λ t e q p. let k = known p in
+              (rw (h .one-now) at g) .is t Sweep e (k .prefixes) refl ∙ k .decided _ ((rw (e, sym q) at (j line (k .who))) .is);
         }
 
 pub ruleset sweeps = (sweep-asked, sweep-rules, sweep-can, sweep-done)
 
-module _ (s : Settings) (n b line a : List ℕ) (when : Now) (p : Passing (lent s n b) line a verb.Sweep when) (st : State) (e : st ≡ stateOf s) where
-  pub line-sweeps : SweepAsked st (s .rules) n b a when
-  line-sweeps =
-      rw e (record {
-        asked = asks (lent s n b) line a verb.Sweep when p;
-        prefixes = prefixes (lent s n b) line a verb.Sweep when p;
-        rules-sound = whole-rules (lent s n b) (p .is-whole);
-        room = room (lent s n b) line a verb.Sweep when p;
-        one-now = line-stamp (lent s n b) line a verb.Sweep when p;
-      })
+module _ (s : Settings) (n keys line a : List ℕ) (when : Now) (p : Passing (lent s n keys) line a verb.Sweep when) (st : State) (e : st ≡ stateOf s) where
+  pub line-sweeps : SweepAsked st (s .rules) n keys a when
+  line-sweeps = let q = known p in rw e (record { asked = q .asked; prefixes = q .prefixes; rules-sound = whole-rules (lent s n keys) (p .is-whole); room = q .room; one-now = q .one-now })
 
-  pub line-swept : (y : Step) (r : Served) (n′ b′ a′ : List ℕ) → Swept st (s .rules) n b line a when y n′ b′ a′ → r ≡ served s y → outcomeFrom r n′ b′ a′ ≡ outcome (lent s n b) (call line a)
-  line-swept y r n′ b′ a′ g q = rw q (g .is s e refl p)
+  pub line-swept : (y : Step) (r : Served) (n′ keys′ a′ : List ℕ) → Swept st (s .rules) n keys line a when y n′ keys′ a′ → r ≡ served s y → outcomeFrom r n′ keys′ a′ ≡ outcome (lent s n keys) (call line a)
+  line-swept y r n′ keys′ a′ g q = rw q (g .is s e refl p)
 
 pub ruleset swept-lines = (line-sweeps, line-swept)
 
 -- ## What asks
 
-module _ (s : Settings) (n b line a : List ℕ) (x : Query) (when : Now) (p : Passing (lent s n b) line a (verb.Ask x) when) where
-  pub query-room : 256 ≤ length a
-  query-room = room (lent s n b) line a (verb.Ask x) when p
+module _ (s : Settings) (n keys line a : List ℕ) (x : Query) (when : Now) (p : Passing (lent s n keys) line a (verb.Ask x) when) where
+  pub query-room : leastRoom ≤ length a
+  query-room = known p .room
 
   pub query-inside : QueryInside line x
-  query-inside = (line-says (lent s n b) line a (verb.Ask x) when p) .inside
+  query-inside = known p .inside
 
   module _ (st : State) (e : st ≡ stateOf s) where
-    pub query-asked : Asked st n b (when .judge) (Ask (queryMeans line x))
-    query-asked = rw e (asks (lent s n b) line a (verb.Ask x) when p)
+    pub query-asked : Asked st n keys (when .judge) (Ask (queryMeans line x))
+    query-asked = rw e (known p .asked)
 
-    module _ (o : Verdict) (j : JudgesOn st n b line (when .judge) (Ask (queryMeans line x)) o) where
-      -- The verdict, done, is the outcome.
-      judged-done : done (lent s n b) (when .judge) (Ask (queryMeans line x)) a (verdictMeans (judged line (s .next) (when .judge) []) (rowsOf n b (s .used)) o) ≡ outcome (lent s n b) (call line a)
-      judged-done = decided (lent s n b) line a (verb.Ask x) when p _ (((rw e at j) (sender (lent s n b) line a (verb.Ask x) when p) (rulesMean (s .rules)) []) .is)
+    module _ (o : Verdict) (j : JudgesOn st n keys line (when .judge) (Ask (queryMeans line x)) o) where
+      -- The verdict is what the table decides, and done it is the outcome.
+      judged-is : verdictMeans (judged line (s .next) (when .judge) []) (rowsOf n keys (s .used)) o ≡ tableDecision (capacity keys) (bucketOf (lent s n keys)) (both (when .judge)) (known p .who) (Ask (queryMeans line x))
+      judged-is = ((rw e at j) (known p .who) (rulesMean (s .rules)) []) .is
 
-      pub query-refused : (k : ℕ) (r : Served) → o ≡ verdict.Refused k → r .number ≡ k → r .len ≡ 0 → r .settings ≡ s → outcomeFrom r n b a ≡ outcome (lent s n b) (call line a)
-      query-refused k r t f g h = refused-is r k s n b a f g h ∙ (rw t at judged-done)
+      judged-done : done (lent s n keys) (when .judge) (Ask (queryMeans line x)) a (verdictMeans (judged line (s .next) (when .judge) []) (rowsOf n keys (s .used)) o) ≡ outcome (lent s n keys) (call line a)
+      judged-done = known p .decided _ judged-is
+
+      pub query-refused : (k : ℕ) (r : Served) → o ≡ verdict.Refused k → r .number ≡ k → r .len ≡ 0 → r .settings ≡ s → outcomeFrom r n keys a ≡ outcome (lent s n keys) (call line a)
+      query-refused k r t f g h = refused-is r k s n keys a f g h ∙ (rw t at judged-done)
 
       module _ (plan : Plan) (t : o ≡ verdict.Accepted plan) where
         pub query-prints : Printable (plan .answer)
         query-prints = ((rw t at j) anyone [] [] .feasible) .1
 
-        pub query-answered : (a′ : List ℕ) (len : ℕ) (text : Answer) (after : Settings) → plan .answer ≡ text → Wrote a 0 (textOf text) 256 a′ len
-            → after ≡ withProgress s (when .stamp) (s .used) (s .next) → outcomeFrom (record { number = 0; len = len; settings = after }) n b a′ ≡ outcome (lent s n b) (call line a)
+        pub query-answered : (a′ : List ℕ) (len : ℕ) (text : Answer) (after : Settings) → plan .answer ≡ text → Wrote a 0 (textOf text) longestAnswer a′ len
+            → after ≡ withProgress s (when .stamp) (s .used) (s .next) → outcomeFrom (record { number = 0; len = len; settings = after }) n keys a′ ≡ outcome (lent s n keys) (call line a)
         unfolding added rowsAfter
         query-answered a′ len text after h w g =
-            let same : _ ≡ effect (bucketOf (lent s n b)) (both (when .judge)) (sender (lent s n b) line a (verb.Ask x) when p) (Ask (queryMeans line x)) = decide-done (tableChecks (capacity b) (bucketOf (lent s n b)) (both (when .judge)) (Ask (queryMeans line x))) _ _ (((rw (e, t) at j) (sender (lent s n b) line a (verb.Ask x) when p) (rulesMean (s .rules)) []) .is) in
-            kept-is s n b (when .judge) (Ask (queryMeans line x)) a _ len after a′ (rw (sym h) at w)
-            (rw (line-stamp (lent s n b) line a (verb.Ask x) when p) at g ∙ settings-after s (Ask (queryMeans line x)) (when .judge) (s .used) (s .next) refl (prefixes (lent s n b) line a (verb.Ask x) when p))
-            ((asks (lent s n b) line a (verb.Ask x) when p) .ready .holds)
+            let q = known p in
+            let c = bucketOf (lent s n keys) in
+            let v = Ask (queryMeans line x) in
+            let same = decide-done (tableChecks (capacity keys) c (both (when .judge)) v) (effect c (both (when .judge)) (q .who) v) _ (rw t at judged-is) in
+            kept-is s n keys (when .judge) (Ask (queryMeans line x)) a _ len after a′ (rw (sym h) at w)
+            (rw (q .one-now) at g ∙ settings-after s (Ask (queryMeans line x)) (when .judge) (s .used) (s .next) refl (q .prefixes))
+            (q .asked .ready .holds)
             (ap (λ (f : Effect). f .rows) same) (ap (λ (f : Effect). f .taken) same)
             ∙ (rw t at judged-done)
 
@@ -248,43 +248,34 @@ pub ruleset queries = (query-room, query-inside, query-asked, query-refused, que
 
 -- ## DEFAULT and RULE
 
-pub set-done : (s : Settings) (line a a′ : List ℕ) (x : Setting) (when : Now) (len : ℕ) (u after : Settings) (n b : List ℕ) → Wrote a 0 (textOf answer.Done) 256 a′ len → u ≡ configuredBy s (settingMeans line x)
-    → after ≡ withProgress u (when .stamp) (s .used) (s .next) → Passing (lent s n b) line a (verb.Set x) when → outcomeFrom (record { number = 0; len = len; settings = after }) n b a′ ≡ outcome (lent s n b) (call line a)
+pub set-done : (s : Settings) (line a a′ : List ℕ) (x : Setting) (when : Now) (len : ℕ) (u after : Settings) (n keys : List ℕ) → Wrote a 0 (textOf answer.Done) longestAnswer a′ len → u ≡ configuredBy s (settingMeans line x)
+    → after ≡ withProgress u (when .stamp) (s .used) (s .next) → Passing (lent s n keys) line a (verb.Set x) when → outcomeFrom (record { number = 0; len = len; settings = after }) n keys a′ ≡ outcome (lent s n keys) (call line a)
 unfolding configAfter
-set-done s line a a′ x when len u after n b w c g p =
-    let h = asks (lent s n b) line a (verb.Set x) when p in
-    let plan : Plan = record { change = change.Keep; answer = answer.Done } in
-    kept-is s n b (when .judge) (Set (settingMeans line x)) a (planMeans (judged line (s .next) (when .judge) []) (rowsOf n b (s .used)) plan) len after a′ w
-    (rw (g, c, line-stamp (lent s n b) line a (verb.Set x) when p))
-    (h .ready .holds) refl refl
-    ∙ decided (lent s n b) line a (verb.Set x) when p (does (planMeans (judged line (s .next) (when .judge) []) (rowsOf n b (s .used)) plan))
-    ((judge.set-done (stateOf s) n b line (when .judge) (sender (lent s n b) line a (verb.Set x) when p) (rulesMean (s .rules)) [] (settingMeans line x) h) .is)
+set-done s line a a′ x when len u after n keys w c g p =
+    let q = known p in
+    let e = planMeans (judged line (s .next) (when .judge) []) (rowsOf n keys (s .used)) (record { change = change.Keep; answer = answer.Done }) in
+    kept-is s n keys (when .judge) (Set (settingMeans line x)) a e len after a′ w (rw (g, c, q .one-now)) (q .asked .ready .holds) refl refl
+    ∙ q .decided (does e) ((judge.set-done (stateOf s) n keys line (when .judge) (q .who) (rulesMean (s .rules)) [] (settingMeans line x) (q .asked)) .is)
 
 -- ## A line that the screen passes, by its verb
 
-module _ (s : Settings) (n b line a : List ℕ) (w : whole (lent s n b) ≡ true) (st : State) (i : st ≡ stateOf s) (o : Screened) (h : Screens st line (length a) o) (v : Verb) (when : Now) (e : o ≡ screened.Passed v when) where
-  pub line-passes : (u : Verb) → v ≡ u → Passing (lent s n b) line a u when
+module _ (s : Settings) (n keys line a : List ℕ) (w : whole (lent s n keys) ≡ true) (st : State) (i : st ≡ stateOf s) (o : Screened) (h : Screens st line (length a) o) (v : Verb) (when : Now) (e : o ≡ screened.Passed v when) where
+  pub line-passes : (u : Verb) → v ≡ u → Passing (lent s n keys) line a u when
   line-passes u f = record { is-whole = w; passes = rw f at (sym e ∙ (rw i at h) .is (settingsMean s .config)) }
 
-  pub line-fits : 256 ≤ length a
-  line-fits = room (lent s n b) line a v when (line-passes v refl)
+  pub line-fits : leastRoom ≤ length a
+  line-fits = known (line-passes v refl) .room
 
   module _ (x : Setting) (f : v ≡ verb.Set x) where
     pub line-settable : Settable line s x
     unfolding inRange
-    line-settable =
-        let p = line-passes (verb.Set x) f in
-        record {
-          prefixes = prefixes (lent s n b) line a (verb.Set x) when p;
-          in-range = and-r (leb ((line-says (lent s n b) line a (verb.Set x) when p) .clock) latest) _ (line-ranges (lent s n b) line a (verb.Set x) when p);
-          inside = (line-says (lent s n b) line a (verb.Set x) when p) .inside;
-        }
+    line-settable = let q = known (line-passes (verb.Set x) f) in record { prefixes = q .prefixes; in-range = q .asked .in-range; inside = q .inside }
 
-    pub line-set : (r : Served) (a′ : List ℕ) → ((n b : List ℕ) → Passing (lent s n b) line a (verb.Set x) when → outcomeFrom r n b a′ ≡ outcome (lent s n b) (call line a)) → outcomeFrom r n b a′ ≡ outcome (lent s n b) (call line a)
-    line-set r a′ g = g n b (line-passes (verb.Set x) f)
+    pub line-set : (r : Served) (a′ : List ℕ) → ((n keys : List ℕ) → Passing (lent s n keys) line a (verb.Set x) when → outcomeFrom r n keys a′ ≡ outcome (lent s n keys) (call line a)) → outcomeFrom r n keys a′ ≡ outcome (lent s n keys) (call line a)
+    line-set r a′ g = g n keys (line-passes (verb.Set x) f)
 
 pub ruleset lines = (line-stopped, line-passes, line-fits, line-settable, line-set)
 
 -- For callers: the answer stands within its buffer.
-pub answer-fits : (b : Lent) (g : Call) (n′ b′ a′ : List ℕ) (r : Served) → outcomeFrom r n′ b′ a′ ≡ outcome b g → r .len ≤ length a′
-answer-fits b g n′ b′ a′ r q = subst⁻¹ (λ (o : Outcome). o .len ≤ length (o .answer)) q (outcome-fits b g)
+pub answer-fits : (b : Lent) (g : Call) (n′ keys′ a′ : List ℕ) (r : Served) → outcomeFrom r n′ keys′ a′ ≡ outcome b g → r .len ≤ length a′
+answer-fits b g n′ keys′ a′ r q = subst⁻¹ (λ (o : Outcome). o .len ≤ length (o .answer)) q (outcome-fits b g)
