@@ -1,4 +1,4 @@
--- 01, refusal 1: the buffers' lengths fit one c, and the whole is sound.
+-- The bucket as it is lent, and 01, refusal 1: the buffers' lengths fit one c, and the whole is sound.
 use Prim.Native.Nat.{ℕ, _*_}
 use mathlib.Core.Bool.{Bool, _&&_}
 use mathlib.Core.List.{List, []}

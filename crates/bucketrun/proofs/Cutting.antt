@@ -1,6 +1,6 @@
 -- However the input is cut into blocks, it prints and leaves what its lines print and leave.
 use Prim.Native.Nat.{ℕ, suc, _≤_, _<_}
-use mathlib.Core.Path.{_≡_, refl, sym, _∙_, ap}
+use mathlib.Core.Path.{_≡_, sym, _∙_, ap}
 use mathlib.Core.Logic.{inl, inr}
 use mathlib.Core.Bool.{false}
 use mathlib.Core.List.{List, [], _∷_, _++_, append-nil, append-assoc}
@@ -13,25 +13,14 @@ use borrow.Author.Tests.{lt-ltb, ltb-true, ltb-false}
 use Rattle.buffers.proofs.Tests.{either}
 use Rattle.text.specs.Lines.{linesOf, feedAt}
 use Rattle.text.specs.Keys.{contains}
+use Rattle.model.proofs.Runs.{left-append, gathered-append}
 use Rattle.request.specs.Grammar.{requestIn, readLine}
 use Rattle.bucket.specs.Whole.{Lent}
 use Rattle.outcome.specs.Outcome.{Outcome}
 use Rattle.outcome.specs.Printed.{printedOf}
 use Rattle.outcome.proofs.Heard.{same-outcome}
-use Rattle.bucketrun.specs.Program.{answerRoom, servedLine, afterLine, leftBy, printedBy, endedLength, endedLines, begunLine, waiting, afterBlocks, printedBlocks, joined, CutAnywhere}
+use Rattle.bucketrun.specs.Program.{answerRoom, servedLine, afterLine, printedLine, leftBy, printedBy, endedLength, endedLines, begunLine, waiting, afterBlocks, printedBlocks, joined, CutAnywhere}
 use Rattle.bucketrun.proofs.Lines.{end-cut, end-most, rest-none, none-take, lines-append, lines-begun}
-
--- ## Lists of lines
-
-pub left-append : (h : Lent) (ls ms : List (List ℕ)) → leftBy h (ls ++ ms) ≡ leftBy (leftBy h ls) ms
-left-append h [] ms = refl
-left-append h (l ∷ ls) ms = left-append (afterLine h l) ls ms
-
-pub printed-append : (h : Lent) (ls ms : List (List ℕ)) → printedBy h (ls ++ ms) ≡ printedBy h ls ++ printedBy (leftBy h ls) ms
-printed-append h [] ms = refl
-printed-append h (l ∷ ls) ms =
-    ap (λ (t : List ℕ). printedOf (servedLine h l) ++ t) (printed-append (afterLine h l) ls ms)
-    ∙ sym (append-assoc (printedOf (servedLine h l)) (printedBy (afterLine h l) ls) (printedBy (leftBy (afterLine h l) ls) ms))
 
 -- ## Long lines
 
@@ -80,13 +69,13 @@ text-lines t u =
 block-printed : (h : Lent) (t u : List ℕ) → printedBy h (endedLines t) ++ printedBy (leftBy h (endedLines t)) (linesOf (begunLine t ++ u)) ≡ printedBy h (linesOf (t ++ u))
 block-printed h t u =
     ap (λ (x : List ℕ). printedBy h (endedLines t) ++ x) (cut-printed (leftBy h (endedLines t)) (drop (endedLength t) t) u (rest-none t))
-    ∙ sym (printed-append h (endedLines t) (linesOf (drop (endedLength t) t ++ u)))
+    ∙ sym (gathered-append afterLine printedLine h (endedLines t) (linesOf (drop (endedLength t) t ++ u)))
     ∙ ap (printedBy h) (sym (text-lines t u))
 
 block-left : (h : Lent) (t u : List ℕ) → leftBy (leftBy h (endedLines t)) (linesOf (begunLine t ++ u)) ≡ leftBy h (linesOf (t ++ u))
 block-left h t u =
     cut-left (leftBy h (endedLines t)) (drop (endedLength t) t) u (rest-none t)
-    ∙ sym (left-append h (endedLines t) (linesOf (drop (endedLength t) t ++ u)))
+    ∙ sym (left-append afterLine h (endedLines t) (linesOf (drop (endedLength t) t ++ u)))
     ∙ ap (leftBy h) (sym (text-lines t u))
 
 blocks-printed : (h : Lent) (begun : List ℕ) (xs : List (List ℕ)) → printedBlocks (waiting h begun) xs ≡ printedBy h (linesOf (begun ++ joined xs))

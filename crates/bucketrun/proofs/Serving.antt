@@ -13,19 +13,19 @@ use Rattle.buffers.proofs.Tests.{clash}
 use Rattle.buffers.proofs.Parts.{rest-all, part-cut}
 use Rattle.buffers.proofs.Writes.{wrote-both}
 use Rattle.text.specs.Lines.{linesOf, feedAt}
+use Rattle.model.proofs.Runs.{left-append, gathered-append}
 use Rattle.bucket.specs.Whole.{Lent, lent, whole}
 use Rattle.outcome.specs.Calls.{call, heard}
 use Rattle.outcome.specs.Outcome.{Outcome, outcome}
 use Rattle.outcome.specs.Printed.{printed, printedOf}
-use Rattle.outcome.proofs.Heard.{heard-room, same-left, same-printed, same-behind}
+use Rattle.outcome.proofs.Heard.{length-heard, same-left, same-printed, same-behind}
 use Rattle.outcome.proofs.Kept.{outcome-whole}
 use Rattle.engine.specs.declared.Served.{Served}
 use Rattle.engine.specs.Served.{outcomeFrom}
 use Rattle.engine.proofs.Serving.{answer-fits}
-use Rattle.bucketrun.specs.Program.{answerRoom, servedLine, leftBy, printedBy, endedLength}
+use Rattle.bucketrun.specs.Program.{answerRoom, servedLine, afterLine, printedLine, leftBy, printedBy, endedLength}
 use Rattle.bucketrun.specs.Course.{Servable, Through, BetweenLines, ServedSome, BetweenParts, ServedAll}
 use Rattle.bucketrun.proofs.Lines.{none-feed, none-end, end-append, end-first, lines-append, lines-first}
-use Rattle.bucketrun.proofs.Cutting.{left-append, printed-append}
 
 -- ## The first bytes of a block, and more of them
 
@@ -53,14 +53,14 @@ module _ (h : Lent) (block : List ℕ) (i : ℕ) (b : Lent) (g : Through h block
           is-whole = d .is-whole;
           leads =
               d .leads ∙ ap (λ (x : Lent). leftBy x (linesOf (take j (drop i block)))) (g .leads)
-              ∙ sym (ap (leftBy h) lines-both ∙ left-append h (linesOf (take i block)) (linesOf (take j (drop i block))));
+              ∙ sym (ap (leftBy h) lines-both ∙ left-append afterLine h (linesOf (take i block)) (linesOf (take j (drop i block))));
           inside = omega (arith, g .inside, d .inside);
           cut = ap endedLength (take-add i j block) ∙ end-behind (take j (drop i block)) ∙ ap (λ (n : ℕ). i + n) (d .cut);
         }
 
     printed-both : printedBy h (linesOf (take (i + j) block)) ≡ printedBy h (linesOf (take i block)) ++ printedBy b (linesOf (take j (drop i block)))
     printed-both =
-        ap (printedBy h) lines-both ∙ printed-append h (linesOf (take i block)) (linesOf (take j (drop i block)))
+        ap (printedBy h) lines-both ∙ gathered-append afterLine printedLine h (linesOf (take i block)) (linesOf (take j (drop i block)))
         ∙ ap (λ (x : Lent). printedBy h (linesOf (take i block)) ++ printedBy x (linesOf (take j (drop i block)))) (sym (g .leads))
 
 -- ## The first line of the rest of a block
@@ -72,7 +72,7 @@ module _ (b : Lent) (rest : List ℕ) (k : ℕ) (f : k ≡ feedAt rest) (z : k <
   -- Of the answer buffer only its length counts.
   same-heard : heard (call (take k rest) a) ≡ heard (call (take k rest) answerRoom)
   unfolding answerRoom
-  same-heard = heard-room (take k rest) a answerRoom (l ∙ sym (length-replicate {A = ℕ} 65536 0))
+  same-heard = length-heard (take k rest) a answerRoom (l ∙ sym (length-replicate {A = ℕ} 65536 0))
 
   line-through : whole b ≡ true → Through b rest (suc k) (o .bucket)
   line-through w =

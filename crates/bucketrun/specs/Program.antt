@@ -29,9 +29,12 @@ afterLine h l = (servedLine h l) .bucket
 abbrev pub leftBy : Lent → List (List ℕ) → Lent
 leftBy h ls = left afterLine h ls
 
+abbrev pub printedLine : Lent → List ℕ → List ℕ
+printedLine h l = printedOf (servedLine h l)
+
 -- What they print.
 abbrev pub printedBy : Lent → List (List ℕ) → List ℕ
-printedBy h ls = gathered afterLine (λ h l. printedOf (servedLine h l)) h ls
+printedBy h ls = gathered afterLine printedLine h ls
 
 -- ## Blocks
 

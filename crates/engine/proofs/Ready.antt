@@ -62,7 +62,7 @@ module _ (b : Lent) (line a : List ℕ) (v : Verb) (when : Now) (p : Passing b l
   pub line-stamp : when .stamp ≡ when .judge
   line-stamp = ap (λ (t : Now). t .stamp) (line-says .now-is) ∙ sym line-judge
 
-  pub line-ranges : (leb (line-says .clock) latest && inRange (verbMeans line v)) ≡ true
+  line-ranges : (leb (line-says .clock) latest && inRange (verbMeans line v)) ≡ true
   line-ranges = read-in-range line _ (line-says .says)
 
   pub line-asked : Asked (stateOf (b .settings)) (b .numbers) (b .keys) (when .judge) (verbMeans line v)

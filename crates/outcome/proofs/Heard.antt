@@ -37,8 +37,8 @@ pub same-behind : (b : Lent) (g : Call) → drop (length (printedOf (outcome b g
 same-behind b g =
     both-outcomes b g g (λ o p. drop (length (printedOf o)) (o .answer) ≡ drop (length (printedOf o)) (g .answer)) (λ k. refl) (λ q. simp (take-append-seam, drop-append-seam)) refl
 
-pub heard-room : (l a a′ : List ℕ) → length a ≡ length a′ → heard (call l a) ≡ heard (call l a′)
-heard-room l a a′ e = ap (λ (n : ℕ). heardOf n (line l)) e
+pub length-heard : (l a a′ : List ℕ) → length a ≡ length a′ → heard (call l a) ≡ heard (call l a′)
+length-heard l a a′ e = ap (λ (n : ℕ). heardOf n (line l)) e
 
 -- Two lines that read the same have the same outcome.
 pub same-outcome : (b : Lent) (l l′ a : List ℕ) → readLine l ≡ readLine l′ → outcome b (call l a) ≡ outcome b (call l′ a)

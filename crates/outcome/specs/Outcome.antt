@@ -42,7 +42,7 @@ conditions b g = checks (whole b) (capacity (b .keys)) (bucketOf b) (heard g)
 unfoldable pub refusalOf : Lent → Call → ℕ
 refusalOf b g = firstOf (conditions b g)
 
--- What is heard, accepted.
+-- What is heard, accepted; nothing readable is refused.
 abbrev pub accept : Lent → Heard → List ℕ → Outcome
 accept b (unreadable room) answer = refused 3 b answer
 accept b (says q) answer = accepted b q answer
