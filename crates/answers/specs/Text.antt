@@ -11,7 +11,7 @@ use Rattle.model.specs.Rows.{Row, governance}
 use Rattle.model.specs.Requests.{Version, numbered}
 use Rattle.model.specs.Answers.{Answer, done, made, marked, removed, removedMarker, sweptCounts, shown}
 
--- the longest answer of one line
+-- no answer of one line is longer than this
 abbrev pub longestAnswer : ℕ
 longestAnswer = 256
 

@@ -38,15 +38,15 @@ module _ (input : List ℕ) (kept : ℕ) (ys : List ℕ) (h : kept < length inpu
   filled-stays : take kept filled ≡ take kept input
   filled-stays = take-put kept (length input - kept) input ys (omega arith)
 
-  pub came-more : (k : ℕ) → k ≤ length (take (length filled - kept) (drop kept filled)) → CameBehind input kept filled (kept + k) false
-  came-more k m =
+  pub came-more : (k : ℕ) → 0 < k → k ≤ length (take (length filled - kept) (drop kept filled)) → CameBehind input kept filled (kept + k) false
+  came-more k n m =
       let e = filled-long in
       let t = length-take (length filled - kept) (drop kept filled) in
       let d = length-drop kept filled in
-      record { span = record { from = omega arith; to = omega arith }; stays = filled-stays; ends = λ x. absurd (clash false x refl) }
+      record { span = record { from = omega arith; to = omega arith }; stays = filled-stays; comes = λ x. omega arith; ends = λ x. absurd (clash false x refl) }
 
   pub came-none : kept ≡ 0 → CameBehind input kept filled 0 true
-  came-none e = record { span = record { from = omega arith; to = omega arith }; stays = filled-stays; ends = λ x. sym (ap (λ (k : ℕ). feedEnded (take k input)) e) }
+  came-none e = record { span = record { from = omega arith; to = omega arith }; stays = filled-stays; comes = λ x. absurd (clash true refl x); ends = λ x. sym (ap (λ (k : ℕ). feedEnded (take k input)) e) }
 
   pub came-end : (kept ≡ 0 → ⊥) → CameBehind input kept (set filled kept 10) (kept + 1) true
   came-end q =
@@ -56,6 +56,7 @@ module _ (input : List ℕ) (kept : ℕ) (ys : List ℕ) (h : kept < length inpu
       record {
         span = record { from = omega arith; to = omega arith };
         stays = take-set-le kept filled kept 10 (omega arith) ∙ filled-stays;
+        comes = λ x. omega arith;
         ends = λ x. rw add-one (take-suc-set filled kept 10 (omega arith)) ∙ ap (λ (u : List ℕ). u ++ 10 ∷ []) filled-stays ∙ sym (closed-some (take kept input) (omega arith));
       }
 

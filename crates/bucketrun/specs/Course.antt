@@ -1,5 +1,5 @@
 -- What the program's functions ask for and leave.
-use Prim.Native.Nat.{ℕ, _-_, _≤_}
+use Prim.Native.Nat.{ℕ, _-_, _≤_, _<_}
 use mathlib.Core.Path.{_≡_}
 use mathlib.Core.Bool.{Bool, true, false}
 use mathlib.Core.List.{List, []}
@@ -61,10 +61,11 @@ pub record ServedAll (h : Lent) (block : List ℕ) (b : Lent) (i : ℕ) (told : 
 
 -- ## The blocks
 
--- Bytes came behind the first `kept`, which stay; at the input's end a line feed did, if any are kept.
+-- Bytes came behind the first `kept`, which stay, at least one; at the input's end none did but a line feed, if any are kept.
 pub record CameBehind (input : List ℕ) (kept : ℕ) (exit : List ℕ) (end : ℕ) (over : Bool) : Type 0 where
   pub span : Span kept end (length input)
   pub stays : take kept exit ≡ take kept input
+  pub comes : over ≡ false → kept < end
   pub ends : over ≡ true → take end exit ≡ feedEnded (take kept input)
 
 -- A block is served, and the start of a line may be kept: what stands then is what the block leaves, where all output was taken.

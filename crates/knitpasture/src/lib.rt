@@ -52,14 +52,14 @@ pub extern "C" fn knitpasture_serve_words(
 
 // Room for the numbers of 64 rows: less to clear, where the table is small.
 fn few_numbers() -> [u64; 512]
-    ensures { λ r. ⌜ length r ≡ 512 ⌝ }
+    ensures { λ r. ⌜ (r ≡ replicate 512 0) × (length r ≡ 512) ⌝ }
 {
     [0u64; 512]
 }
 
 // Room for the numbers of the largest table.
 fn many_numbers() -> [u64; 8192]
-    ensures { λ r. ⌜ length r ≡ 8192 ⌝ }
+    ensures { λ r. ⌜ (r ≡ replicate 8192 0) × (length r ≡ 8192) ⌝ }
 {
     [0u64; 8192]
 }

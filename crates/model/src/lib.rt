@@ -64,7 +64,5 @@ pub const TABLE_BYTES: usize = 65536;
 // The bytes of the settings.
 pub const SETTINGS_BYTES: usize = 688;
 
-// The least length of an answer buffer, and the longest answer of one line.
+// The least length of an answer buffer.
 pub const LEAST_ROOM: usize = 256;
-
-pub const LONGEST_ANSWER: usize = 256;
