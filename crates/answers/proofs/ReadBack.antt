@@ -1,7 +1,6 @@
 -- A GET's answer read back: its fields, and the date among them.
 use Prim.Native.Nat.{ℕ, _≤_}
 use mathlib.Core.Path.{_≡_, refl, _∙_, ap}
-use mathlib.Core.Logic.{inl, inr}
 use mathlib.Core.Bool.{true}
 use mathlib.Core.List.{List, _∷_, _++_, append-assoc}
 use mathlib.Core.Option.{some}
@@ -9,7 +8,7 @@ use lib.Dec.{eqb}
 use borrow.Author.Tests.{ne-eqb}
 use Rattle.buffers.specs.Texts.{bytes}
 use Rattle.buffers.specs.Lists.{all}
-use Rattle.buffers.proofs.Tests.{either}
+use Rattle.buffers.proofs.Choices.{pick-ways}
 use Rattle.text.specs.Fields.{fields, fieldOf, tabbed}
 use Rattle.text.specs.Lines.{firstLine}
 use Rattle.text.proofs.Joined.{visible, digits-visible, fields-back, first-line}
@@ -24,29 +23,16 @@ use Rattle.answers.specs.Text.{fieldsText, okText, modeText, untilText, 
 mode-visible : (m : ℕ) → visible (modeText m) ≡ true
 unfolding modeText
 mode-visible m =
-    elim (either (eqb m 0)) [
-      | inl t ↦ rw t
-      | inr t ↦ elim (either (eqb m governance)) [
-        | inl u ↦ simp (t, u)
-        | inr u ↦ simp (t, u)
-      ]
-    ]
+    pick-ways (λ t. visible t ≡ true) (eqb m 0) (λ _. refl)
+    (λ _. pick-ways (λ t. visible t ≡ true) (eqb m governance) (λ _. refl) (λ _. refl))
 
 until-visible : (m d : ℕ) → visible (untilText m d) ≡ true
 unfolding untilText
-until-visible m d =
-    elim (either (eqb m 0)) [
-      | inl t ↦ rw t
-      | inr t ↦ rw t (date-visible d)
-    ]
+until-visible m d = pick-ways (λ t. visible t ≡ true) (eqb m 0) (λ _. refl) (λ _. date-visible d)
 
 hold-visible : (h : ℕ) → visible (holdText h) ≡ true
 unfolding holdText
-hold-visible h =
-    elim (either (eqb h 0)) [
-      | inl t ↦ rw t
-      | inr t ↦ rw t
-    ]
+hold-visible h = pick-ways (λ t. visible t ≡ true) (eqb h 0) (λ _. refl) (λ _. refl)
 
 module _ (x : Row) (room : List ℕ) where
   fields-visible : all visible (rowFields x) ≡ true

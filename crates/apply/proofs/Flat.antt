@@ -2,7 +2,7 @@
 use Prim.Native.Nat.{ℕ, zero, suc, _+_, _-_, _*_, _≤_, _<_}
 use mathlib.Core.Path.{_≡_, refl, sym, ap, _∙_}
 use mathlib.Core.Bool.{true}
-use mathlib.Core.List.{List, [], _∷_, _++_, append-assoc, append-nil}
+use mathlib.Core.List.{List, [], _∷_, _++_, append-nil}
 use native.Mathlib.Omega.{arith}
 use native.Mathlib.Nat.{mul-suc, mul-zero, mul-add}
 use lib.ListN.{length, getD, take, drop, set, replicate, length-append, length-replicate, take-append-drop, replicate-append-replicate}
@@ -12,15 +12,11 @@ use Rattle.buffers.specs.Writes.{placed}
 use Rattle.blocks.specs.Blocks.{blockOf}
 use Rattle.model.specs.Rows.{Row}
 use Rattle.table.specs.Layout.{Holds, numbersOfRow, numbersOf, keysOf, keysFit}
-use Rattle.table.proofs.Laying.{Laying}
+use Rattle.table.proofs.Laying.{Laying, flat, flat-append, flat-length}
 use Rattle.table.proofs.Held.{blockOfRow, numbers-laying, keys-laying}
 use Rattle.apply.specs.Passes.{Put}
 
 -- ## The bytes or numbers of rows, one row after another
-
-abbrev pub flat : (Row → List ℕ) → List Row → List ℕ
-flat f [] = []
-flat f (x ∷ xs) = f x ++ flat f xs
 
 abbrev pub free : Row
 free = record { number = 0; kind = 0; created = 0; body = 0; size = 0; mode = 0; until = 0; hold = 0; key = [] }
@@ -29,24 +25,12 @@ abbrev pub padded : ℕ → List Row → List Row
 padded c xs = xs ++ replicate (c - length xs) free
 
 module _ {f : Row → List ℕ} {k : ℕ} {g : ℕ → List Row → List ℕ} (y : Laying f k g) where
-  flat-length : (T : List Row) → length (flat f T) ≡ k * length T
-  flat-length [] = sym (mul-zero k)
-  flat-length (x ∷ T) =
-      let l = y .wide x in
-      let r = flat-length T in
-      let m = mul-suc k (length T) in
-      length-append (f x) (flat f T) ∙ omega arith
-
-  flat-append : (S T : List Row) → flat f (S ++ T) ≡ flat f S ++ flat f T
-  flat-append [] T = refl
-  flat-append (x ∷ S) T = rw append-assoc (ap (λ (l : List ℕ). f x ++ l) (flat-append S T))
-
   module _ (T : List Row) (i : ℕ) (h : i ≤ length T) where
     flat-split : flat f T ≡ flat f (take i T) ++ flat f (drop i T)
-    flat-split = ap (flat f) (sym (take-append-drop i T)) ∙ flat-append (take i T) (drop i T)
+    flat-split = ap (flat f) (sym (take-append-drop i T)) ∙ flat-append f (take i T) (drop i T)
 
     first-length : length (flat f (take i T)) ≡ k * i
-    first-length = flat-length (take i T) ∙ ap (λ (n : ℕ). k * n) (length-take-le i T h)
+    first-length = flat-length y (take i T) ∙ ap (λ (n : ℕ). k * n) (length-take-le i T h)
 
     flat-take : take (k * i) (flat f T) ≡ flat f (take i T)
     flat-take = ap (take (k * i)) flat-split ∙ take-at (flat f (take i T)) (flat f (drop i T)) (k * i) first-length
@@ -64,7 +48,7 @@ module _ {f : Row → List ℕ} {k : ℕ} {g : ℕ → List Row → List ℕ} (y
   flat-put : (T : List Row) (i : ℕ) (xs : List Row) → i + length xs ≤ length T
       → placed (flat f T) (k * i) (flat f xs) ≡ flat f (take i T ++ xs ++ drop (i + length xs) T)
   flat-put T i xs h =
-      let e : k * i + length (flat f xs) ≡ k * (i + length xs) = ap (λ (n : ℕ). k * i + n) (flat-length xs) ∙ sym (mul-add k i (length xs)) in
+      let e : k * i + length (flat f xs) ≡ k * (i + length xs) = ap (λ (n : ℕ). k * i + n) (flat-length y xs) ∙ sym (mul-add k i (length xs)) in
       rw (e, flat-take T i (omega arith), flat-drop T (i + length xs) h, flat-append, flat-append)
 
   flat-free : (m : ℕ) → f free ≡ replicate k 0 → flat f (replicate m free) ≡ replicate (k * m) 0

@@ -18,6 +18,7 @@ use Rattle.model.proofs.Order.{ahead-trans}
 use Rattle.table.specs.Layout.{numbersOfRow, numbersOf, keysOf, rowIn, rowAt, rowsOf}
 use Rattle.table.proofs.Laying.{Laying, lay-rest}
 use Rattle.table.proofs.Held.{numbers-laying, keys-laying}
+use Rattle.search.proofs.Positions.{all-row, rows-row}
 use Rattle.bucket.specs.Steps.{zeros, blockAt}
 
 -- ## Zeros
@@ -55,9 +56,7 @@ rows-all p n b (suc u) f =
     and-i (p (rowAt n b 0)) _ (f 0 (omega arith)) (rows-all p (drop 8 n) (drop 64 b) u (λ i h. ap p (sym (row-next n b i)) ∙ f (suc i) (omega arith)))
 
 pub all-rows : (p : Row → Bool) (n b : List ℕ) (u i : ℕ) → all p (rowsOf n b u) ≡ true → i < u → p (rowAt n b i) ≡ true
-all-rows p n b zero i e h = absurd (omega arith)
-all-rows p n b (suc u) zero e h = and-l (p (rowAt n b 0)) _ e
-all-rows p n b (suc u) (suc i) e h = ap p (row-next n b i) ∙ all-rows p (drop 8 n) (drop 64 b) u i (and-r (p (rowAt n b 0)) _ e) (omega arith)
+all-rows p n b u i e h = all-row p (rowsOf n b u) i (rowAt n b i) e (rows-row n b u i h)
 
 -- Rows of which each stands before the next are in order, and the other way round.
 pub next-ordered : (n b : List ℕ) (u : ℕ) → ((i : ℕ) → suc i < u → ahead (rowAt n b i) (rowAt n b (suc i)) ≡ true) → ordered (rowsOf n b u) ≡ true

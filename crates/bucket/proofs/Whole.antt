@@ -1,17 +1,16 @@
 -- What settings and buffers that are whole have, and when they are whole.
 use Prim.Native.Nat.{ℕ, _*_, _≤_}
 use mathlib.Core.Path.{_≡_, refl, sym, ap, _∙_}
-use mathlib.Core.Logic.{inl, inr}
-use mathlib.Core.Bool.{true, false≢true}
+use mathlib.Core.Bool.{true}
 use mathlib.Core.List.{List, []}
 use native.Mathlib.Omega.{arith}
-use lib.Dec.{eqb, leb, ltb}
+use lib.Dec.{leb}
 use lib.ListN.{length, replicate}
-use borrow.Author.Tests.{leb-true, le-leb, ltb-false}
+use borrow.Author.Tests.{leb-true, le-leb}
 use Rattle.buffers.specs.Lists.{all, same}
-use Rattle.buffers.proofs.Tests.{either, and-i, and-l, and-r}
+use Rattle.buffers.proofs.Tests.{and-i, and-l, and-r}
 use Rattle.buffers.proofs.Lists.{all-as, same-path, same-refl}
-use Rattle.text.specs.Keys.{isKey, isPrefix}
+use Rattle.text.proofs.Keys.{key-short}
 use Rattle.model.specs.Rows.{Row, ordered, soundRow}
 use Rattle.model.specs.Settings.{Bucket, sound, fits, soundSettings}
 use Rattle.settings.specs.declared.Settings.{Settings}
@@ -23,21 +22,10 @@ use Rattle.bucket.specs.Whole.{Lent, lent, freshLent, usedRows, bucketOf
 use Rattle.bucket.proofs.Steps.{sound-row}
 use Rattle.bucket.proofs.Laying.{lay-free}
 
-key-fits : (k : List ℕ) → isKey k ≡ true → leb (length k) 63 ≡ true
-unfolding isKey isPrefix
-key-fits k e =
-    elim (either (eqb (length k) 0)) [
-      | inl t ↦ absurd (false≢true (rw t at e))
-      | inr t ↦ elim (either (ltb 63 (length k))) [
-        | inl u ↦ absurd (false≢true (simp (t, u) at e))
-        | inr u ↦ le-leb (length k) 63 (ltb-false 63 (length k) u)
-      ]
-    ]
-
 -- The keys of sound rows fit their bytes.
 sound-fit : (next time : ℕ) (xs : List Row) → all (soundRow next time) xs ≡ true → keysFit xs ≡ true
 sound-fit next time xs e =
-    all-as (soundRow next time) (λ x. leb (length (x .key)) 63) (λ x h. key-fits (x .key) (and-l _ _ (sym (sound-row next time x) ∙ h))) xs e
+    all-as (soundRow next time) (λ x. leb (length (x .key)) 63) (λ x h. le-leb _ 63 (key-short (x .key) (and-l _ _ (sym (sound-row next time x) ∙ h)))) xs e
 
 -- What a sound bucket has.
 pub record SoundParts (c : ℕ) (b : Bucket) : Type 0 where

@@ -18,9 +18,10 @@ use Rattle.text.specs.Lines.{linesOf}
 use Rattle.text.specs.Keys.{contains}
 use Rattle.settings.specs.declared.Settings.{Settings}
 use Rattle.settings.specs.Meaning.{freshSettings}
+use Rattle.model.proofs.Runs.{left-append}
 use Rattle.bucket.specs.Whole.{Lent, lent}
 use Rattle.bucket.proofs.Whole.{fresh-whole}
-use Rattle.bucketrun.specs.Program.{leftBy, endedLength, endedLines, Waiting, waiting, afterBlock, afterBlocks, feedEnded}
+use Rattle.bucketrun.specs.Program.{leftBy, endedLength, endedLines, Waiting, waiting, afterBlock, feedEnded}
 use Rattle.bucketrun.specs.Course.{ServedAll, CameBehind, TookBlock, Startable, BetweenBlocks, Ran}
 use Rattle.bucketrun.proofs.Lines.{rest-none, none-take, closed-some, closed-lines}
 use Rattle.bucketrun.proofs.Cutting.{blocks-left}
@@ -111,10 +112,6 @@ may-start s input n k out f ei en ek eo =
       input-long = zeros-long input 66560 ei;
     }
 
-after-more : (w : Waiting) (xs : List (List ℕ)) (x : List ℕ) → afterBlocks w (xs ++ x ∷ []) ≡ afterBlock (afterBlocks w xs) x
-after-more w [] x = refl
-after-more w (y ∷ xs) x = after-more (afterBlock w y) xs x
-
 pub first-block : (b : Lent) (input out : List ℕ) → Startable b input out → BetweenBlocks b input out b input out 0
 first-block b input out a =
     record {
@@ -164,7 +161,7 @@ module _ (h : Lent) (input₀ out₀ : List ℕ) (b : Lent) (input out : List �
         let q : waiting b′ (take kept′ input′) ≡ afterBlock (waiting b []) (take end filled) = d .takes (not-false told t) in
         record {
           blocks = g .blocks ++ x ∷ [];
-          leads = q ∙ ap (afterBlock (waiting b [])) came ∙ ap (λ (w : Waiting). afterBlock w x) (g .leads) ∙ sym (after-more (waiting h []) (g .blocks) x);
+          leads = q ∙ ap (afterBlock (waiting b [])) came ∙ ap (λ (w : Waiting). afterBlock w x) (g .leads) ∙ sym (left-append afterBlock (waiting h []) (g .blocks) (x ∷ []));
           servable = record { is-whole = d .is-whole; long = lo ∙ g .servable .long };
           few = d .few;
           no-feed = ap (λ (w : Waiting). contains (w .begun) 10) q ∙ none-take 513 (drop (endedLength (take end filled)) (take end filled)) (rest-none (take end filled));

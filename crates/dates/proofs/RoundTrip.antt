@@ -1,13 +1,12 @@
 -- Every printed date reads back as the same instant.
 use Prim.Native.Nat.{ℕ, _+_, _-_, _*_, _/_, _%_, _≤_, _<_}
 use mathlib.Core.Path.{_≡_, refl, ap, _∙_}
-use mathlib.Core.Bool.{true}
 use mathlib.Core.List.{List, [], _∷_}
 use mathlib.Core.Option.{some}
 use native.Mathlib.Omega.{arith}
 use lib.ListN.{getD}
-use borrow.Author.Tests.{le-ltb, le-leb}
-use Rattle.text.specs.Numbers.{isDigit}
+use borrow.Author.Tests.{le-ltb}
+use Rattle.text.proofs.RoundTrip.{digit-is}
 use Rattle.calendar.specs.declared.Civil.{Civil}
 use Rattle.calendar.specs.Calendar.{latest, day, civilOf}
 use Rattle.dates.specs.Reading.{digitOf, twoDigits, fourDigits, dayNumber, dayAt, secondOfDay, secondAt, fractionDigit, milliseconds, fractionOf, readDate}
@@ -16,13 +15,9 @@ use Rattle.calendar.proofs.Days.{valid-is, civil-valid, civil-days}
 
 -- ## Digits
 
-digit-printed : (a : ℕ) → a ≤ 9 → isDigit (48 + a) ≡ true
-unfolding isDigit
-digit-printed a h = rw (le-ltb (48 + a) 48 (omega arith)) (le-leb (48 + a) 57 (omega arith))
-
 digit-back : (a : ℕ) → a ≤ 9 → digitOf (48 + a) ≡ some a
 unfolding digitOf
-digit-back a h = let q : 48 + a - 48 ≡ a = omega arith in rw (digit-printed a h) (ap some q)
+digit-back a h = let q : 48 + a - 48 ≡ a = omega arith in rw (digit-is a h) (ap some q)
 
 module _ (s : List ℕ) (i n : ℕ) where
   two-printed : (a b : ℕ) → getD s i 0 ≡ 48 + a → getD s (i + 1) 0 ≡ 48 + b → a ≤ 9 → b ≤ 9 → a * 10 + b ≡ n → twoDigits s i ≡ some n
@@ -39,7 +34,7 @@ module _ (s : List ℕ) (i n : ℕ) where
 fraction-back : (a b d n : ℕ) → a ≤ 9 → b ≤ 9 → d ≤ 9 → a * 100 + b * 10 + d ≡ n → fractionOf (46 ∷ (48 + a) ∷ (48 + b) ∷ (48 + d) ∷ []) ≡ some n
 unfolding fractionOf milliseconds fractionDigit
 fraction-back a b d n ha hb hd e =
-    rw (digit-printed a ha, digit-printed b hb, digit-printed d hd) (ap some (omega arith))
+    rw (digit-is a ha, digit-is b hb, digit-is d hd) (ap some (omega arith))
 
 -- ## The text
 

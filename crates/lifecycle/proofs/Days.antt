@@ -8,6 +8,7 @@ use native.Mathlib.Omega.{arith}
 use lib.Dec.{eqb, leb, ltb}
 use borrow.Author.Tests.{ltb-true, ltb-false, leb-true, le-leb}
 use Rattle.buffers.specs.Lists.{all}
+use Rattle.buffers.proofs.Choices.{pick-ways}
 use Rattle.buffers.proofs.Tests.{either, clash, and-l, and-r}
 use Rattle.buffers.proofs.Lists.{all-as, all-keep}
 use Rattle.calendar.specs.Periods.{expiresAt}
@@ -16,6 +17,11 @@ use Rattle.model.specs.Sweep.{applying, due}
 use Rattle.lifecycle.specs.declared.Limits.{Limits}
 use Rattle.lifecycle.specs.Least.{lesser, least, limitsOf}
 use Rattle.lifecycle.specs.Days.{over, fewDays}
+
+pub lesser-ways : (P : ℕ → Type 0) (a b : ℕ) → (eqb a 0 ≡ true → P b) → (eqb a 0 ≡ false → eqb b 0 ≡ true → P a)
+    → (eqb a 0 ≡ false → eqb b 0 ≡ false → ltb a b ≡ true → P a) → (eqb a 0 ≡ false → eqb b 0 ≡ false → ltb a b ≡ false → P b) → P (lesser a b)
+unfolding lesser
+lesser-ways P a b x y z w = pick-ways P (eqb a 0) x (λ e. pick-ways P (eqb b 0) (y e) (λ f. pick-ways P (ltb a b) (z e f) (w e f)))
 
 -- ## Days that are over
 
@@ -45,18 +51,12 @@ module _ (s t : ℕ) where
       rw h (le-leb (expiresAt s a) t (omega arith))
 
   over-lesser : (a b : ℕ) → over a s t || over b s t ≡ over (lesser a b) s t
-  unfolding lesser
   over-lesser a b =
-      elim (either (eqb a 0)) [
-        | inl e ↦ rw e (or-second (over a s t) _ (λ h. absurd (clash _ h (over-none a e))))
-        | inr e ↦ elim (either (eqb b 0)) [
-          | inl f ↦ simp (e, f) (or-first _ (over b s t) (λ h. absurd (clash _ h (over-none b f))))
-          | inr f ↦ elim (either (ltb a b)) [
-            | inl g ↦ simp (e, f, g) (or-first _ _ (over-fewer a b e (omega (arith, ltb-true a b g))))
-            | inr g ↦ simp (e, f, g) (or-second _ _ (over-fewer b a f (ltb-false a b g)))
-          ]
-        ]
-      ]
+      lesser-ways (λ d. over a s t || over b s t ≡ over d s t) a b
+      (λ e. or-second (over a s t) _ (λ h. absurd (clash _ h (over-none a e))))
+      (λ e f. or-first _ (over b s t) (λ h. absurd (clash _ h (over-none b f))))
+      (λ e f g. or-first _ _ (over-fewer a b e (omega (arith, ltb-true a b g))))
+      (λ e f g. or-second _ _ (over-fewer b a f (ltb-false a b g)))
 
   pub due-least : (days : model.Rule → ℕ) (us : List model.Rule) → due days us t s ≡ over (least days us) s t
   due-least days [] = sym (over-none 0 refl)
@@ -68,15 +68,7 @@ over-last s t d r e = rw e
 -- ## Few days
 
 lesser-most : (a b m : ℕ) → a ≤ m → b ≤ m → lesser a b ≤ m
-unfolding lesser
-lesser-most a b m h k =
-    elim (either (eqb a 0)) [
-      | inl e ↦ rw e k
-      | inr e ↦ elim (either (eqb b 0)) [
-        | inl f ↦ simp (e, f) h
-        | inr f ↦ elim (either (ltb a b)) [ inl g ↦ simp (e, f, g) h | inr g ↦ simp (e, f, g) k ]
-      ]
-    ]
+lesser-most a b m h k = lesser-ways (λ d. d ≤ m) a b (λ _. k) (λ _ _. h) (λ _ _ _. h) (λ _ _ _. k)
 
 least-most : (days : model.Rule → ℕ) (m : ℕ) (us : List model.Rule) → all (λ u. leb (days u) m) us ≡ true → least days us ≤ m
 least-most days m [] e = omega arith

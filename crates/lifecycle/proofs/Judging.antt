@@ -11,7 +11,7 @@ use lib.Seq.{drop-cons, drop-drop, drop-set-lt, take-suc-set}
 use borrow.Author.Tests.{ne-eqb}
 use Rattle.buffers.specs.Lists.{all, keep, same}
 use Rattle.buffers.proofs.Lists.{same-path}
-use Rattle.buffers.proofs.Parts.{part-first}
+use Rattle.buffers.proofs.Parts.{part-cut, part-first}
 use Rattle.blocks.specs.Blocks.{keyIn, isBlock}
 use Rattle.blocks.proofs.Blocks.{block-short}
 use Rattle.model.specs.Settings as model
@@ -39,18 +39,15 @@ module _ (b : List ℕ) (i : ℕ) (h : (i ≡ 0 → ⊥)) where
   before-cut : take (64 * i - 64 * (i - 1)) (drop (64 * (i - 1)) b) ≡ take 64 (drop (64 * (i - 1)) b)
   before-cut = let q : 64 * i - 64 * (i - 1) ≡ 64 = omega arith in rw q
 
-  own-cut : take (64 * i + 64 - 64 * i) (drop (64 * i) b) ≡ take 64 (drop (64 * i) b)
-  own-cut = let q : 64 * i + 64 - 64 * i ≡ 64 = omega arith in rw q
-
   pub before-block : Keys b i → isBlock (take (64 * i - 64 * (i - 1)) (drop (64 * (i - 1)) b)) ≡ true
   before-block k = rw before-cut (k .before)
 
   pub own-block : Keys b i → isBlock (take (64 * i + 64 - 64 * i) (drop (64 * i) b)) ≡ true
-  own-block k = rw own-cut (k .own)
+  own-block k = rw (part-cut b (64 * i) 64) (k .own)
 
   pub same-at : (r : Bool) → r ≡ same (keyIn (take (64 * i - 64 * (i - 1)) (drop (64 * (i - 1)) b))) (keyIn (take (64 * i + 64 - 64 * i) (drop (64 * i) b)))
       → r ≡ same (keyAt b (i - 1)) (keyAt b i)
-  same-at r e = e ∙ rw (before-cut, own-cut)
+  same-at r e = e ∙ rw (before-cut, part-cut b (64 * i) 64)
 
 pub ruleset same-cases = (before-block, own-block, same-at)
 

@@ -28,7 +28,7 @@ pub data Split (es : List Event) (x : Event) (early : List Event) (e : Event) (l
   last : early ≡ es → e ≡ x → late ≡ [] → Split es x early e late
   earlier : (rest : List Event) → es ≡ early ++ (e ∷ rest) → late ≡ rest ++ (x ∷ []) → Split es x early e late
 
-never-nil : (xs : List Event) (e : Event) (ys : List Event) → [] ≡ xs ++ (e ∷ ys) → ⊥
+pub never-nil : (xs : List Event) (e : Event) (ys : List Event) → [] ≡ xs ++ (e ∷ ys) → ⊥
 never-nil [] e ys h = nil≢cons h
 never-nil (x ∷ xs) e ys h = nil≢cons h
 

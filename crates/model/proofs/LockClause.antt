@@ -3,7 +3,7 @@ use Prim.Native.Nat.{ℕ, _<_}
 use mathlib.Core.Path.{_≡_}
 use mathlib.Core.Logic.{inl, inr}
 use mathlib.Core.Bool.{true, not}
-use mathlib.Core.List.{List, [], _∷_, _++_, append-assoc, append-nil, nil≢cons}
+use mathlib.Core.List.{List, [], _∷_, _++_, append-assoc, append-nil}
 use native.Mathlib.Omega.{arith}
 use lib.Dec.{eqb}
 use borrow.Author.Tests.{eqb-true, not-true}
@@ -17,7 +17,7 @@ use Rattle.model.specs.Refusals.{refusal}
 use Rattle.model.specs.Run.{Event, serve, run, lineEvent, lineEvents}
 use Rattle.model.specs.LockClause.{timeAfter, putsUnder, putsOnHold, bypasses, takesOffHold, noneOf, Held, InCompliance, InGovernance, OnHold, Kept, LockClause}
 use Rattle.model.proofs.Accepted.{Accepted, accepted-line}
-use Rattle.model.proofs.History.{time-snoc, Split, last, earlier, split-snoc, all-snoc}
+use Rattle.model.proofs.History.{never-nil, time-snoc, Split, last, earlier, split-snoc, all-snoc}
 use Rattle.model.proofs.Invariant.{Invariant, fresh-invariant, asked, eventOf, with, invariant-after}
 use Rattle.model.proofs.Locks.{Lasts, held-after, compliance-lasts, governance-lasts, hold-lasts}
 use Rattle.model.proofs.Placing.{held-as, puts-held, holds-held}
@@ -101,18 +101,14 @@ good-run c b es (l ∷ ls) k =
     joined _ es (lineEvent c b l) (lineEvents c (serve c b l) ls)
     (good-run c (serve c b l) (es ++ lineEvent c b l) ls (good-line c b es l k))
 
-no-line : (early : List Event) (e : Event) (late : List Event) → [] ≡ early ++ (e ∷ late) → ⊥
-no-line [] e late h = nil≢cons h
-no-line (x ∷ early) e late h = nil≢cons h
-
 pub good-fresh : (c : ℕ) (ls : List Heard) → Good (run c fresh ls) (lineEvents c fresh ls)
 good-fresh c ls =
     good-run c fresh [] ls (record {
       invariant = fresh-invariant;
       kept = record {
-        inCompliance = λ early late e v d q puts l. absurd (no-line early e late q);
-        inGovernance = λ early late e v d q puts n l. absurd (no-line early e late q);
-        onHold = λ early late e v q puts n. absurd (no-line early e late q);
+        inCompliance = λ early late e v d q puts l. absurd (never-nil early e late q);
+        inGovernance = λ early late e v d q puts n l. absurd (never-nil early e late q);
+        onHold = λ early late e v q puts n. absurd (never-nil early e late q);
       };
     })
 

@@ -1,12 +1,12 @@
 -- Settings whose prefixes are what they are written as come back from what they mean; fresh ones are sound.
 use Prim.Native.Nat.{ℕ, zero, suc}
-use mathlib.Core.Path.{_≡_, refl, sym, ap}
+use mathlib.Core.Path.{_≡_, refl, ap}
 use mathlib.Core.Bool.{true}
 use mathlib.Core.List.{List, [], _∷_}
 use lib.ListN.{set}
 use Rattle.buffers.proofs.Tests.{and-l, and-r}
-use Rattle.buffers.proofs.Lists.{same-path}
 use Rattle.blocks.specs.Blocks.{blockOf, keyIn, isBlock}
+use Rattle.blocks.proofs.Blocks.{block-path}
 use Rattle.text.specs.Keys.{isPrefix}
 use Rattle.model.specs.Settings as model
 use Rattle.model.specs.Settings.{soundConfig, soundRules}
@@ -14,12 +14,8 @@ use Rattle.settings.specs.declared.Settings.{Settings}
 use Rattle.settings.specs.declared.Rule.{Rule}
 use Rattle.settings.specs.Meaning.{rulesMean, settingsMean, ruleFrom, rulesFrom, settingsFrom, freshSettings, prefixesAre, settingsSound}
 
-block-back : (b : List ℕ) → isBlock b ≡ true → blockOf (keyIn b) ≡ b
-unfolding isBlock
-block-back b e = sym (same-path b (blockOf (keyIn b)) e)
-
 rule-back : (u : Rule) (us vs : List Rule) → isBlock (u .prefix) ≡ true → vs ≡ us → record { prefix = blockOf (keyIn (u .prefix)); current = u .current; noncurrent = u .noncurrent } ∷ vs ≡ u ∷ us
-rule-back u us vs e q = rw (block-back (u .prefix) e, q)
+rule-back u us vs e q = rw (← block-path (u .prefix) e, q)
 
 pub rules-back : (us : List Rule) → prefixesAre us ≡ true → rulesFrom (rulesMean us) ≡ us
 rules-back [] e = refl

@@ -19,11 +19,11 @@ pub record Laying (part : Row → List ℕ) (k : ℕ) (lay : ℕ → List Row �
   pub more : (c : ℕ) (x : Row) (xs : List Row) → lay (suc c) (x ∷ xs) ≡ part x ++ lay c xs
 
 -- the rows without the free ones
-abbrev flat : (Row → List ℕ) → List Row → List ℕ
+abbrev pub flat : (Row → List ℕ) → List Row → List ℕ
 flat f [] = []
 flat f (x ∷ xs) = f x ++ flat f xs
 
-flat-append : (f : Row → List ℕ) (xs ys : List Row) → flat f (xs ++ ys) ≡ flat f xs ++ flat f ys
+pub flat-append : (f : Row → List ℕ) (xs ys : List Row) → flat f (xs ++ ys) ≡ flat f xs ++ flat f ys
 flat-append f [] ys = refl
 flat-append f (x ∷ xs) ys = ap (λ (l : List ℕ). f x ++ l) (flat-append f xs ys) ∙ sym (append-assoc (f x) (flat f xs) (flat f ys))
 
@@ -35,7 +35,7 @@ module _ {part : Row → List ℕ} {k : ℕ} {lay : ℕ → List Row → List �
   lay-length (suc c) (x ∷ xs) =
       ap length (y .more c x xs) ∙ length-append (part x) (lay c xs) ∙ rw (y .wide x, lay-length c xs, mul-suc) (omega arith)
 
-  flat-length : (xs : List Row) → length (flat part xs) ≡ k * length xs
+  pub flat-length : (xs : List Row) → length (flat part xs) ≡ k * length xs
   flat-length [] = sym (mul-zero k)
   flat-length (x ∷ xs) = length-append (part x) (flat part xs) ∙ rw (y .wide x, flat-length xs, mul-suc) (omega arith)
 

@@ -13,9 +13,10 @@ use Rattle.buffers.specs.Lists.{all}
 use Rattle.buffers.proofs.Tests.{either, and-l, and-r}
 use Rattle.buffers.proofs.Lists.{all-as, all-append}
 use Rattle.text.specs.Numbers.{isDigit}
-use Rattle.text.specs.Fields.{onFirst, fields, tabbed}
+use Rattle.text.specs.Fields.{fields, tabbed}
 use Rattle.text.specs.Lines.{feedAt, firstLine}
 use Rattle.text.specs.Printing.{digits}
+use Rattle.text.proofs.Lines.{first-more}
 use Rattle.text.proofs.RoundTrip.{digits-all}
 
 -- ## Visible bytes
@@ -42,9 +43,6 @@ pub digits-visible : (n : ℕ) → visible (digits n) ≡ true
 digits-visible n = all-as isDigit (λ b. leb 33 b) digit-visible (digits n) (digits-all n)
 
 -- ## Fields
-
-first-more : (b : ℕ) (f : List ℕ) (fs gs : List (List ℕ)) → gs ≡ f ∷ fs → onFirst b gs ≡ (b ∷ f) ∷ fs
-first-more b f fs gs e = rw e
 
 -- A tab ends a field.
 field-tab : (f s : List ℕ) → without 9 f ≡ true → fields (f ++ 9 ∷ s) ≡ f ∷ fields s

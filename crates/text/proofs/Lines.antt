@@ -75,8 +75,8 @@ pub ruleset feed-cases = (feed-stop, feed-step, feed-end)
 
 -- ## The first line and the lines behind it
 
-joined : (b : ℕ) (f : List ℕ) (fs gs : List (List ℕ)) → gs ≡ f ∷ fs → onFirst b gs ≡ (b ∷ f) ∷ fs
-joined b f fs gs e = rw e
+pub first-more : (b : ℕ) (f : List ℕ) (fs gs : List (List ℕ)) → gs ≡ f ∷ fs → onFirst b gs ≡ (b ∷ f) ∷ fs
+first-more b f fs gs e = rw e
 
 pub lines-next : (b : ℕ) (s : List ℕ) → linesOf (b ∷ s) ≡ take (feedAt (b ∷ s)) (b ∷ s) ∷ linesOf (drop (suc (feedAt (b ∷ s))) (b ∷ s))
 lines-next b [] =
@@ -87,7 +87,7 @@ lines-next b [] =
 lines-next b (a ∷ s) =
     elim (either (eqb b 10)) [
       | inl t ↦ rw t
-      | inr t ↦ rw t (joined b _ _ (linesOf (a ∷ s)) (lines-next a s))
+      | inr t ↦ rw t (first-more b _ _ (linesOf (a ∷ s)) (lines-next a s))
     ]
 
 -- The lines from i on are the line at i and those behind its end.

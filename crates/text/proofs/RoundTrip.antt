@@ -14,7 +14,7 @@ use Rattle.buffers.proofs.Lists.{all-append}
 use Rattle.text.specs.Numbers.{isDigit, spelt, leadingZero, numberOf}
 use Rattle.text.specs.Printing.{digitsUp, digits}
 
-digit-is : (d : ℕ) → d ≤ 9 → isDigit (48 + d) ≡ true
+pub digit-is : (d : ℕ) → d ≤ 9 → isDigit (48 + d) ≡ true
 unfolding isDigit
 digit-is d h = simp (le-ltb (48 + d) 48 (omega arith), le-leb (48 + d) 57 (omega arith))
 
