@@ -1,4 +1,4 @@
--- The answers that the paper's run prints.
+-- The answers that the paper's run prints, and that of a version on hold.
 use mathlib.Core.Path.{_≡_, refl}
 use Rattle.buffers.specs.Texts.{bytes}
 use Rattle.text.specs.Printing.{digits}

@@ -32,7 +32,7 @@ pub struct Served {
     pub settings: Settings,
 }
 
-// The same with just what of the settings a line can move: the bucket's time, the used rows and the next version number.
+// The same with just what of the settings an action or SWEEP can move: the bucket's time, the used rows and the next version number.
 struct Step {
     number: u64,
     len: usize,

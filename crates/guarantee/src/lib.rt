@@ -1,4 +1,4 @@
-// The three demands, stated in specs/ and proved in proofs/, and a function that they speak of: a whole list of lines, served.
+// The three demands, stated in specs/ and proved in proofs/, and beside them a function: a whole list of lines, served.
 use settings::Settings;
 ghost use mathlib.Core.Path.{_≡_};
 ghost use mathlib.Core.Bool.{true};

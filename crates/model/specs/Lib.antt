@@ -1,4 +1,4 @@
--- One file for each section of document 01, in the order in which they build on each other.
+-- Each file under the section of document 01 that it follows, in the order in which they build on each other.
 pub mod Rows
 pub mod Settings
 pub mod Requests

@@ -1,4 +1,4 @@
--- 01, "The twelve refusals": each condition by its own name, and the list of them in 01's order.
+-- 01, "The twelve refusals": the conditions, and the list of them in 01's order.
 use Prim.Native.Nat.{ℕ, _+_}
 use mathlib.Core.Path.{_≡_}
 use mathlib.Core.Bool.{Bool, true, false, not, _&&_}
@@ -165,7 +165,7 @@ pub record FirstHolds (xs : List Check) (n : ℕ) : Type 0 where
   pub at : xs ≡ before ++ (check n true ∷ after)
   pub none-before : all (λ x. not (x .holds)) before ≡ true
 
--- The conditions that only the request's own fields decide.
+-- The conditions that are decided without the table.
 abbrev pub fieldChecks : Config → Rights → ℕ → Verb → List Check
 fieldChecks s who now v = check 4 (halfGiven v) ∷ check 5 (lacksRight s who v) ∷ check 6 (pastDate now v) ∷ []
 

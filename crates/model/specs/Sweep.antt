@@ -16,7 +16,7 @@ use Rattle.model.specs.Locks.{locked}
 abbrev pub marker : ℕ → ℕ → List ℕ → Row
 marker created n k = record { number = n; kind = 2; created = created; body = 0; size = 0; mode = 0; until = 0; hold = 0; key = k }
 
--- The rules whose prefix begins the key.
+-- The rules that are set and whose prefix begins the key.
 abbrev pub applying : List Rule → List ℕ → List Rule
 applying rules k = keep (λ u. isSet u && begins (u .prefix) k) rules
 

@@ -34,7 +34,7 @@ accepted b q answer =
     let text = answerText (answerTo (bucketOf b) q) in
     record { number = 0; len = length text; bucket = laidOut (capacity (b .keys)) (after (bucketOf b) q); answer = written text answer }
 
--- The twelve conditions of a call, in 01's order.
+-- The conditions of a call, in 01's order.
 abbrev pub conditions : Lent → Call → List Check
 conditions b g = checks (whole b) (capacity (b .keys)) (bucketOf b) (heard g)
 
@@ -42,7 +42,7 @@ conditions b g = checks (whole b) (capacity (b .keys)) (bucketOf b) (heard g)
 unfoldable pub refusalOf : Lent → Call → ℕ
 refusalOf b g = firstOf (conditions b g)
 
--- What is heard, accepted; nothing readable is refused.
+-- What is heard, accepted; what can't be read never is.
 abbrev pub accept : Lent → Heard → List ℕ → Outcome
 accept b (unreadable room) answer = refused 3 b answer
 accept b (says q) answer = accepted b q answer

@@ -1,1 +1,1 @@
-// What a line does to settings, buffers and answer buffer of any contents, as a definition with its theorems. This crate has no code.
+// What is sent, what is heard of it, and what a call does to a bucket and an answer buffer of any contents, as definitions with their theorems. This crate has no code.

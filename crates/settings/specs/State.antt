@@ -1,4 +1,4 @@
--- What of the settings a line is judged by: all but the rules.
+-- What of the settings a line is judged by: all but the rules, which SWEEP alone is handed.
 use mathlib.Core.List.{List}
 use Rattle.model.specs.Settings.{Rule, Default, Config}
 use Rattle.settings.specs.declared.Settings.{Settings}

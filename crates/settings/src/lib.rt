@@ -32,7 +32,7 @@ pub struct Settings {
     pub rules: [Rule; 8],
 }
 
-// What of the settings a line is judged by: all but the rules.
+// What of the settings a line is judged by: all but the rules, which SWEEP alone is handed.
 pub struct State {
     pub time: u64,
     pub used: usize,

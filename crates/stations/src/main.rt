@@ -1,6 +1,6 @@
 // Serves each line of standard input through the entry that tests the whole bucket, with an answer buffer of 256 bytes.
-// The files stdin and stdout are tests/stations.lines and tests/stations.expected: the paper's examples and the boundaries of each field,
-// and the answers that the implementation in tests/reference gives them on a bucket of 1024 rows.
+// The files stdin and stdout hold the lines and the answers of tests/stations.md, the paper's examples and the boundaries of each field,
+// on a bucket of 1024 rows; the implementation in tests/reference is held to the same page.
 use libc::STDIN_FILENO;
 use libc::STDOUT_FILENO;
 use settings::Settings;
