@@ -25,9 +25,9 @@
 extern "C" {
 #endif
 
-#define KNITPASTURE_VERSION "1.0.0"
+#define KNITPASTURE_VERSION "1.1.0"
 #define KNITPASTURE_VERSION_MAJOR 1
-#define KNITPASTURE_VERSION_MINOR 0
+#define KNITPASTURE_VERSION_MINOR 1
 #define KNITPASTURE_VERSION_PATCH 0
 
 #define KNITPASTURE_SETTINGS_BYTES 688
@@ -37,6 +37,10 @@ extern "C" {
 #define KNITPASTURE_MAX_ROWS 1024
 #define KNITPASTURE_MIN_ANSWER 256
 #define KNITPASTURE_MAX_LINE 512
+#define KNITPASTURE_MAX_COUNT 1000
+
+/* The answer buffer that a LIST with this count needs, in bytes. */
+#define KNITPASTURE_PAGE_ROOM(count) (KNITPASTURE_MIN_ANSWER + 256 * (size_t)(count))
 
 /* The stack that a call may take, in bytes, whatever c is. Rows as bytes are read into room for the largest table. */
 #define KNITPASTURE_STACK_SERVE 77824
@@ -45,7 +49,7 @@ extern "C" {
 #define KNITPASTURE_STACK_KEY 69632
 #define KNITPASTURE_STACK_FRESH 1024
 
-/* What serving a line returns. The refusals are checked in this order, and the first that holds is returned. */
+/* What serving a line returns. The refusals are checked in this order, 13 after 5; the first that holds is returned. */
 enum knitpasture_result {
     KNITPASTURE_ACCEPTED = 0,
     KNITPASTURE_UNSOUND = 1,
@@ -53,6 +57,7 @@ enum knitpasture_result {
     KNITPASTURE_UNREADABLE = 3,
     KNITPASTURE_HALF_GIVEN = 4,
     KNITPASTURE_NO_RIGHT = 5,
+    KNITPASTURE_SHORT_PAGE = 13,
     KNITPASTURE_PAST_DATE = 6,
     KNITPASTURE_NO_ROW = 7,
     KNITPASTURE_MARKER = 8,
@@ -71,6 +76,7 @@ static inline const char *knitpasture_refusal_text(uint64_t number) {
     case KNITPASTURE_UNREADABLE: return "the line can't be read, or a field is outside its range";
     case KNITPASTURE_HALF_GIVEN: return "exactly one of mode and date (or period) is given";
     case KNITPASTURE_NO_RIGHT: return "a needed right is missing";
+    case KNITPASTURE_SHORT_PAGE: return "the answer buffer has fewer than 256 + 256 * count bytes";
     case KNITPASTURE_PAST_DATE: return "a given date is not after now";
     case KNITPASTURE_NO_ROW: return "the named key or version has no row";
     case KNITPASTURE_MARKER: return "the named version is a delete marker";
@@ -92,8 +98,13 @@ uint64_t knitpasture_fresh(uint8_t *settings, size_t settings_length,
  * KNITPASTURE_MAX_LINE bytes is refused as unreadable. Returns 0 or the refusal.
  *
  * Where it returns 0 the bucket's buffers are those after the line, and the answer stands at the start of the answer
- * buffer: it ends with its first line feed (0x0A), within the first KNITPASTURE_MIN_ANSWER bytes, and the bytes after
- * that are untouched. Otherwise every byte of every buffer is as it was. */
+ * buffer; the bytes after it are untouched. Otherwise every byte of every buffer is as it was.
+ *
+ * The answer to every verb but LIST is one line: it ends with its first line feed (0x0A), within the first
+ * KNITPASTURE_MIN_ANSWER bytes. The answer to LIST is a page, within the first KNITPASTURE_PAGE_ROOM(count) bytes: its
+ * first line is `ok`, a tab and the number of rows, then comes a line for each row, each ended by a line feed, and the
+ * answer ends with the line feed of the last of them, or of the first line where there are no rows. The next LIST takes
+ * the key and the version of the page's last line, byte for byte; a page of fewer rows than its count is the last. */
 uint64_t knitpasture_serve(uint8_t *settings, size_t settings_length,
                            uint8_t *rows, size_t rows_length,
                            uint8_t *keys, size_t keys_length,

@@ -1,4 +1,5 @@
-/* What modem firmware does, through each entry: lend three buffers, serve lines, save the bucket, load it and go on. */
+/* What modem firmware does, through each entry: lend three buffers, serve lines, follow pages, save, load and go on. */
+#include "../../samples/page.h"
 #include "../../samples/save.h"
 
 #include <stdint.h>
@@ -24,11 +25,11 @@ static void check(int holds, const char *what) {
 }
 
 /* Whether the bytes of an answer buffer from a place on are as they were lent. */
-static int untouched(const uint8_t *answer, size_t from) {
-    while (from < KNITPASTURE_MIN_ANSWER && answer[from] == JUNK) {
+static int untouched(const uint8_t *answer, size_t from, size_t length) {
+    while (from < length && answer[from] == JUNK) {
         from++;
     }
-    return from >= KNITPASTURE_MIN_ANSWER;
+    return from >= length;
 }
 
 #define SETTINGS(bucket) (bucket)->settings, sizeof (bucket)->settings
@@ -72,13 +73,13 @@ static void take(struct bucket *bucket, const struct step *step) {
     if (number != 0) {
         length = (size_t)snprintf(said, sizeof said, "no|%llu", (unsigned long long)number);
         check(memcmp(&before, bucket, sizeof before) == 0, "a refusal changes no byte of the bucket");
-        check(untouched(answer, 0), "a refusal writes no answer");
+        check(untouched(answer, 0, sizeof answer), "a refusal writes no answer");
     } else {
         while (length < sizeof answer && answer[length] != '\n') {
             said[length] = answer[length] == '\t' ? '|' : (char)answer[length];
             length++;
         }
-        check(length < sizeof answer && untouched(answer, length + 1), "bytes after an answer are untouched");
+        check(length < sizeof answer && untouched(answer, length + 1, sizeof answer), "bytes after an answer are untouched");
         said[length] = '\0';
     }
     if (strcmp(said, step->answer) != 0) {
@@ -171,8 +172,127 @@ static void wrong_lengths(struct bucket *bucket) {
           "nor are keys a byte short");
     check(serve_bytes(bucket, sweep, line, answer, sizeof answer - 1) == 2, "an answer buffer of 255 bytes meets 2");
     check(memcmp(&before, bucket, sizeof before) == 0, "none of them changes a byte");
-    check(untouched(answer, 0), "nor writes an answer");
+    check(untouched(answer, 0, sizeof answer), "nor writes an answer");
     take(bucket, &(struct step){"2024-06-01T00:00:00Z|c|SWEEP", "ok|0|0"});
+}
+
+#define LONGEST_KEY "kkkkkkkkkkkkkkkkkkkkkkkkkkkkkkkkkkkkkkkkkkkkkkkkkkkkkkkkkkkkkkk"
+
+/* A table of several versions, a marker, each mode, holds, a key that begins others, and the longest line. */
+static const struct step filled[] = {
+    {"2024-07-01T00:00:00Z|w|PUT|gauge-7/level|41|300|-|-|-", "ok|1"},
+    {"2024-07-01T00:00:01.5Z|wt|PUT|gauge-7/flow|42|120|COMPLIANCE|2033-01-05T00:00:00Z|-", "ok|2"},
+    {"2024-07-02T00:00:00Z|wh|PUT|gauge-7/level|44|310|-|-|ON", "ok|3"},
+    {"2024-07-02T00:00:00Z|d|DELETE|gauge-7/flow|-|no", "ok|4|marker"},
+    {"2024-07-02T00:00:00Z|w|PUT|gauge-7|0|0|-|-|-", "ok|5"},
+    {"2024-07-03T00:00:00Z|wth|PUT|" LONGEST_KEY
+     "|18446744073709551615|5497558138880|GOVERNANCE|9999-12-31T23:59:59.999Z|ON", "ok|6"},
+    {"2024-07-03T00:00:00Z|w|PUT|gauge-8/level|45|300|-|-|-", "ok|7"},
+    {"2024-07-03T00:00:00Z|w|PUT|gauge-7/level|46|320|-|-|-", "ok|8"},
+};
+
+/* Its rows in the table's order, as LIST prints them. */
+static const char *const shown[] = {
+    "gauge-7|5|data|2024-07-02T00:00:00.000Z|0|0|-|-|OFF",
+    "gauge-7/flow|4|marker|2024-07-02T00:00:00.000Z|-|-|-|-|OFF",
+    "gauge-7/flow|2|data|2024-07-01T00:00:01.500Z|42|120|COMPLIANCE|2033-01-05T00:00:00.000Z|OFF",
+    "gauge-7/level|8|data|2024-07-03T00:00:00.000Z|46|320|-|-|OFF",
+    "gauge-7/level|3|data|2024-07-02T00:00:00.000Z|44|310|-|-|ON",
+    "gauge-7/level|1|data|2024-07-01T00:00:00.000Z|41|300|-|-|OFF",
+    "gauge-8/level|7|data|2024-07-03T00:00:00.000Z|45|300|-|-|OFF",
+    LONGEST_KEY "|6|data|2024-07-03T00:00:00.000Z|18446744073709551615|5497558138880|GOVERNANCE|9999-12-31T23:59:59.999Z|ON",
+};
+
+enum { SHOWN = sizeof shown / sizeof shown[0], BEHIND = 256 };
+
+/* The answer buffer of a page, and bytes behind what is lent of it, so that one written there is seen. */
+static uint8_t sheet[KNITPASTURE_PAGE_ROOM(KNITPASTURE_MAX_COUNT) + BEHIND];
+
+/* Asks with the given rights for the page of a prefix that follows another, which stands in the answer buffer until now. */
+static uint64_t ask(struct bucket *bucket, const char *rights, const char *prefix, const struct page *before, size_t count,
+                    size_t length) {
+    char line[KNITPASTURE_MAX_LINE];
+    snprintf(line, sizeof line, "2024-07-04T00:00:00Z|%s|LIST|%s|%.*s|%zu", rights, prefix, before->place_length,
+             before->place, count);
+    memset(sheet, JUNK, length + BEHIND);
+    return serve(bucket, line, sheet, length);
+}
+
+/* The first row from one on whose key begins with the prefix. */
+static size_t next_match(const char *prefix, size_t row) {
+    while (row < SHOWN && strncmp(shown[row], prefix, strlen(prefix)) != 0) {
+        row++;
+    }
+    return row;
+}
+
+/* Checks that a line of a page is the text, and returns what stands behind it. */
+static const char *pass(const char *said, const char *text) {
+    while (*text != '\0' && *said == (*text == '|' ? '\t' : *text)) {
+        said++;
+        text++;
+    }
+    check(*text == '\0' && *said == '\n', "a line of a page is as written here");
+    return said + 1;
+}
+
+/* Compares a page with the matching rows from one on, and returns the row behind those that it shows. */
+static size_t pass_page(const struct page *page, const char *prefix, size_t row) {
+    char first[32];
+    snprintf(first, sizeof first, "ok|%zu", page->rows);
+    const char *said = pass((const char *)sheet, first);
+    for (size_t i = 0; i < page->rows; i++) {
+        row = next_match(prefix, row);
+        check(row < SHOWN, "a page shows no other rows");
+        said = pass(said, shown[row++]);
+    }
+    check(said == (const char *)sheet + page->length, "a page ends with its last line");
+    return row;
+}
+
+/* Pages of one prefix, followed to their end by what their bytes say, show every matching row once. */
+static void follow(struct bucket *bucket, const char *prefix, size_t count) {
+    struct bucket before = *bucket;
+    size_t length = KNITPASTURE_PAGE_ROOM(count), row = 0;
+    struct page page = START;
+    do {
+        check(ask(bucket, "r", prefix, &page, count, length) == 0, "a page with just its room is accepted");
+        page = page_in((const char *)sheet);
+        check(page.rows <= count, "a page has at most as many rows as were asked for");
+        check(untouched(sheet, page.length, length + BEHIND), "bytes after a page are untouched");
+        row = pass_page(&page, prefix, row);
+    } while (page.rows == count);
+    check(next_match(prefix, row) == SHOWN, "the pages show every row");
+    check(memcmp(before.settings + 8, bucket->settings + 8, sizeof before.settings - 8) == 0, "only the time is set");
+    check(memcmp(before.rows, bucket->rows, sizeof before.rows) == 0, "a page changes no row");
+    check(memcmp(before.keys, bucket->keys, sizeof before.keys) == 0, "nor a key");
+}
+
+/* The room for a page is enough; with a byte less it is 13, unless the right is missing. */
+static void page_room(struct bucket *bucket, size_t count) {
+    struct bucket before = *bucket;
+    size_t length = KNITPASTURE_PAGE_ROOM(count);
+    check(ask(bucket, "-", "", &START, count, length - 1) == KNITPASTURE_NO_RIGHT, "5 comes before 13");
+    check(ask(bucket, "r", "", &START, count, length - 1) == KNITPASTURE_SHORT_PAGE, "a byte less meets 13");
+    check(untouched(sheet, 0, length - 1 + BEHIND), "13 writes no answer");
+    check(memcmp(&before, bucket, sizeof before) == 0, "neither changes a byte of the bucket");
+    check(ask(bucket, "r", "", &START, count, length) == 0, "the room of a page is enough");
+}
+
+static void pages(struct bucket *bucket) {
+    static const char *const prefixes[] = {"", "gauge-7", "gauge-7/", "gauge-7/level", "k", "level"};
+    make_fresh(bucket);
+    TAKE(bucket, filled);
+    for (size_t i = 0; i < sizeof prefixes / sizeof prefixes[0]; i++) {
+        for (size_t count = 1; count <= SHOWN + 1; count++) {
+            follow(bucket, prefixes[i], count);
+        }
+    }
+    page_room(bucket, 1);
+    page_room(bucket, SHOWN);
+    page_room(bucket, KNITPASTURE_MAX_COUNT);
+    take(bucket, &(struct step){"2024-07-05T00:00:00Z|r|LIST|level||0|1", "no|13"});
+    take(bucket, &(struct step){"2024-07-05T00:00:00Z|r|LIST|level||0|1001", "no|3"});
 }
 
 /* Longer buffers whose new rows are zero hold the same bucket. */
@@ -193,10 +313,10 @@ static void grown(const struct bucket *bucket) {
 }
 
 static void texts(void) {
-    for (uint64_t number = 0; number <= KNITPASTURE_TABLE_FULL; number++) {
+    for (uint64_t number = 0; number <= KNITPASTURE_SHORT_PAGE; number++) {
         check(strcmp(knitpasture_refusal_text(number), "unknown") != 0, "each result has a text");
     }
-    check(strcmp(knitpasture_refusal_text(13), "unknown") == 0, "no other number has");
+    check(strcmp(knitpasture_refusal_text(14), "unknown") == 0, "no other number has");
 }
 
 int main(int count, char **words) {
@@ -206,6 +326,7 @@ int main(int count, char **words) {
         return 2;
     }
     for (form = AS_BYTES; form < FORMS; form++) {
+        pages(bucket);
         whole_run(bucket);
         kept_through_reload(bucket, words[1]);
         wrong_lengths(bucket);

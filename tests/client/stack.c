@@ -17,7 +17,7 @@ static ucontext_t caller, callee;
 static uint8_t settings[KNITPASTURE_SETTINGS_BYTES];
 static uint64_t rows[KNITPASTURE_MAX_ROWS * KNITPASTURE_ROW_WORDS];
 static uint8_t keys[KNITPASTURE_MAX_ROWS * KNITPASTURE_KEY_BYTES];
-static uint8_t answer[KNITPASTURE_MIN_ANSWER];
+static uint8_t answer[KNITPASTURE_PAGE_ROOM(8)];
 static size_t capacity;
 static const char *line;
 
@@ -55,6 +55,8 @@ static const char *const lines[] = {
     "2024-01-02T00:00:00Z\tt\tRETAIN\ta/1\t-\tGOVERNANCE\t2025-01-01T00:00:00Z\tno",
     "2024-01-02T00:00:00Z\th\tHOLD\ta/1\t-\tON",
     "2024-01-02T00:00:00Z\tr\tGET\ta/2\t-",
+    "2024-01-02T00:00:00Z\tr\tLIST\ta/\t\t0\t8",
+    "2024-01-02T00:00:00Z\tr\tLIST\ta/\ta/1\t1\t8",
     "2024-01-03T00:00:00Z\td\tDELETE\ta/3\t-\tno",
     "2024-01-03T00:00:00Z\td\tDELETE\ta/3\t3\tno",
     "2024-01-03T00:00:00Z\tc\tDEFAULT\tGOVERNANCE\t1y",

@@ -20,19 +20,24 @@ use Rattle.model.specs.Rows.{Row, governance}
 use Rattle.model.specs.Answers.{shown}
 use Rattle.answers.specs.Text.{fieldsText, okText, modeText, untilText, holdText, rowFields, answerText}
 
-mode-visible : (m : ℕ) → visible (modeText m) ≡ true
+pub mode-visible : (m : ℕ) → visible (modeText m) ≡ true
 unfolding modeText
 mode-visible m =
     pick-ways (λ t. visible t ≡ true) (eqb m 0) (λ _. refl)
     (λ _. pick-ways (λ t. visible t ≡ true) (eqb m governance) (λ _. refl) (λ _. refl))
 
-until-visible : (m d : ℕ) → visible (untilText m d) ≡ true
+pub until-visible : (m d : ℕ) → visible (untilText m d) ≡ true
 unfolding untilText
 until-visible m d = pick-ways (λ t. visible t ≡ true) (eqb m 0) (λ _. refl) (λ _. date-visible d)
 
-hold-visible : (h : ℕ) → visible (holdText h) ≡ true
+pub hold-visible : (h : ℕ) → visible (holdText h) ≡ true
 unfolding holdText
 hold-visible h = pick-ways (λ t. visible t ≡ true) (eqb h 0) (λ _. refl) (λ _. refl)
+
+-- The date of a row with a mode reads back.
+pub until-reads : (m d : ℕ) → (m ≡ 0 → ⊥) → d ≤ latest → readDate (untilText m d) ≡ some d
+unfolding untilText
+until-reads m d h l = rw (ne-eqb m 0 h) (round-trip d l)
 
 module _ (x : Row) (room : List ℕ) where
   fields-visible : all visible (rowFields x) ≡ true
@@ -50,5 +55,5 @@ module _ (x : Row) (room : List ℕ) where
 
   -- The fifth field after `ok` reads as the row's date.
   pub until-back : (x .mode ≡ 0 → ⊥) → x .until ≤ latest → readDate (fieldOf (firstLine (answerText (shown x) ++ room)) 5) ≡ some (x .until)
-  unfolding fieldOf untilText
-  until-back m h = rw row-fields (simp (ne-eqb (x .mode) 0 m) (round-trip (x .until) h))
+  unfolding fieldOf
+  until-back m h = rw row-fields (until-reads (x .mode) (x .until) m h)

@@ -4,25 +4,25 @@ use mathlib.Core.Path.{_≡_}
 use mathlib.Core.List.{List, [], _∷_, append-assoc}
 use native.Mathlib.Omega.{arith}
 use lib.ListN.{length}
+use borrow.Author.Tests.{eq-eqb, ne-eqb}
 use Rattle.buffers.specs.Texts.{bytes}
 use Rattle.buffers.specs.Writes.{Wrote}
-use Rattle.buffers.proofs.Writes.{wrote-both}
+use Rattle.buffers.proofs.Writes.{wrote-both, wrote-wider}
 use Rattle.calendar.specs.Calendar.{latest}
-use Rattle.answers.specs.declared.Shown.{Shown}
+use Rattle.text.specs.Printing.{digits}
+use Rattle.model.specs.Refusals.{rowRoom}
+use Rattle.table.specs.Places.{rowFrom}
+use Rattle.table.specs.declared.Numbers.{Numbers}
 use Rattle.answers.specs.declared.Answer.{Answer}
 use Rattle.answers.specs.declared.Answer.the-variants.{Got}
-use Rattle.answers.specs.Text.{longestAnswer, fieldsText, okText}
+use Rattle.answers.specs.Text.{longestAnswer, fieldsText, okText, dataFields, markerFields, kindFields, fieldsBehindKey, rowText}
 use Rattle.answers.specs.Meaning.{textOf, Printable}
-
--- A wider bound.
-wider : {out : List ℕ} {a : ℕ} {vs : List ℕ} {k j : ℕ} {exit : List ℕ} {r : ℕ} → Wrote out a vs k exit r → k ≤ j → Wrote out a vs j exit r
-wider w h = record { next = w .next; holds = w .holds; long = w .long; most = let q = w .most in omega arith }
 
 -- ## A field: with its tab at most 25 bytes
 
 pub tab-then : (out : List ℕ) (a : ℕ) (m : List ℕ) (r : ℕ) (f : List ℕ) (j : ℕ) (exit : List ℕ) (q : ℕ)
     → Wrote out a (9 ∷ []) 1 m r → Wrote m r f j exit q → a + 25 ≤ length out → j ≤ 24 → Wrote out a (9 ∷ f) 25 exit q
-tab-then out a m r f j exit q x y h n = wider (wrote-both out a (9 ∷ []) 1 m r f j exit q (omega arith) x y) (omega arith)
+tab-then out a m r f j exit q x y h n = wrote-wider (wrote-both out a (9 ∷ []) 1 m r f j exit q (omega arith) x y) (omega arith)
 
 pub field-as : (out : List ℕ) (a : ℕ) (f g : List ℕ) (exit : List ℕ) (r : ℕ) → Wrote out a (9 ∷ f) 25 exit r → f ≡ g → Wrote out a (9 ∷ g) 25 exit r
 field-as out a f g exit r w e = rw e at w
@@ -37,16 +37,16 @@ feed-last : {out : List ℕ} {a : ℕ} {exit : List ℕ} {r : ℕ} → Wrote out
 unfolding fieldsText
 feed-last w = record { wrote = λ h. w }
 
+-- A field in front of others, whatever they take.
+field-more : {out : List ℕ} {a : ℕ} {f : List ℕ} {j : ℕ} {m : List ℕ} {r : ℕ} {k : ℕ} {exit : List ℕ} {q : ℕ} (fs : List (List ℕ))
+    → a ≤ length out → Wrote out a (9 ∷ f) j m r → Wrote m r (fieldsText fs) k exit q → Wrote out a (fieldsText (f ∷ fs)) (j + k) exit q
+unfolding fieldsText
+field-more {out} {a} {f} {j} {m} {r} {k} {exit} {q} fs h x y = rw append-assoc (wrote-both out a (9 ∷ f) j m r (fieldsText fs) k exit q h x y)
+
 field-then : {out : List ℕ} {a : ℕ} {f m : List ℕ} {r : ℕ} {fs : List (List ℕ)} {exit : List ℕ} {q : ℕ}
     → Wrote out a (9 ∷ f) 25 m r → Ends m r fs exit q → Ends out a (f ∷ fs) exit q
-unfolding fieldsText
 field-then {out} {a} {f} {m} {r} {fs} {exit} {q} x y =
-    record {
-      wrote = λ h.
-          let k : ℕ = length fs * 25 + 1 in
-          let room : r + k ≤ length m = omega (arith, x .long, x .most) in
-          rw append-assoc (wider (wrote-both out a (9 ∷ f) 25 m r (fieldsText fs) k exit q (omega arith) x (y .wrote room)) (omega arith));
-    }
+    record { wrote = λ h. wrote-wider (field-more fs (omega arith) x (y .wrote (omega (arith, x .long, x .most)))) (omega arith) }
 
 ok-then : {out m : List ℕ} {r : ℕ} {fs : List (List ℕ)} {exit : List ℕ} {q : ℕ}
     → Wrote out 0 (bytes "ok") 2 m r → Ends m r fs exit q → longestAnswer ≤ length out → length fs ≤ 6 → Wrote out 0 (okText fs) longestAnswer exit q
@@ -54,7 +54,7 @@ unfolding okText
 ok-then {out} {m} {r} {fs} {exit} {q} x y h n =
     let j : ℕ = length fs * 25 + 1 in
     let room : r + j ≤ length m = omega (arith, x .long, x .most) in
-    wider (wrote-both out 0 (bytes "ok") 2 m r (fieldsText fs) j exit q (omega arith) x (y .wrote room)) (omega arith)
+    wrote-wider (wrote-both out 0 (bytes "ok") 2 m r (fieldsText fs) j exit q (omega arith) x (y .wrote room)) (omega arith)
 
 module _ (out m₁ : List ℕ) (r₁ : ℕ) (exit : List ℕ) (r : ℕ) (room : longestAnswer ≤ length out) (ok : Wrote out 0 (bytes "ok") 2 m₁ r₁) where
   pub no-field : Wrote m₁ r₁ (10 ∷ []) 1 exit r → Wrote out 0 (okText []) longestAnswer exit r
@@ -78,14 +78,48 @@ module _ (out : List ℕ) (a : ℕ) (f m₁ : List ℕ) (r₁ : ℕ) (g m₂ : L
 
   pub two-more : (fs : List (List ℕ)) (n : ℕ) → a + n ≤ length out → Wrote m₂ r₂ (fieldsText fs) (length fs * 25 + 1) exit r → length fs * 25 + 51 ≤ n
       → Wrote out a (fieldsText (f ∷ g ∷ fs)) n exit r
-  two-more fs n room z l = wider (field-then x (field-then y (record { wrote = λ h. z })) .wrote (omega arith)) (omega arith)
+  two-more fs n room z l = wrote-wider (field-then x (field-then y (record { wrote = λ h. z })) .wrote (omega arith)) (omega arith)
+
+-- ## A row's line in a page
+
+module _ (out : List ℕ) (a : ℕ) (m₁ : List ℕ) (r₁ : ℕ) (f m₂ : List ℕ) (r₂ : ℕ) (exit : List ℕ) (r : ℕ) (room : a + 156 ≤ length out) where
+  pub data-wrote : (fs : List (List ℕ)) → Wrote out a (bytes "\tdata") 5 m₁ r₁ → Wrote m₁ r₁ (9 ∷ f) 25 m₂ r₂ → Wrote m₂ r₂ (fieldsText fs) 126 exit r
+      → Wrote out a (fieldsText (bytes "data" ∷ f ∷ fs)) 156 exit r
+  data-wrote fs w x y = field-more (f ∷ fs) (omega arith) w (field-more fs (omega (arith, w .long, w .most)) x y)
+
+  pub marker-wrote : Wrote out a (bytes "\tmarker") 7 m₁ r₁ → Wrote m₁ r₁ (9 ∷ f) 25 m₂ r₂ → Wrote m₂ r₂ (bytes "\t-\t-\t-\t-\tOFF\n") 13 exit r
+      → Wrote out a (fieldsText (bytes "marker" ∷ f ∷ bytes "-" ∷ bytes "-" ∷ bytes "-" ∷ bytes "-" ∷ bytes "OFF" ∷ [])) 156 exit r
+  unfolding fieldsText
+  marker-wrote w x y =
+      let fs : List (List ℕ) = bytes "-" ∷ bytes "-" ∷ bytes "-" ∷ bytes "-" ∷ bytes "OFF" ∷ [] in
+      wrote-wider (field-more (f ∷ fs) (omega arith) w (field-more fs (omega (arith, w .long, w .most)) x y)) (omega arith)
+
+module _ (out : List ℕ) (a : ℕ) (n : Numbers) (m : List ℕ) (r : ℕ) (exit : List ℕ) (q : ℕ) (room : a + 181 ≤ length out) (x : Wrote out a (9 ∷ digits (n .number)) 25 m r) where
+  pub fields-data : n .kind ≡ 1 → Wrote m r (fieldsText (dataFields (rowFrom n []))) 156 exit q → Wrote out a (fieldsText (fieldsBehindKey (rowFrom n []))) 181 exit q
+  unfolding kindFields
+  fields-data k y = field-more {k = 156} (kindFields (rowFrom n [])) (omega arith) x (rw (eq-eqb (n .kind) 1 k) y)
+
+  pub fields-marker : (n .kind ≡ 1 → ⊥) → Wrote m r (fieldsText (markerFields (n .created))) 156 exit q → Wrote out a (fieldsText (fieldsBehindKey (rowFrom n []))) 181 exit q
+  unfolding kindFields
+  fields-marker k y = field-more {k = 156} (kindFields (rowFrom n [])) (omega arith) x (rw (ne-eqb (n .kind) 1 k) y)
+
+pub ruleset fields-cases = (fields-data, fields-marker)
+
+module _ (out : List ℕ) (a : ℕ) (key m : List ℕ) (r : ℕ) (h : a + rowRoom ≤ length out) (short : length key ≤ 63) (x : Wrote out a key (length key) m r) where
+  pub fields-room : r + 181 ≤ length m
+  fields-room = omega (arith, x .long, x .most)
+
+  pub line-wrote : (n : Numbers) (exit : List ℕ) (q : ℕ) → Wrote m r (fieldsText (fieldsBehindKey (rowFrom n []))) 181 exit q
+      → Wrote out a (rowText (rowFrom n key)) rowRoom exit q
+  unfolding fieldsText kindFields
+  line-wrote n exit q y = rw append-assoc (wrote-wider (wrote-both out a key (length key) m r (fieldsText (fieldsBehindKey (rowFrom n []))) 181 exit q (omega arith) x y) (omega arith))
 
 -- ## An answer
 
 pub answer-as : (out : List ℕ) (k : ℕ) (exit : List ℕ) (r : ℕ) (a b : Answer) → a ≡ b → Wrote out 0 (textOf b) k exit r → Wrote out 0 (textOf a) k exit r
 answer-as out k exit r a b e w = rw e w
 
-pub answer-date : (a : Answer) (x : Shown) → a ≡ Got x → Printable a → x .until ≤ latest
-answer-date a x e h = rw e at h
+pub answer-date : (a : Answer) (n : Numbers) → a ≡ Got n → Printable a → n .until ≤ latest
+answer-date a n e h = rw e at h
 
 pub ruleset answer-cases = (answer-as, answer-date)

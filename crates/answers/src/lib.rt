@@ -1,4 +1,5 @@
 // The answers to accepted lines, written at the start of the answer buffer. The definitions are in specs/.
+use table::Numbers;
 ghost use Prim.Native.Nat.{_+_, _≤_};
 ghost use lib.ListN.{length};
 ghost use mathlib.Core.List.{[], _∷_};
@@ -6,18 +7,10 @@ ghost use Rattle.buffers.specs.Writes.{Wrote};
 ghost use Rattle.text.specs.Printing.{digits};
 ghost use Rattle.calendar.specs.Calendar.{latest};
 ghost use Rattle.dates.specs.Printing.{printDate};
-ghost use Rattle.answers.specs.Text.{longestAnswer, fieldsText, okText, modeText, untilText, holdText, rowFields};
-ghost use Rattle.answers.specs.Meaning.{rowShown, textOf, Printable};
-
-// What GET shows of a row.
-pub struct Shown {
-    pub version: u64,
-    pub body: u64,
-    pub size: u64,
-    pub mode: u64,
-    pub until: u64,
-    pub hold: u64,
-}
+ghost use Rattle.model.specs.Refusals.{rowRoom};
+ghost use Rattle.table.specs.Places.{rowFrom};
+ghost use Rattle.answers.specs.Text.{longestAnswer, fieldsText, okText, modeText, untilText, holdText, rowFields, dataFields, markerFields, fieldsBehindKey, rowText};
+ghost use Rattle.answers.specs.Meaning.{textOf, Printable};
 
 // What an accepted line answers.
 pub enum Answer {
@@ -27,7 +20,7 @@ pub enum Answer {
     Removed(u64),
     RemovedMarker(u64),
     Swept(u64, u64),
-    Got(Shown),
+    Got(Numbers),
 }
 
 // A tab and a number. A field with its tab takes at most 25 bytes.
@@ -104,14 +97,55 @@ fn put_lock(out: &mut [u8], at: usize, mode: u64, until: u64, hold: u64) -> usiz
     buffers::copy_in(out, after_hold, b"\n")
 }
 
-// What GET shows of a row after its version, and the line feed.
-fn put_contents(out: &mut [u8], at: usize, x: Shown) -> usize
-    requires { ⌜ (at + 126 ≤ length (now out)) × (x .until ≤ latest) ⌝ }
-    ensures { λ r. ⌜ Wrote (now (out .entry)) at (fieldsText (digits (x .body) ∷ digits (x .size) ∷ modeText (x .mode) ∷ untilText (x .mode) (x .until) ∷ holdText (x .hold) ∷ [])) 126 (now (out .exit)) r ⌝ }
+// A row's fields from its body on, and the line feed.
+fn put_contents(out: &mut [u8], at: usize, n: Numbers) -> usize
+    requires { ⌜ (at + 126 ≤ length (now out)) × (n .until ≤ latest) ⌝ }
+    ensures { λ r. ⌜ Wrote (now (out .entry)) at (fieldsText (digits (n .body) ∷ digits (n .size) ∷ modeText (n .mode) ∷ untilText (n .mode) (n .until) ∷ holdText (n .hold) ∷ [])) 126 (now (out .exit)) r ⌝ }
 {
-    let after_body = put_number(out, at, x.body);
-    let after_size = put_number(out, after_body, x.size);
-    put_lock(out, after_size, x.mode, x.until, x.hold)
+    let after_body = put_number(out, at, n.body);
+    let after_size = put_number(out, after_body, n.size);
+    put_lock(out, after_size, n.mode, n.until, n.hold)
+}
+
+// A data row's fields behind its number, and the line feed.
+fn put_data(out: &mut [u8], at: usize, n: Numbers) -> usize
+    requires { ⌜ (at + 156 ≤ length (now out)) × (n .created ≤ latest) × (n .until ≤ latest) ⌝ }
+    ensures { λ r. ⌜ Wrote (now (out .entry)) at (fieldsText (dataFields (rowFrom n []))) 156 (now (out .exit)) r ⌝ }
+{
+    let after_kind = buffers::copy_in(out, at, b"\tdata");
+    let after_created = put_date(out, after_kind, n.created);
+    put_contents(out, after_created, n)
+}
+
+// A marker's fields behind its number, and the line feed.
+fn put_marker(out: &mut [u8], at: usize, created: u64) -> usize
+    requires { ⌜ (at + 156 ≤ length (now out)) × (created ≤ latest) ⌝ }
+    ensures { λ r. ⌜ Wrote (now (out .entry)) at (fieldsText (markerFields created)) 156 (now (out .exit)) r ⌝ }
+{
+    let after_kind = buffers::copy_in(out, at, b"\tmarker");
+    let after_created = put_date(out, after_kind, created);
+    buffers::copy_in(out, after_created, b"\t-\t-\t-\t-\tOFF\n")
+}
+
+// A row's fields behind its key, and the line feed.
+fn put_fields(out: &mut [u8], at: usize, n: Numbers) -> usize
+    requires { ⌜ (at + 181 ≤ length (now out)) × (n .created ≤ latest) × (n .until ≤ latest) ⌝ }
+    ensures { λ r. ⌜ Wrote (now (out .entry)) at (fieldsText (fieldsBehindKey (rowFrom n []))) 181 (now (out .exit)) r ⌝ }
+{
+    let after_number = put_number(out, at, n.number);
+    if n.kind == model::DATA {
+        return put_data(out, after_number, n);
+    }
+    put_marker(out, after_number, n.created)
+}
+
+// The line of a row in a page, and its line feed.
+pub fn write_line(out: &mut [u8], at: usize, key: &[u8], n: Numbers) -> usize
+    requires { ⌜ (at + rowRoom ≤ length (now out)) × (length (now key) ≤ 63) × (n .created ≤ latest) × (n .until ≤ latest) ⌝ }
+    ensures { λ r. ⌜ Wrote (now (out .entry)) at (rowText (rowFrom n (now (key .entry)))) rowRoom (now (out .exit)) r ⌝ }
+{
+    let after_key = buffers::copy_in(out, at, key);
+    put_fields(out, after_key, n)
 }
 
 // `ok` alone.
@@ -123,8 +157,8 @@ fn write_done(out: &mut [u8]) -> usize
     buffers::copy_in(out, after_ok, b"\n")
 }
 
-// `ok` and a number.
-fn write_number(out: &mut [u8], n: u64) -> usize
+// `ok` and a number: also a page's first line.
+pub fn write_number(out: &mut [u8], n: u64) -> usize
     requires { ⌜ longestAnswer ≤ length (now out) ⌝ }
     ensures { λ r. ⌜ Wrote (now (out .entry)) 0 (okText (digits n ∷ [])) longestAnswer (now (out .exit)) r ⌝ }
 {
@@ -156,13 +190,13 @@ fn write_counts(out: &mut [u8], gone: u64, new: u64) -> usize
 }
 
 // `ok` and the fields of a row.
-fn write_row(out: &mut [u8], x: Shown) -> usize
-    requires { ⌜ (longestAnswer ≤ length (now out)) × (x .until ≤ latest) ⌝ }
-    ensures { λ r. ⌜ Wrote (now (out .entry)) 0 (okText (rowFields (rowShown x))) longestAnswer (now (out .exit)) r ⌝ }
+fn write_row(out: &mut [u8], n: Numbers) -> usize
+    requires { ⌜ (longestAnswer ≤ length (now out)) × (n .until ≤ latest) ⌝ }
+    ensures { λ r. ⌜ Wrote (now (out .entry)) 0 (okText (rowFields (rowFrom n []))) longestAnswer (now (out .exit)) r ⌝ }
 {
     let after_ok = buffers::copy_in(out, 0, b"ok");
-    let after_version = put_number(out, after_ok, x.version);
-    put_contents(out, after_version, x)
+    let after_number = put_number(out, after_ok, n.number);
+    put_contents(out, after_number, n)
 }
 
 // Writes the text of an accepted line's answer at the buffer's start, and returns its length.
@@ -177,6 +211,6 @@ pub fn write_answer(out: &mut [u8], answer: Answer) -> usize
         Answer::Removed(n) => write_word(out, n, b"removed"),
         Answer::RemovedMarker(n) => write_word(out, n, b"removed-marker"),
         Answer::Swept(gone, new) => write_counts(out, gone, new),
-        Answer::Got(x) => write_row(out, x),
+        Answer::Got(n) => write_row(out, n),
     }
 }

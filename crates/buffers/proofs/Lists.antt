@@ -2,16 +2,16 @@
 use Prim.Native.Nat.{ℕ, zero, suc, _<_}
 use mathlib.Core.Path.{_≡_, refl, sym, _∙_, ap, ap₂}
 use mathlib.Core.Logic.{inl, inr}
-use mathlib.Core.Bool.{Bool, true, false, not, _&&_, false≢true}
-use mathlib.Core.List.{List, [], _∷_, _++_, nil≢cons, head-eq-of-cons-eq}
+use mathlib.Core.Bool.{Bool, true, false, not, _&&_, false≢true, and-false, and-comm}
+use mathlib.Core.List.{List, [], _∷_, _++_, map}
 use mathlib.Core.Option.{Option, some, none}
 use native.Mathlib.Omega.{arith}
 use lib.Dec.{eqb}
 use lib.ListN.{length, getD, take, drop, set}
-use borrow.Author.Tests.{eqb-true, eq-eqb}
+use borrow.Author.Tests.{eqb-true, eq-eqb, not-true}
 use Rattle.buffers.specs.Choices.{pick}
-use Rattle.buffers.specs.Lists.{keep, first, change, all, same}
-use Rattle.buffers.proofs.Tests.{either, clash, and-i, and-l, and-r, test-sym}
+use Rattle.buffers.specs.Lists.{keep, first, change, all, any, same}
+use Rattle.buffers.proofs.Tests.{either, clash, and-i, and-l, and-r, or-l, or-r, test-sym}
 
 module _ {A : Type 0} where
   -- ## The elements that pass a test
@@ -30,45 +30,34 @@ module _ {A : Type 0} where
         | inr e ↦ rw e (keep-append p xs ys)
       ]
 
-  -- What is kept passes the test.
-  pub keep-head : (p : A → Bool) (xs : List A) (y : A) (ys : List A) → keep p xs ≡ y ∷ ys → p y ≡ true
-  keep-head p [] y ys e = absurd (nil≢cons e)
-  keep-head p (x ∷ xs) y ys e =
-      elim (either (p x)) [
-        | inl t ↦ ap p (sym (head-eq-of-cons-eq (sym (keep-yes p x xs t) ∙ e))) ∙ t
-        | inr f ↦ keep-head p xs y ys (sym (keep-no p x xs f) ∙ e)
+  pub keep-as : (p q : A → Bool) → ((x : A) → p x ≡ q x) → (xs : List A) → keep p xs ≡ keep q xs
+  keep-as p q f [] = refl
+  keep-as p q f (x ∷ xs) = rw (f x, keep-as p q f xs)
+
+  pub keep-both : (p q : A → Bool) (xs : List A) → keep (λ x. p x && q x) xs ≡ keep p (keep q xs)
+  keep-both p q [] = refl
+  keep-both p q (x ∷ xs) =
+      elim (either (q x)) [
+        | inr u ↦ simp (u, and-false) (keep-both p q xs)
+        | inl u ↦ elim (either (p x)) [
+          | inl t ↦ simp (t, u) (ap (λ (l : List A). x ∷ l) (keep-both p q xs))
+          | inr t ↦ simp (t, u) (keep-both p q xs)
+        ]
       ]
 
   -- Two tests, in either order.
   pub keep-keep : (p q : A → Bool) (xs : List A) → keep p (keep q xs) ≡ keep q (keep p xs)
-  keep-keep p q [] = refl
-  keep-keep p q (x ∷ xs) =
-      elim (either (p x)) [
-        | inl t ↦ elim (either (q x)) [
-          | inl u ↦ simp (t, u) (ap (λ (l : List A). x ∷ l) (keep-keep p q xs))
-          | inr u ↦ simp (t, u) (keep-keep p q xs)
-        ]
-        | inr t ↦ elim (either (q x)) [
-          | inl u ↦ simp (t, u) (keep-keep p q xs)
-          | inr u ↦ simp (t, u) (keep-keep p q xs)
-        ]
-      ]
+  keep-keep p q xs = sym (keep-both p q xs) ∙ keep-as (λ x. p x && q x) (λ x. q x && p x) (λ x. and-comm (p x) (q x)) xs ∙ keep-both q p xs
+
+  -- Keeping first what passes a wider test changes nothing.
+  pub keep-narrower : (p q : A → Bool) → ((x : A) → p x ≡ true → q x ≡ true) → (xs : List A) → keep p (keep q xs) ≡ keep p xs
+  keep-narrower p q f xs =
+      sym (keep-both p q xs) ∙ keep-as (λ x. p x && q x) p (λ x. elim (either (p x)) [
+        | inl t ↦ rw (t, f x t)
+        | inr t ↦ rw t
+      ]) xs
 
   -- A change that the test does not see.
-  pub keep-narrower : (p q : A → Bool) → ((x : A) → p x ≡ true → q x ≡ true) → (xs : List A) → keep p (keep q xs) ≡ keep p xs
-  keep-narrower p q f [] = refl
-  keep-narrower p q f (x ∷ xs) =
-      elim (either (q x)) [
-        | inl e ↦ elim (either (p x)) [
-          | inl d ↦ simp (e, d) (ap (λ (l : List A). x ∷ l) (keep-narrower p q f xs))
-          | inr d ↦ simp (e, d) (keep-narrower p q f xs)
-        ]
-        | inr e ↦ elim (either (p x)) [
-          | inl d ↦ absurd (clash (q x) (f x d) e)
-          | inr d ↦ simp (e, d) (keep-narrower p q f xs)
-        ]
-      ]
-
   pub keep-change : (p q : A → Bool) (f : A → A) → ((x : A) → p (f x) ≡ p x) → (xs : List A) → keep p (change q f xs) ≡ change q f (keep p xs)
   keep-change p q f s [] = refl
   keep-change p q f s (x ∷ xs) =
@@ -85,6 +74,10 @@ module _ {A : Type 0} where
 
   -- ## Every element passes a test
 
+  pub all-true : (p : A → Bool) → ((x : A) → p x ≡ true) → (xs : List A) → all p xs ≡ true
+  all-true p f [] = refl
+  all-true p f (x ∷ xs) = and-i (p x) _ (f x) (all-true p f xs)
+
   pub all-as : (p q : A → Bool) → ((x : A) → p x ≡ true → q x ≡ true) → (xs : List A) → all p xs ≡ true → all q xs ≡ true
   all-as p q f [] e = refl
   all-as p q f (x ∷ xs) e = and-i (q x) _ (f x (and-l _ _ e)) (all-as p q f xs (and-r (p x) _ e))
@@ -93,13 +86,18 @@ module _ {A : Type 0} where
   all-append p [] ys e f = f
   all-append p (x ∷ xs) ys e f = and-i (p x) _ (and-l _ _ e) (all-append p xs ys (and-r (p x) _ e) f)
 
-  pub all-keep : (p q : A → Bool) (xs : List A) → all p xs ≡ true → all p (keep q xs) ≡ true
-  all-keep p q [] e = refl
-  all-keep p q (x ∷ xs) e =
-      elim (either (q x)) [
-        | inl t ↦ rw t (and-i (p x) _ (and-l _ _ e) (all-keep p q xs (and-r (p x) _ e)))
-        | inr t ↦ rw t (all-keep p q xs (and-r (p x) _ e))
-      ]
+  pub all-front : (p : A → Bool) (xs ys : List A) → all p (xs ++ ys) ≡ true → all p xs ≡ true
+  all-front p [] ys e = refl
+  all-front p (x ∷ xs) ys e = and-i (p x) _ (and-l _ _ e) (all-front p xs ys (and-r (p x) _ e))
+
+  pub all-middle : (p : A → Bool) (ys : List A) (x : A) (zs : List A) → all p (ys ++ x ∷ zs) ≡ true → p x ≡ true
+  all-middle p [] x zs e = and-l (p x) _ e
+  all-middle p (y ∷ ys) x zs e = all-middle p ys x zs (and-r (p y) _ e)
+
+  -- Every element passes that passes at its place.
+  pub all-places : (p : A → Bool) (xs : List A) → ((ys : List A) (x : A) (zs : List A) → xs ≡ ys ++ x ∷ zs → p x ≡ true) → all p xs ≡ true
+  all-places p [] f = refl
+  all-places p (x ∷ xs) f = and-i (p x) _ (f [] x xs refl) (all-places p xs (λ ys y zs e. f (x ∷ ys) y zs (ap (λ (l : List A). x ∷ l) e)))
 
   -- A change under which one test becomes another.
   pub all-change : (p r : A → Bool) (q : A → Bool) (f : A → A) → ((x : A) → p x ≡ true → q x ≡ true → r (f x) ≡ true) → ((x : A) → p x ≡ true → r x ≡ true) → (xs : List A) → all p xs ≡ true → all r (change q f xs) ≡ true
@@ -143,6 +141,47 @@ module _ {A : Type 0} where
   all-at p (x ∷ xs) zero d h e = and-l (p x) _ e
   all-at p (x ∷ xs) (suc i) d h e = all-at p xs i d (omega arith) (and-r (p x) _ e)
 
+  -- ## What is kept, and what every element passes
+
+  pub keep-every : (p : A → Bool) (xs : List A) → all p xs ≡ true → keep p xs ≡ xs
+  keep-every p [] e = refl
+  keep-every p (x ∷ xs) e = rw (and-l (p x) _ e) (ap (λ (l : List A). x ∷ l) (keep-every p xs (and-r (p x) _ e)))
+
+  pub keep-nothing : (p : A → Bool) (xs : List A) → all (λ x. not (p x)) xs ≡ true → keep p xs ≡ []
+  keep-nothing p [] e = refl
+  keep-nothing p (x ∷ xs) e = rw (not-true (p x) (and-l _ _ e)) (keep-nothing p xs (and-r (not (p x)) _ e))
+
+  -- Two tests that are one where a third holds.
+  pub keep-among : (r p q : A → Bool) → ((x : A) → r x ≡ true → p x ≡ q x) → (xs : List A) → all r xs ≡ true → keep p xs ≡ keep q xs
+  keep-among r p q f [] e = refl
+  keep-among r p q f (x ∷ xs) e = rw (f x (and-l (r x) _ e), keep-among r p q f xs (and-r (r x) _ e))
+
+  -- What is kept passes the test.
+  pub all-kept : (p : A → Bool) (xs : List A) → all p (keep p xs) ≡ true
+  all-kept p [] = refl
+  all-kept p (x ∷ xs) =
+      elim (either (p x)) [
+        | inl t ↦ rw t (and-i (p x) _ t (all-kept p xs))
+        | inr t ↦ rw t (all-kept p xs)
+      ]
+
+  pub keep-head : (p : A → Bool) (xs : List A) (y : A) (ys : List A) → keep p xs ≡ y ∷ ys → p y ≡ true
+  keep-head p xs y ys e = and-l (p y) _ (rw e at (all-kept p xs))
+
+  pub all-keep : (p q : A → Bool) (xs : List A) → all p xs ≡ true → all p (keep q xs) ≡ true
+  all-keep p q [] e = refl
+  all-keep p q (x ∷ xs) e =
+      elim (either (q x)) [
+        | inl t ↦ rw t (and-i (p x) _ (and-l _ _ e) (all-keep p q xs (and-r (p x) _ e)))
+        | inr t ↦ rw t (all-keep p q xs (and-r (p x) _ e))
+      ]
+
+  -- ## Some element passes a test
+
+  pub any-middle : (p : A → Bool) (ys : List A) (x : A) (zs : List A) → p x ≡ true → any p (ys ++ x ∷ zs) ≡ true
+  any-middle p [] x zs e = or-l (p x) _ e
+  any-middle p (y ∷ ys) x zs e = or-r (p y) _ (any-middle p ys x zs e)
+
   -- ## The first element that passes a test
 
   pub first-none : (p : A → Bool) (xs : List A) → all (λ x. not (p x)) xs ≡ true → first p xs ≡ none
@@ -156,6 +195,21 @@ module _ {A : Type 0} where
   pub first-as : (p q : A → Bool) → ((x : A) → p x ≡ q x) → (xs : List A) → first p xs ≡ first q xs
   first-as p q f [] = refl
   first-as p q f (x ∷ xs) = rw (f x) (ap (λ (r : Option A). pick (q x) (some x) r) (first-as p q f xs))
+
+-- ## The images of the elements
+
+module _ {A B : Type 0} (f : A → B) where
+  pub keep-map : (p : B → Bool) (xs : List A) → keep p (map f xs) ≡ map f (keep (λ x. p (f x)) xs)
+  keep-map p [] = refl
+  keep-map p (x ∷ xs) =
+      elim (either (p (f x))) [
+        | inl t ↦ rw t (ap (λ (l : List B). f x ∷ l) (keep-map p xs))
+        | inr t ↦ rw t (keep-map p xs)
+      ]
+
+  pub all-map : (p : B → Bool) (xs : List A) → all p (map f xs) ≡ all (λ x. p (f x)) xs
+  all-map p [] = refl
+  all-map p (x ∷ xs) = ap (λ (b : Bool). p (f x) && b) (all-map p xs)
 
 -- ## The same bytes
 

@@ -50,6 +50,15 @@ pub wrote-as : (out : List ℕ) (a : ℕ) (vs ws : List ℕ) (k j : ℕ) (exit :
 wrote-as out a vs ws k j exit r x e h =
     record { next = x .next ∙ rw e; holds = x .holds ∙ rw e; long = x .long; most = let q : r ≡ a + length ws = x .next ∙ rw e in omega arith }
 
+-- A wider bound.
+pub wrote-wider : {out : List ℕ} {a : ℕ} {vs : List ℕ} {k j : ℕ} {exit : List ℕ} {r : ℕ} → Wrote out a vs k exit r → k ≤ j → Wrote out a vs j exit r
+wrote-wider w h = record { next = w .next; holds = w .holds; long = w .long; most = let q = w .most in omega arith }
+
+pub wrote-nothing : (out : List ℕ) (a : ℕ) → Wrote out a [] 0 out a
+wrote-nothing out a =
+    let q : a + 0 ≡ a = omega arith in
+    record { next = sym q; holds = rw (q, append-nil) (sym (take-append-drop a out)); long = refl; most = omega arith }
+
 -- ## A copy
 
 pub copy-start : (d : List ℕ) (at : ℕ) (s : List ℕ) → d ≡ paste d at s 0
@@ -77,9 +86,7 @@ pub ruleset copy-cases = (copy-start, copy-step, copy-end)
 
 module _ (out : List ℕ) (a : ℕ) where
   pub zeros-start : Wrote out a (replicate 0 0) 0 out (a + 0)
-  zeros-start =
-      let q : a + 0 ≡ a = omega arith in
-      record { next = refl; holds = rw (q, append-nil) (sym (take-append-drop a out)); long = refl; most = omega arith }
+  zeros-start = let q : a + 0 ≡ a = omega arith in rw q (wrote-nothing out a)
 
   pub zeros-step : (m : List ℕ) (i n : ℕ) → Wrote out a (replicate i 0) i m (a + i) → i < n → a + n ≤ length out
       → Wrote out a (replicate (i + 1) 0) (i + 1) (set m (a + i) 0) (a + (i + 1))

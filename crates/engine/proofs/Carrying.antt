@@ -46,10 +46,10 @@ same-outcome : (l m : ℕ) (s t : Settings) (n n′ keys keys′ a a′ : List �
 same-outcome l m s t n n′ keys keys′ a a′ e1 e2 e3 e4 e5 = rw (e1, e2, e3, e4, e5)
 
 -- An effect, carried out.
-pub carried-is : (s : Settings) (n keys : List ℕ) (now : ℕ) (v : Verb) (a : List ℕ) (e : Effect) (len : ℕ) (after : Settings) (n′ keys′ a′ : List ℕ) → Wrote a 0 (e .text) longestAnswer a′ len
+pub carried-is : (s : Settings) (n keys : List ℕ) (now : ℕ) (v : Verb) (a : List ℕ) (e : Effect) (most len : ℕ) (after : Settings) (n′ keys′ a′ : List ℕ) → Wrote a 0 (e .text) most a′ len
     → after ≡ settingsFrom (settingsAfter (settingsMean s) now (e .taken) v) (length (e .rows)) → Holds (capacity keys) (e .rows) n′ keys′
     → outcomeFrom (record { number = 0; len = len; settings = after }) n′ keys′ a′ ≡ carried (lent s n keys) now v a e
-carried-is s n keys now v a e len after n′ keys′ a′ w q h =
+carried-is s n keys now v a e most len after n′ keys′ a′ w q h =
     let z : 0 + length (e .text) ≡ length (e .text) = omega arith in
     same-outcome len (length (e .text)) after _ n′ _ keys′ _ a′ (written (e .text) a)
     (omega (arith, w .next))
@@ -59,12 +59,12 @@ carried-is s n keys now v a e len after n′ keys′ a′ w q h =
     (w .holds ∙ ap (λ (k : ℕ). e .text ++ drop k a) z)
 
 -- An effect that keeps the rows and takes no number leaves the buffers as they are.
-pub kept-is : (s : Settings) (n keys : List ℕ) (now : ℕ) (v : Verb) (a : List ℕ) (e : Effect) (len : ℕ) (after : Settings) (a′ : List ℕ) → Wrote a 0 (e .text) longestAnswer a′ len
+pub kept-is : (s : Settings) (n keys : List ℕ) (now : ℕ) (v : Verb) (a : List ℕ) (e : Effect) (most len : ℕ) (after : Settings) (a′ : List ℕ) → Wrote a 0 (e .text) most a′ len
     → after ≡ settingsFrom (record { time = now; next = s .next; config = configAfter (settingsMean s .config) v }) (s .used) → Holds (capacity keys) (rowsOf n keys (s .used)) n keys
     → e .rows ≡ rowsOf n keys (s .used) → e .taken ≡ 0 → outcomeFrom (record { number = 0; len = len; settings = after }) n keys a′ ≡ carried (lent s n keys) now v a e
-kept-is s n keys now v a e len after a′ w q h er et =
+kept-is s n keys now v a e most len after a′ w q h er et =
     let z : s .next + 0 ≡ s .next = omega arith in
-    carried-is s n keys now v a e len after n keys a′ w (rw (er, et, z, rows-length n keys (s .used)) q) (rw er h)
+    carried-is s n keys now v a e most len after n keys a′ w (rw (er, et, z, rows-length n keys (s .used)) q) (rw er h)
 
 -- The settings after a step.
 pub settle-done : (s : Settings) (x : Step) (after : Settings) → after ≡ withProgress s (x .time) (x .used) (x .next) → record { number = x .number; len = x .len; settings = after } ≡ served s x
@@ -100,7 +100,7 @@ module _ (s : State) (n keys line a : List ℕ) (o : Verdict) (now : ℕ) (fates
     plan-done change text n′ keys′ a′ g len pc pt d w =
         record {
           is = λ t v q h c. let i = rw q at d in
-              rw (e, pc, pt) (carried-is t n keys now v a (planMeans (judged line (t .next) now fates) (rowsOf n keys (t .used)) (record { change = change; answer = text })) len (withProgress t now (g .used) (g .next)) n′ keys′ a′ w
+              rw (e, pc, pt) (carried-is t n keys now v a (planMeans (judged line (t .next) now fates) (rowsOf n keys (t .used)) (record { change = change; answer = text })) _ len (withProgress t now (g .used) (g .next)) n′ keys′ a′ w
               (rw (i .used-is, i .next-is) (settings-after t v now _ _ c h))
               (i .held));
         }

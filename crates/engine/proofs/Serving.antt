@@ -1,17 +1,22 @@
 -- A line served: refused, judged and carried out, or set.
-use Prim.Native.Nat.{ℕ, _≤_, max}
+use Prim.Native.Nat.{ℕ, _+_, _≤_, max}
 use mathlib.Core.Path.{_≡_, refl, sym, _∙_, ap, subst⁻¹}
 use mathlib.Core.Bool.{Bool, true, false}
 use mathlib.Core.List.{List, []}
 use mathlib.Core.Option.{some}
 use native.Mathlib.Omega.{arith}
 use lib.ListN.{length, replicate, length-replicate}
+use borrow.Author.Tests.{ltb-false}
 use Rattle.buffers.specs.Writes.{Wrote}
+use Rattle.text.specs.Fields.{partOf}
 use Rattle.calendar.specs.declared.Now.{Now}
+use Rattle.fields.specs.Meaning.{Inside}
 use Rattle.model.specs.Requests as model
-use Rattle.model.specs.Requests.{Set, Sweep, Ask, says, inRange}
+use Rattle.model.specs.Requests.{page, Get, ListVersions, Set, Sweep, Ask, says, inRange}
+use Rattle.model.specs.Pages.{pageRows}
 use Rattle.model.specs.Effects.{added, rowsAfter, configAfter}
-use Rattle.model.specs.Refusals.{fieldChecks, tableChecks, leastRoom}
+use Rattle.model.specs.Refusals.{fieldChecks, tableChecks, leastRoom, pageRoom, shortForPage}
+use Rattle.model.specs.Answers.{reply}
 use Rattle.settings.specs.declared.Rule.{Rule}
 use Rattle.settings.specs.declared.Settings.{Settings}
 use Rattle.settings.specs.declared.State.{State}
@@ -23,20 +28,23 @@ use Rattle.bucket.specs.Whole.{Lent, lent, bucketOf, whole}
 use Rattle.bucket.proofs.Whole.{whole-parts}
 use Rattle.request.specs.declared.Action.{Action}
 use Rattle.request.specs.declared.Setting.{Setting}
+use Rattle.request.specs.declared.Name.{Name}
+use Rattle.request.specs.declared.Page.{Page}
 use Rattle.request.specs.declared.Query.{Query}
+use Rattle.request.specs.declared.Query.the-variants as query
 use Rattle.request.specs.declared.Verb.{Verb}
 use Rattle.request.specs.declared.Verb.the-variants as verb
 use Rattle.request.specs.Grammar.{Said, saidBy, readLine, asked}
-use Rattle.request.specs.Meaning.{actionMeans, settingMeans, queryMeans, verbMeans, ActionInside, QueryInside, VerbInside}
+use Rattle.request.specs.Meaning.{nameMeans, actionMeans, settingMeans, pageMeans, queryMeans, verbMeans, ActionInside, VerbInside}
 use Rattle.request.proofs.Ranges.{read-in-range}
 use Rattle.request.proofs.Actions.{action-unset}
 use Rattle.screen.specs.declared.Screened.{Screened}
 use Rattle.screen.specs.declared.Screened.the-variants as screened
 use Rattle.screen.specs.Screen.{screened as fieldRefusal, screenedLine, Screens, lineRefusal}
-use Rattle.screen.proofs.Lines.{Comes, short, unread, barred, passed, comes}
+use Rattle.screen.proofs.Lines.{Comes, short, unread, barred, passed, comes, passes-page}
 use Rattle.answers.specs.declared.Answer.{Answer}
 use Rattle.answers.specs.declared.Answer.the-variants as answer
-use Rattle.answers.specs.Text.{longestAnswer}
+use Rattle.answers.specs.Text.{longestAnswer, pageText}
 use Rattle.answers.specs.Meaning.{textOf, Printable}
 use Rattle.judge.specs.declared.Change.the-variants as change
 use Rattle.judge.specs.declared.Plan.{Plan}
@@ -44,12 +52,15 @@ use Rattle.judge.specs.declared.Verdict.{Verdict}
 use Rattle.judge.specs.declared.Verdict.the-variants as verdict
 use Rattle.judge.specs.Meaning.{planMeans, verdictMeans}
 use Rattle.judge.specs.Premises.{both, Asked, Sweepable, JudgesBy, JudgesOn}
+use Rattle.judge.proofs.Deciding.{page-does}
 use Rattle.judge.proofs.Sweeping as judge
+use Rattle.listing.specs.Ready.{Listable}
+use Rattle.listing.proofs.Sound.{listable}
 use Rattle.apply.specs.Applied.{judged}
 use Rattle.outcome.specs.Decision.{Effect, Decision, does, effect, tableDecision, decision}
 use Rattle.outcome.specs.Calls.{Call, call, heard}
 use Rattle.outcome.specs.Outcome.{Outcome, refused, outcome}
-use Rattle.outcome.specs.Steps.{done}
+use Rattle.outcome.specs.Steps.{carried, done}
 use Rattle.outcome.proofs.Room.{outcome-fits}
 use Rattle.outcome.proofs.Deciding.{decide-stop, decide-go, decide-done, outcome-1, outcome-2, outcome-3, outcome-said}
 use Rattle.engine.specs.Configured.{Settable, configuredBy}
@@ -74,24 +85,24 @@ module _ (b : Lent) (line a : List ℕ) (w : whole b ≡ true) where
   said-is q l e = outcome-said b (call line a) (asked (length a) q) w l (hears line a q e) (read-in-range line q e)
 
   -- A line that its own fields refuse.
-  said-stops : (k : ℕ) (q : Said) → leastRoom ≤ length a → readLine line ≡ some q → k ≡ fieldRefusal (settingsMean (b .settings) .config) (q .who) (max (b .settings .time) (q .clock)) (q .verb) → (k ≡ 0 → ⊥) → refused k b a ≡ outcome b (call line a)
+  said-stops : (k : ℕ) (q : Said) → leastRoom ≤ length a → readLine line ≡ some q → k ≡ fieldRefusal (settingsMean (b .settings) .config) (q .who) (length a) (max (b .settings .time) (q .clock)) (q .verb) → (k ≡ 0 → ⊥) → refused k b a ≡ outcome b (call line a)
   unfolding fieldRefusal
   said-stops k q l e h z =
       let c = bucketOf b in
       let now = max (b .settings .time) (q .clock) in
       ap (λ (m : ℕ). refused m b a) h
-      ∙ sym (ap (λ (d : Decision). done b now (q .verb) a d) (decide-stop (fieldChecks (c .settings .config) (q .who) now (q .verb)) (tableChecks (capacity (b .keys)) c (both now) (q .verb)) (effect c (both now) (q .who) (q .verb)) (λ i. z (h ∙ i))))
+      ∙ sym (ap (λ (d : Decision). done b now (q .verb) a d) (decide-stop (fieldChecks (c .settings .config) (q .who) (length a) now (q .verb)) (tableChecks (capacity (b .keys)) c (both now) (q .verb)) (effect c (both now) (q .who) (q .verb)) (λ i. z (h ∙ i))))
       ∙ said-is q l e
 
   -- A line that they don't refuse is done as the table decides.
-  said-passes : (q : Said) (now : ℕ) → leastRoom ≤ length a → readLine line ≡ some q → now ≡ max (b .settings .time) (q .clock) → 0 ≡ fieldRefusal (settingsMean (b .settings) .config) (q .who) now (q .verb)
+  said-passes : (q : Said) (now : ℕ) → leastRoom ≤ length a → readLine line ≡ some q → now ≡ max (b .settings .time) (q .clock) → 0 ≡ fieldRefusal (settingsMean (b .settings) .config) (q .who) (length a) now (q .verb)
       → done b now (q .verb) a (tableDecision (capacity (b .keys)) (bucketOf b) (both now) (q .who) (q .verb)) ≡ outcome b (call line a)
   unfolding fieldRefusal
   said-passes q now l e t h =
       let c = bucketOf b in
       let m = max (b .settings .time) (q .clock) in
       rw t (sym (ap (λ (d : Decision). done b m (q .verb) a d)
-      (decide-go (fieldChecks (c .settings .config) (q .who) m (q .verb)) (tableChecks (capacity (b .keys)) c (both m) (q .verb)) (effect c (both m) (q .who) (q .verb)) refl (sym (rw t at h))))
+      (decide-go (fieldChecks (c .settings .config) (q .who) (length a) m (q .verb)) (tableChecks (capacity (b .keys)) c (both m) (q .verb)) (effect c (both m) (q .who) (q .verb)) refl (sym (rw t at h))))
       ∙ said-is q l e)
 
   stops : (k : ℕ) → screened.Refused k ≡ screenedLine (settingsMean (b .settings) .config) (b .settings .time) line (length a) → refused k b a ≡ outcome b (call line a)
@@ -131,8 +142,17 @@ known {b} {line} {a} {v} {when} p =
       one-now = line-stamp b line a v when p;
       decided = λ d e. ap (λ (x : Decision). done b (when .judge) (verbMeans line v) a x) e
           ∙ said-passes b line a (p .is-whole) _ (when .judge) (q .room-fits) (q .says) (line-judge b line a v when p)
-          (q .passes ∙ ap (λ (t : ℕ). fieldRefusal (settingsMean (b .settings) .config) (q .who) t (verbMeans line v)) (line-stamp b line a v when p));
+          (q .passes ∙ ap (λ (t : ℕ). fieldRefusal (settingsMean (b .settings) .config) (q .who) (length a) t (verbMeans line v)) (line-stamp b line a v when p));
     }
+
+-- What asks keeps the rows and takes no number.
+asked-kept : {s : Settings} {n keys line a : List ℕ} {x : Query} {when : Now} (p : Passing (lent s n keys) line a (verb.Ask x) when) (e : Effect) (most len : ℕ) (after : Settings) (a′ : List ℕ) → Wrote a 0 (e .text) most a′ len
+    → after ≡ withProgress s (when .stamp) (s .used) (s .next) → e .rows ≡ rowsOf n keys (s .used) → e .taken ≡ 0
+    → outcomeFrom (record { number = 0; len = len; settings = after }) n keys a′ ≡ carried (lent s n keys) (when .judge) (Ask (queryMeans line x)) a e
+asked-kept {s} {n} {keys} {line} {a} {x} {when} p e most len after a′ w g er et =
+    let q = known p in
+    kept-is s n keys (when .judge) (Ask (queryMeans line x)) a e most len after a′ w
+    (rw (q .one-now) at g ∙ settings-after s (Ask (queryMeans line x)) (when .judge) (s .used) (s .next) refl (q .prefixes)) (q .asked .ready .holds) er et
 
 -- Some sender: whether a verdict can be carried out hangs on none.
 anyone : model.Rights
@@ -202,49 +222,83 @@ module _ (s : Settings) (n keys line a : List ℕ) (when : Now) (p : Passing (le
 
 pub ruleset swept-lines = (line-sweeps, line-swept)
 
--- ## What asks
+-- ## GET
 
-module _ (s : Settings) (n keys line a : List ℕ) (x : Query) (when : Now) (p : Passing (lent s n keys) line a (verb.Ask x) when) where
-  pub query-room : leastRoom ≤ length a
-  query-room = known p .room
+module _ (s : Settings) (n keys line a : List ℕ) (x : Name) (when : Now) (p : Passing (lent s n keys) line a (verb.Ask (query.Get x)) when) where
+  pub get-room : leastRoom ≤ length a
+  get-room = known p .room
 
-  pub query-inside : QueryInside line x
-  query-inside = known p .inside
+  pub get-inside : Inside line (x .key)
+  get-inside = known p .inside
 
   module _ (st : State) (e : st ≡ stateOf s) where
-    pub query-asked : Asked st n keys (when .judge) (Ask (queryMeans line x))
-    query-asked = rw e (known p .asked)
+    pub get-asked : Asked st n keys (when .judge) (Ask (Get (nameMeans line x)))
+    get-asked = rw e (known p .asked)
 
-    module _ (o : Verdict) (j : JudgesOn st n keys line (when .judge) (Ask (queryMeans line x)) o) where
+    module _ (o : Verdict) (j : JudgesOn st n keys line (when .judge) (Ask (Get (nameMeans line x))) o) where
       -- The verdict is what the table decides, and done it is the outcome.
-      judged-is : verdictMeans (judged line (s .next) (when .judge) []) (rowsOf n keys (s .used)) o ≡ tableDecision (capacity keys) (bucketOf (lent s n keys)) (both (when .judge)) (known p .who) (Ask (queryMeans line x))
+      judged-is : verdictMeans (judged line (s .next) (when .judge) []) (rowsOf n keys (s .used)) o ≡ tableDecision (capacity keys) (bucketOf (lent s n keys)) (both (when .judge)) (known p .who) (Ask (Get (nameMeans line x)))
       judged-is = ((rw e at j) (known p .who) (rulesMean (s .rules)) []) .is
 
-      judged-done : done (lent s n keys) (when .judge) (Ask (queryMeans line x)) a (verdictMeans (judged line (s .next) (when .judge) []) (rowsOf n keys (s .used)) o) ≡ outcome (lent s n keys) (call line a)
+      judged-done : done (lent s n keys) (when .judge) (Ask (Get (nameMeans line x))) a (verdictMeans (judged line (s .next) (when .judge) []) (rowsOf n keys (s .used)) o) ≡ outcome (lent s n keys) (call line a)
       judged-done = known p .decided _ judged-is
 
-      pub query-refused : (k : ℕ) (r : Served) → o ≡ verdict.Refused k → r .number ≡ k → r .len ≡ 0 → r .settings ≡ s → outcomeFrom r n keys a ≡ outcome (lent s n keys) (call line a)
-      query-refused k r t f g h = refused-is r k s n keys a f g h ∙ (rw t at judged-done)
+      pub get-refused : (k : ℕ) (r : Served) → o ≡ verdict.Refused k → r .number ≡ k → r .len ≡ 0 → r .settings ≡ s → outcomeFrom r n keys a ≡ outcome (lent s n keys) (call line a)
+      get-refused k r t f g h = refused-is r k s n keys a f g h ∙ (rw t at judged-done)
 
       module _ (plan : Plan) (t : o ≡ verdict.Accepted plan) where
-        pub query-prints : Printable (plan .answer)
-        query-prints = ((rw t at j) anyone [] [] .feasible) .1
+        pub get-prints : Printable (plan .answer)
+        get-prints = ((rw t at j) anyone [] [] .feasible) .1
 
-        pub query-answered : (a′ : List ℕ) (len : ℕ) (text : Answer) (after : Settings) → plan .answer ≡ text → Wrote a 0 (textOf text) longestAnswer a′ len
+        pub get-answered : (a′ : List ℕ) (len : ℕ) (text : Answer) (after : Settings) → plan .answer ≡ text → Wrote a 0 (textOf text) longestAnswer a′ len
             → after ≡ withProgress s (when .stamp) (s .used) (s .next) → outcomeFrom (record { number = 0; len = len; settings = after }) n keys a′ ≡ outcome (lent s n keys) (call line a)
         unfolding added rowsAfter
-        query-answered a′ len text after h w g =
-            let q = known p in
+        get-answered a′ len text after h w g =
             let c = bucketOf (lent s n keys) in
-            let v = Ask (queryMeans line x) in
-            let same = decide-done (tableChecks (capacity keys) c (both (when .judge)) v) (effect c (both (when .judge)) (q .who) v) _ (rw t at judged-is) in
-            kept-is s n keys (when .judge) (Ask (queryMeans line x)) a _ len after a′ (rw (sym h) at w)
-            (rw (q .one-now) at g ∙ settings-after s (Ask (queryMeans line x)) (when .judge) (s .used) (s .next) refl (q .prefixes))
-            (q .asked .ready .holds)
-            (ap (λ (f : Effect). f .rows) same) (ap (λ (f : Effect). f .taken) same)
+            let v = Ask (Get (nameMeans line x)) in
+            let same = decide-done (tableChecks (capacity keys) c (both (when .judge)) v) (effect c (both (when .judge)) (known p .who) v) _ (rw t at judged-is) in
+            asked-kept p _ longestAnswer len after a′ (rw (sym h) at w) g (ap (λ (f : Effect). f .rows) same) (ap (λ (f : Effect). f .taken) same)
             ∙ (rw t at judged-done)
 
-pub ruleset queries = (query-room, query-inside, query-asked, query-refused, query-prints, query-answered)
+pub ruleset gets = (get-room, get-inside, get-asked, get-refused, get-prints, get-answered)
+
+-- ## LIST
+
+module _ (s : Settings) (n keys line a : List ℕ) (x : Page) (when : Now) (p : Passing (lent s n keys) line a (verb.Ask (query.ListVersions x)) when) where
+  pub prefix-inside : x .prefix .start + x .prefix .len ≤ length line
+  prefix-inside = known p .inside .prefix .end
+
+  pub key-inside : x .key .start + x .key .len ≤ length line
+  key-inside = known p .inside .key .end
+
+  pub page-room : pageRoom (x .count) ≤ length a
+  unfolding shortForPage
+  page-room = ltb-false (length a) (pageRoom (x .count)) (passes-page (line-says (lent s n keys) line a (verb.Ask (query.ListVersions x)) when p))
+
+  module _ (st : State) (e : st ≡ stateOf s) where
+    pub page-listable : Listable n keys (st .used)
+    page-listable = let r = known p .asked in rw e (listable n keys (s .used) (s .next) (s .time) (r .ready .holds) (r .ready .in-order) (r .ready .rows-sound) (omega (arith, r .since, r .instant)))
+
+    pub page-answered : (prefix key : List ℕ) (a′ : List ℕ) (len : ℕ) (after : Settings) → prefix ≡ partOf line (x .prefix) → key ≡ partOf line (x .key)
+        → Wrote a 0 (pageText (pageRows (page prefix key (x .version) (x .count)) (rowsOf n keys (st .used)))) (pageRoom (x .count)) a′ len
+        → after ≡ withProgress s (when .stamp) (s .used) (s .next) → outcomeFrom (record { number = 0; len = len; settings = after }) n keys a′ ≡ outcome (lent s n keys) (call line a)
+    unfolding added rowsAfter reply
+    page-answered prefix key a′ len after f g w h =
+        let c = bucketOf (lent s n keys) in
+        let v = Ask (ListVersions (pageMeans line x)) in
+        let r = known p .asked .ready in
+        asked-kept p (effect c (both (when .judge)) (known p .who) v) (pageRoom (x .count)) len after a′ (rw (e, f, g) at w) h refl refl
+        ∙ known p .decided _ (sym (page-does (stateOf s) n keys (rulesMean (s .rules)) (when .judge) (known p .who) (pageMeans line x) r))
+
+pub ruleset pages = (prefix-inside, key-inside, page-room, page-listable, page-answered)
+
+-- ## What asks, by its verb
+
+module _ (s : Settings) (n keys line a : List ℕ) (x : Query) (when : Now) (p : Passing (lent s n keys) line a (verb.Ask x) when) where
+  pub passes-query : (y : Query) → x ≡ y → Passing (lent s n keys) line a (verb.Ask y) when
+  passes-query y e = rw e at p
+
+pub ruleset queries = (passes-query)
 
 -- ## DEFAULT and RULE
 
@@ -254,7 +308,7 @@ unfolding configAfter
 set-done s line a a′ x when len u after n keys w c g p =
     let q = known p in
     let e = planMeans (judged line (s .next) (when .judge) []) (rowsOf n keys (s .used)) (record { change = change.Keep; answer = answer.Done }) in
-    kept-is s n keys (when .judge) (Set (settingMeans line x)) a e len after a′ w (rw (g, c, q .one-now)) (q .asked .ready .holds) refl refl
+    kept-is s n keys (when .judge) (Set (settingMeans line x)) a e longestAnswer len after a′ w (rw (g, c, q .one-now)) (q .asked .ready .holds) refl refl
     ∙ q .decided (does e) ((judge.set-done (stateOf s) n keys line (when .judge) (q .who) (rulesMean (s .rules)) [] (settingMeans line x) (q .asked)) .is)
 
 -- ## A line that the screen passes, by its verb

@@ -5,6 +5,8 @@ use answers::Answer;
 use calendar::Now;
 use judge::Verdict;
 use request::Action;
+use request::Name;
+use request::Page;
 use request::Query;
 use request::Setting;
 use request::Verb;
@@ -20,6 +22,7 @@ ghost use lib.ListN.{length, replicate};
 ghost use Rattle.model.specs.Refusals.{leastRoom};
 ghost use Rattle.bucket.specs.Whole.{lent, whole};
 ghost use Rattle.request.specs.declared.Verb.the-variants as verb;
+ghost use Rattle.request.specs.declared.Query.the-variants as query;
 ghost use Rattle.outcome.specs.Calls.{call};
 ghost use Rattle.outcome.specs.Outcome.{outcome};
 ghost use Rattle.engine.specs.Configured.{Settable};
@@ -195,7 +198,64 @@ fn serve_setting(s: Settings, line: &[u8], answer: &mut [u8], setting: Setting, 
     }
 }
 
-// What asks is judged and answered on the table as it is.
+// GET is judged and answered on the table as it is.
+fn serve_get(
+    s: Settings,
+    rows: &[u64],
+    keys: &[u8],
+    line: &[u8],
+    answer: &mut [u8],
+    name: Name,
+    when: Now,
+) -> Served
+    requires { ⌜ Passing (lent s (now rows) (now keys)) (now line) (now answer) (verb.Ask (query.Get name)) when ⌝ }
+    ensures { λ r. ⌜ outcomeFrom r (now (rows .entry)) (now (keys .entry)) (now (answer .exit)) ≡ outcome (lent s (now (rows .entry)) (now (keys .entry))) (call (now (line .entry)) (now (answer .entry))) ⌝ }
+{
+    let state = settings::state_of(s);
+    match judge::judge_get(rows, keys, line, state, name, when) {
+        Verdict::Refused(n) => refused(n, s),
+        Verdict::Accepted(plan) => {
+            let shown = plan.answer;
+            let len = answers::write_answer(answer, shown);
+            let after = settings::with_progress(s, when.stamp, s.used, s.next);
+            Served {
+                number: 0,
+                len,
+                settings: after,
+            }
+        }
+    }
+}
+
+// LIST meets no refusal on the table, and its page is written straight from it.
+fn serve_page(
+    s: Settings,
+    rows: &[u64],
+    keys: &[u8],
+    line: &[u8],
+    answer: &mut [u8],
+    page: Page,
+    when: Now,
+) -> Served
+    requires { ⌜ Passing (lent s (now rows) (now keys)) (now line) (now answer) (verb.Ask (query.ListVersions page)) when ⌝ }
+    ensures { λ r. ⌜ outcomeFrom r (now (rows .entry)) (now (keys .entry)) (now (answer .exit)) ≡ outcome (lent s (now (rows .entry)) (now (keys .entry))) (call (now (line .entry)) (now (answer .entry))) ⌝ }
+{
+    let state = settings::state_of(s);
+    let used = state.used;
+    let count = page.count as usize;
+    let version = page.version;
+    let prefix = text::part(line, page.prefix);
+    let key = text::part(line, page.key);
+    let len = listing::write_page(rows, keys, used, prefix, key, version, count, answer);
+    let after = settings::with_progress(s, when.stamp, s.used, s.next);
+    Served {
+        number: 0,
+        len,
+        settings: after,
+    }
+}
+
+// What asks leaves the table as it is.
 fn serve_query(
     s: Settings,
     rows: &[u64],
@@ -208,19 +268,9 @@ fn serve_query(
     requires { ⌜ Passing (lent s (now rows) (now keys)) (now line) (now answer) (verb.Ask query) when ⌝ }
     ensures { λ r. ⌜ outcomeFrom r (now (rows .entry)) (now (keys .entry)) (now (answer .exit)) ≡ outcome (lent s (now (rows .entry)) (now (keys .entry))) (call (now (line .entry)) (now (answer .entry))) ⌝ }
 {
-    let state = settings::state_of(s);
-    match judge::judge_query(rows, keys, line, state, query, when) {
-        Verdict::Refused(n) => refused(n, s),
-        Verdict::Accepted(plan) => {
-            let shown = plan.answer;
-            let len = answers::write_answer(answer, shown);
-            let after = settings::with_progress(s, when.stamp, s.used, s.next);
-            Served {
-                number: 0,
-                len,
-                settings: after,
-            }
-        }
+    match query {
+        Query::Get(name) => serve_get(s, rows, keys, line, answer, name, when),
+        Query::ListVersions(page) => serve_page(s, rows, keys, line, answer, page, when),
     }
 }
 

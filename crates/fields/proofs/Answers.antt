@@ -8,7 +8,7 @@ use Rattle.buffers.specs.Choices.{pick, thenSome}
 use Rattle.text.specs.declared.Place.{Place}
 use Rattle.text.specs.declared.Value.{Value}
 use Rattle.text.specs.declared.Value.the-variants as value
-use Rattle.text.specs.Numbers.{valueOf, numberOf}
+use Rattle.text.specs.Numbers.{valueOf, numberOf, positiveOf}
 use Rattle.dates.specs.declared.DateRead.{DateRead}
 use Rattle.dates.specs.declared.DateRead.the-variants.{At, Unreadable}
 use Rattle.dates.specs.Reading.{instantOf, readDate}
@@ -61,6 +61,12 @@ module _ (A : Type 0) (v y : A) where
 
   pub number-bad : (r : Value) (k : ℕ) (t u : List ℕ) (f : ℕ → A) → valueOf r ≡ numberOf k t → t ≡ u → r ≡ value.Bad → v ≡ y → v ≡ thenSome (numberOf k u) y f
   number-bad r k t u f e i h q = cc
+
+  pub positive-is : (r : Value) (k n : ℕ) (t u : List ℕ) (f : ℕ → A) → valueOf r ≡ positiveOf k t → t ≡ u → r ≡ value.Is n → v ≡ f n → v ≡ thenSome (positiveOf k u) y f
+  positive-is r k n t u f e i h q = cc
+
+  pub positive-bad : (r : Value) (k : ℕ) (t u : List ℕ) (f : ℕ → A) → valueOf r ≡ positiveOf k t → t ≡ u → r ≡ value.Bad → v ≡ y → v ≡ thenSome (positiveOf k u) y f
+  positive-bad r k t u f e i h q = cc
 
   pub clock-is : (r : DateRead) (n : ℕ) (t u : List ℕ) (f : ℕ → A) → instantOf r ≡ readDate t → t ≡ u → r ≡ At n → v ≡ f n → v ≡ thenSome (readDate u) y f
   clock-is r n t u f e i h q = cc
@@ -127,6 +133,8 @@ module _ (A : Type 0) (v y : A) where
 pub ruleset switches = (hold-on, hold-off, flag-is, flag-bad)
 
 pub ruleset numbers = (number-is, number-bad)
+
+pub ruleset positives = (positive-is, positive-bad)
 
 pub ruleset clocks = (clock-is, clock-bad)
 

@@ -3,7 +3,7 @@ use Prim.Native.Nat.{ℕ, zero, suc, _/_, _%_}
 use mathlib.Core.Path.{_≡_, refl, sym, _∙_, ap, subst⁻¹}
 use mathlib.Core.Logic.{inl, inr}
 use mathlib.Core.Bool.{Bool, true, false≢true}
-use mathlib.Core.List.{List, map-id}
+use mathlib.Core.List.{List, [], _∷_, map-id}
 use native.Mathlib.Omega.{arith}
 use lib.Dec.{eqb, ltb}
 use lib.ListN.{length}
@@ -27,6 +27,7 @@ use Rattle.knitpasture.proofs.Hub.{HandsOn, hub-range, hub-refused, hub-hands-o
 use Rattle.knitpasture.proofs.FreshBucket.{fresh-made, fresh-hands-on}
 use Rattle.guarantee.specs.Calls.{step, callEvent, callEvents}
 use Rattle.guarantee.specs.Bytes.{Sized, Demand1Bytes, Demand2Bytes, WrongLengths, freshBytes, FreshMade, byteStep, byteEvent, byteEvents, Demand3Bytes}
+use Rattle.guarantee.specs.Pages.{Exchange, exchange, exchanges, byteExchange, byteExchanges}
 use Rattle.guarantee.proofs.Demands.{demand-2}
 use Rattle.guarantee.proofs.Runs.{whole-after}
 use Rattle.guarantee.proofs.LockClause.{fresh-is-whole, demand-3}
@@ -49,6 +50,14 @@ whole-sized b f w =
     let p = whole-parts (lentOf b) w in
     let n = numbers-length (length (b .rows) / 8) (b .rows) in
     record { some = p .some; most = p .most; settings-long = f .settings-long; rows-long = omega (arith, p .numbers-long, f .rows-even); keys-long = p .keys-long }
+
+-- An accepted call tells that the bytes have the lengths of some c rows.
+pub accepted-sized : (b : Bytes) (g : Call) → (hubServed b g) .number ≡ 0 → Sized (capacity (b .keys)) b
+unfolding hubServed
+accepted-sized b g =
+    spelling-ways b (λ (x : ByteOutcome). x .number ≡ 0 → Sized (capacity (b .keys)) b)
+    (λ f n. whole-sized b f (accepted-of-whole (lentOf b) g (sym (left-number _ (outcome (lentOf b) g) b (g .answer)) ∙ n)))
+    (λ n. absurd (omega arith))
 
 -- ## A call on bytes of the lengths of c rows
 
@@ -94,6 +103,12 @@ module _ (c : ℕ) (b : Bytes) (g : Call) (z : Sized c b) where
   same-event = elim (either (eqb (core .number) 0)) [
     | inl t ↦ simp (is-served, t)
     | inr t ↦ simp (is-served, t)
+  ]
+
+  same-exchange : byteExchange b g ≡ exchange (lentOf b) g
+  same-exchange = elim (either (eqb (core .number) 0)) [
+    | inl t ↦ simp (is-served, t) (rw (eqb-true (core .number) 0 t))
+    | inr t ↦ simp (is-served, t) (rw (outcome-refused (lentOf b) g (eqb-false (core .number) 0 t)))
   ]
 
   -- ## Demand 2 of the C entry
@@ -178,6 +193,11 @@ module _ (c : ℕ) where
 
   spelled-events : (b : Bytes) (gs : List Call) → Sized c b → byteEvents b gs ≡ callEvents (lentOf b) gs
   spelled-events b gs z = gathered-as byteStep step lentOf (λ g. g) (Sized c) sized-after spelled-after byteEvent callEvent (same-event c) b gs z ∙ ap (callEvents (lentOf b)) (map-id gs)
+
+  pub spelled-exchanges : (b : Bytes) (gs : List Call) → Sized c b → byteExchanges b gs ≡ exchanges (lentOf b) gs
+  spelled-exchanges b gs z =
+      gathered-as byteStep step lentOf (λ g. g) (Sized c) sized-after spelled-after (λ b g. byteExchange b g ∷ []) (λ b g. exchange b g ∷ []) (λ b g z. ap (λ (e : Exchange). e ∷ []) (same-exchange c b g z)) b gs z
+      ∙ ap (exchanges (lentOf b)) (map-id gs)
 
 pub demand-3-bytes : Demand3Bytes
 demand-3-bytes c b z gs =

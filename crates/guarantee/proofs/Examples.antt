@@ -25,7 +25,7 @@ use Rattle.model.specs.Run.{left, gathered}
 use Rattle.model.specs.LockClause.{Held, InCompliance}
 use Rattle.model.specs.Effects.{added, removed, rowsAfter, setConfig, configAfter}
 use Rattle.model.specs.Locks.{locked, admits}
-use Rattle.model.specs.Refusals.{halfGiven, needs, granted, lacksRight, pastDate, missing, namesMarker, barred, tooLate, spends, full}
+use Rattle.model.specs.Refusals.{halfGiven, needs, granted, lacksRight, shortForPage, pastDate, missing, namesMarker, barred, tooLate, spends, full}
 use Rattle.model.specs.Requests.{inRange}
 use Rattle.model.specs.Rows.{soundRow}
 use Rattle.model.specs.Settings.{soundRules, soundConfig, fits, sound}
@@ -147,7 +147,7 @@ pub record Examples : Type 0 where
   pub no-first-line-only : Demand1 (firstLineOnly (lockedPut ∷ [])) withLocked hold → Demand2 (firstLineOnly (lockedPut ∷ [])) withLocked hold → ⊥
 
 pub examples : Examples
-unfolding fieldOf placeOf isKeyByte isPrefix isKey isDigit digitMore leadingZero numberOf positiveOf digits leap yearsLength monthStart monthLength validDay daysOf guessOf yearOf monthOf dateIn civilOf periodEnd expiresAt dateText printDate digitOf twoDigits fourDigits dayNumber dayAt secondOfDay secondAt fractionDigit milliseconds fractionOf readDate reply added removed rowsAfter setConfig configAfter locked admits halfGiven needs granted lacksRight pastDate missing namesMarker barred tooLate spends full inRange soundRow soundRules soundConfig fits sound defaultEnd blockOf isBlock whole rightsIn readRights readKey readPrefix readVersion readMode readUntil readSwitch readHold readBypass readPeriod nameAt retentionAt termsAt putOf copyOf retainOf setHoldOf deleteOf defaultOf ruleOf sweepOf getOf otherByWord verbByWord requestIn readLine fieldsText okText modeText untilText holdText refusalOf outcome number numbersFrom numbersBytes spelled settingsOf settingsBytes hubServed fitRows hubFresh settingsSound
+unfolding fieldOf placeOf isKeyByte isPrefix isKey isDigit digitMore leadingZero numberOf positiveOf digits leap yearsLength monthStart monthLength validDay daysOf guessOf yearOf monthOf dateIn civilOf periodEnd expiresAt dateText printDate digitOf twoDigits fourDigits dayNumber dayAt secondOfDay secondAt fractionDigit milliseconds fractionOf readDate reply added removed rowsAfter setConfig configAfter locked admits halfGiven needs granted lacksRight shortForPage pastDate missing namesMarker barred tooLate spends full inRange soundRow soundRules soundConfig fits sound defaultEnd blockOf isBlock whole rightsIn readRights readKey readPrefix readVersion readMode readUntil readSwitch readHold readBypass readPeriod nameAt retentionAt termsAt putOf copyOf retainOf setHoldOf deleteOf defaultOf ruleOf sweepOf getOf otherByWord verbByWord requestIn readLine fieldsText okText modeText untilText holdText refusalOf outcome number numbersFrom numbersBytes spelled settingsOf settingsBytes hubServed fitRows hubFresh settingsSound
 examples =
     record {
       starred = record {

@@ -5,5 +5,8 @@ pub mod LockClause
 pub mod Lines
 pub mod Lists
 pub mod Dates
+pub mod Listed
 pub mod Bytes
+pub mod Pages
+pub mod PagesFollowed
 pub mod Examples

@@ -2,3 +2,4 @@ pub mod Calls
 pub mod Lists
 pub mod Promise
 pub mod Bytes
+pub mod Pages

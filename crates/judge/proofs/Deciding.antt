@@ -11,7 +11,7 @@ use Rattle.buffers.proofs.Lists.{all-first}
 use Rattle.calendar.specs.declared.Now.{Now}
 use Rattle.model.specs.Rows.{Row, soundRow, soundData}
 use Rattle.model.specs.Settings.{Rule, Bucket, spentNumber, fits}
-use Rattle.model.specs.Requests.{Rights, Name, Verb, nameOf}
+use Rattle.model.specs.Requests.{Rights, Name, Page, ListVersions, Verb, Ask, nameOf}
 use Rattle.model.specs.Effects.{rowOf, added, rowsAfter}
 use Rattle.model.specs.Refusals.{removesVersion, missing, namesMarker, bars, barred, tooLate, spends, full}
 use Rattle.model.specs.Answers.{reply}
@@ -26,7 +26,7 @@ use Rattle.answers.specs.Text.{answerText}
 use Rattle.answers.specs.Meaning.{textOf}
 use Rattle.judge.specs.declared.Plan.{Plan}
 use Rattle.judge.specs.declared.Verdict.the-variants.{Refused, Accepted}
-use Rattle.outcome.specs.Decision.{tableDecision}
+use Rattle.outcome.specs.Decision.{does, effect, tableDecision}
 use Rattle.judge.specs.State.{bucketBy, rowsIn, Ready}
 use Rattle.judge.specs.Meaning.{Judged, keyHere, changeMeans, changeTakes, Feasible, Judges}
 use Rattle.judge.specs.Premises.{both}
@@ -73,17 +73,14 @@ module _ (j : Judged) (c : ℕ) (b : Bucket) (now : Now) (who : Rights) (v : Ver
             feasible = (omega arith, omega arith);
           }
 
+      does-effect : length (rowsAfter b now v) ≤ c → tableDecision c b now who v ≡ does (effect b now who v)
+      unfolding spends full fits
+      does-effect l = simp (o .there, o .no-marker, o .unbarred, o .in-time, le-ltb spentNumber (b .settings .next + added b now v) unspent, le-leb (length (rowsAfter b now v)) c l)
+
       pub accept : (p : Plan) → length (rowsAfter b now v) ≤ c → changeMeans j (b .rows) (p .change) ≡ rowsAfter b now v
           → changeTakes (p .change) ≡ added b now v → textOf (p .answer) ≡ answerText (reply b now who v) → Feasible j c (b .rows) (Accepted p)
           → Judges j c (b .rows) (Accepted p) (tableDecision c b now who v)
-      unfolding spends full fits
-      accept p l er et ex f =
-          record {
-            is =
-                simp (o .there, o .no-marker, o .unbarred, o .in-time, le-ltb spentNumber (b .settings .next + added b now v) unspent, le-leb (length (rowsAfter b now v)) c l)
-                (rw (er, et, ex));
-            feasible = f;
-          }
+      accept p l er et ex f = record { is = rw (er, et, ex) (sym (does-effect l)); feasible = f }
 
 -- ## A verb that adds no row
 
@@ -99,6 +96,14 @@ stay-done j s numbers keys rules now who v p ready o zero-added er et ex f =
     let l = ready .used-fits in
     let m = ready .next-fits in
     accept j (capacity keys) (bucketBy s rules (rowsIn s numbers keys)) (both now) who v o (omega arith) p (omega arith) er (et ∙ sym zero-added) ex f
+
+-- LIST meets no refusal on the table.
+pub page-does : (s : State) (numbers keys : List ℕ) (rules : List Rule) (now : ℕ) (who : Rights) (p : Page) → Ready s numbers keys
+    → let b = bucketBy s rules (rowsIn s numbers keys) in tableDecision (capacity keys) b (both now) who (Ask (ListVersions p)) ≡ does (effect b (both now) who (Ask (ListVersions p)))
+unfolding missing namesMarker barred tooLate spends full fits added rowsAfter
+page-does s numbers keys rules now who p ready =
+    let next : s .next + 0 ≤ spentNumber = omega (arith, ready .next-fits) in
+    simp (le-ltb spentNumber (s .next + 0) next, le-leb (length (rowsIn s numbers keys)) (capacity keys) (omega (arith, rows-length numbers keys (s .used), ready .used-fits)))
 
 -- ## The row that a line names
 

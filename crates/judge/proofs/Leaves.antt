@@ -1,6 +1,6 @@
 -- The parts that several verbs share: where a new row goes, the default's count, and rows with another lock.
 use Prim.Native.Nat.{ℕ, _≤_}
-use mathlib.Core.Path.{_≡_, sym, ap, _∙_}
+use mathlib.Core.Path.{_≡_}
 use mathlib.Core.Logic.{inl, inr}
 use mathlib.Core.Bool.{Bool, true, false, _&&_}
 use mathlib.Core.List.{List}
@@ -9,35 +9,17 @@ use native.Mathlib.Omega.{arith}
 use lib.Dec.{eqb, leb}
 use borrow.Author.Tests.{eqb-true, leb-true}
 use Rattle.buffers.specs.Choices.{orZero}
-use Rattle.buffers.specs.Ranges.{Within}
 use Rattle.buffers.proofs.Tests.{and-l, and-r, or-one}
 use Rattle.model.specs.Rows.{isMode}
 use Rattle.model.specs.Settings.{days, years}
 use Rattle.model.specs.Requests.{Verb}
 use Rattle.model.specs.Effects.{setRetention, setHold, holdNumber}
 use Rattle.table.specs.declared.Numbers.{Numbers}
-use Rattle.table.specs.Layout.{rowsOf}
 use Rattle.table.specs.Places.{rowFrom}
-use Rattle.search.specs.declared.Found.{Found}
-use Rattle.search.specs.declared.Found.the-variants.{At, Place}
-use Rattle.search.specs.Places.{keyPlace, currentIn, placeFound}
-use Rattle.search.proofs.Named.{current-place}
-use Rattle.search.proofs.Positions.{current-used, current-free}
+use Rattle.search.proofs.Named.{place-cases}
 use Rattle.settings.specs.declared.State.{State}
 use Rattle.judge.proofs.Looking.{ready-searchable}
 use Rattle.judge.specs.Premises.{Asked}
-
--- ## Where a new row goes
-
-module _ (n b : List ℕ) (u : ℕ) (k : List ℕ) (r : Found) (i : ℕ) (e : r ≡ currentIn k (rowsOf n b u)) where
-  here : placeFound r ≡ i → i ≡ keyPlace k (rowsOf n b u)
-  here q = sym q ∙ ap placeFound e ∙ current-place k (rowsOf n b u)
-
-  pub place-at : r ≡ At i → Within i (keyPlace k (rowsOf n b u)) u
-  place-at t = record { is = here (ap placeFound t); most = omega (arith, current-used n b u k r i e t) }
-
-  pub place-free : r ≡ Place i → Within i (keyPlace k (rowsOf n b u)) u
-  place-free t = record { is = here (ap placeFound t); most = current-free n b u k r i e t }
 
 -- ## The default's count
 
@@ -69,4 +51,4 @@ module _ (n : Numbers) (k : List ℕ) where
       ≡ setHold (holdNumber on) (rowFrom n k)
   held-off on e = rw e
 
-pub ruleset leaf-ways = (ready-searchable, place-at, place-free, retained, held-on, held-off)
+pub ruleset leaf-ways = (ready-searchable, place-cases, retained, held-on, held-off)

@@ -2,23 +2,24 @@
 use Prim.Native.Nat.{ℕ, _≤_}
 use mathlib.Core.Path.{_≡_, refl, sym, ap, _∙_}
 use mathlib.Core.Logic.{inl, inr}
-use mathlib.Core.Bool.{Bool, true, false, not, _&&_}
+use mathlib.Core.Bool.{Bool, true, false, not}
 use mathlib.Core.List.{List}
 use mathlib.Core.Option.{some}
 use native.Mathlib.Omega.{arith}
 use lib.Dec.{eqb, leb, ltb}
-use borrow.Author.Tests.{eq-eqb, ne-eqb, eqb-true, leb-true}
+use borrow.Author.Tests.{eq-eqb, ne-eqb, eqb-true}
 use Rattle.buffers.specs.Choices.{orZero}
 use Rattle.buffers.specs.Lists.{change}
 use Rattle.buffers.proofs.Tests.{either, and-l, and-r}
 use Rattle.calendar.specs.Calendar.{latest}
-use Rattle.model.specs.Rows.{bodies, largestSize, isMode, soundRetention}
+use Rattle.model.specs.Rows.{bodies, largestSize}
 use Rattle.model.specs.Settings.{Rule}
 use Rattle.model.specs.Requests.{Rights, numbered, Name, name, Retention, Verb, Retain, Hold, DeleteVersion, Ask, Get, nameOf}
 use Rattle.model.specs.Locks.{locked, admits}
 use Rattle.model.specs.Effects.{setRetention, setHold, holdNumber, added, rowsAfter}
 use Rattle.model.specs.Refusals.{removesVersion, namesMarker, bars, tooLate}
 use Rattle.model.specs.Answers.{reply}
+use Rattle.model.proofs.SoundRows.{date-most}
 use Rattle.table.specs.declared.Numbers.{Numbers}
 use Rattle.table.specs.Layout.{capacity}
 use Rattle.table.specs.Places.{rowFrom}
@@ -71,15 +72,6 @@ data-refused s numbers keys line now v m r k there is-name a ready who rules fat
         ]
 
 -- ## RETAIN, HOLD and GET
-
-pub date-most : (m d : ℕ) → soundRetention m d ≡ true → d ≤ latest
-date-most m d e =
-    elim (either (eqb m 0)) [
-      | inl h ↦ omega (arith, eqb-true d 0 (rw h at e))
-      | inr h ↦
-          let f : (isMode m && (leb 1 d && leb d latest)) ≡ true = rw h at e in
-          leb-true d latest (and-r (leb 1 d) _ (and-r (isMode m) _ f))
-    ]
 
 -- The date that GET shows is an instant.
 shown-date : (s : State) (numbers keys : List ℕ) (m : Name) (i : ℕ) (n : Numbers) → Ready s numbers keys → StandsData (rowsIn s numbers keys) m i n → n .until ≤ latest
@@ -139,14 +131,11 @@ module _ (s : State) (numbers keys line : List ℕ) (now : ℕ) (m : Name) (i : 
       refl refl (at .below, tt)
 
   pub get-done : JudgesBy s numbers keys line now who rules fates (Ask (Get m))
-      (Accepted (record {
-        change = Keep;
-        answer = Got (record { version = n .number; body = n .body; size = n .size; mode = n .mode; until = n .until; hold = n .hold });
-      }))
+      (Accepted (record { change = Keep; answer = Got n }))
   unfolding added rowsAfter reply tooLate
   get-done =
       stay-done _ s numbers keys rules now who (Ask (Get m))
-      (record { change = Keep; answer = Got (record { version = n .number; body = n .body; size = n .size; mode = n .mode; until = n .until; hold = n .hold }) }) ready
+      (record { change = Keep; answer = Got n }) ready
       (data-open s numbers keys now rules (Ask (Get m)) m i n refl standing refl refl refl) refl refl refl (rw (at .is-named))
       (tt, shown-date s numbers keys m i n ready standing)
 

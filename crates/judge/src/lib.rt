@@ -2,7 +2,6 @@
 mod lookup;
 
 use answers::Answer;
-use answers::Shown;
 use calendar::Now;
 use fields::Hold;
 use fields::Retention;
@@ -11,7 +10,6 @@ use fields::Version;
 use locks::NewLock;
 use request::Action;
 use request::Name;
-use request::Query;
 use search::Found;
 use settings::Rule;
 use settings::State;
@@ -33,7 +31,7 @@ ghost use Rattle.table.specs.Layout.{capacity};
 ghost use Rattle.table.specs.Places.{rowFrom};
 ghost use Rattle.search.specs.Places.{keyPlace};
 ghost use Rattle.fields.specs.Meaning.{modeMeans, untilMeans, holdMeans, Inside, retentionMeans, termsMeans};
-ghost use Rattle.request.specs.Meaning.{nameMeans, actionMeans, queryMeans, ActionInside, QueryInside};
+ghost use Rattle.request.specs.Meaning.{nameMeans, actionMeans, ActionInside};
 ghost use Rattle.lifecycle.specs.Fates.{fatesAfter};
 ghost use Rattle.judge.specs.State.{rowsIn, Ready};
 ghost use Rattle.judge.specs.Premises.{Asked, rowRefusal, Sweepable, JudgesBy, JudgesOn};
@@ -252,31 +250,16 @@ fn judge_hold(rows: &[u64], keys: &[u8], line: &[u8], s: State, name: Name, on: 
 }
 
 // GET, at every instant alike: `when` stands for the contract, which is of the line's now.
-pub fn judge_query(
-    rows: &[u64],
-    keys: &[u8],
-    line: &[u8],
-    s: State,
-    query: Query,
-    when: Now,
-) -> Verdict
-    requires { ⌜ Asked s (now rows) (now keys) (when .judge) (model.Ask (queryMeans (now line) query)) ⌝ }
-    requires { ⌜ QueryInside (now line) query ⌝ }
-    ensures { λ r. ⌜ JudgesOn s (now (rows .entry)) (now (keys .entry)) (now (line .entry)) (when .judge) (model.Ask (queryMeans (now (line .entry)) query)) r ⌝ }
+pub fn judge_get(rows: &[u64], keys: &[u8], line: &[u8], s: State, name: Name, when: Now) -> Verdict
+    requires { ⌜ Asked s (now rows) (now keys) (when .judge) (model.Ask (model.Get (nameMeans (now line) name))) ⌝ }
+    requires { ⌜ Inside (now line) (name .key) ⌝ }
+    ensures { λ r. ⌜ JudgesOn s (now (rows .entry)) (now (keys .entry)) (now (line .entry)) (when .judge) (model.Ask (model.Get (nameMeans (now (line .entry)) name))) r ⌝ }
 {
-    let name = query.name;
     match lookup::data_named(rows, keys, line, s, name) {
         Named::Refused(refusal) => Verdict::Refused(refusal),
         Named::Row(_, n) => Verdict::Accepted(Plan {
             change: Change::Keep,
-            answer: Answer::Got(Shown {
-                version: n.number,
-                body: n.body,
-                size: n.size,
-                mode: n.mode,
-                until: n.until,
-                hold: n.hold,
-            }),
+            answer: Answer::Got(n),
         }),
     }
 }

@@ -18,6 +18,7 @@ use Rattle.calendar.specs.Calendar.{latest}
 use Rattle.model.specs.Rows.{Row, isMode, isData, isMarker, soundRetention, soundData, soundMarker, soundRow}
 use Rattle.model.specs.Settings as model
 use Rattle.model.specs.Settings.{spentNumber, soundDefault, isDays, isSet, soundRule, soundRules, soundConfig, soundSettings}
+use Rattle.model.proofs.SoundRows.{date-most}
 use Rattle.settings.specs.declared.Rule.{Rule}
 use Rattle.settings.specs.Bytes.{isWord, ruleFits, settingsFit}
 use Rattle.settings.specs.Meaning.{ruleMeans, rulesMean, settingsMean, prefixesAre}
@@ -123,25 +124,23 @@ record Tail (x : Row) : Type 0 where
   pub until : x .until ≤ latest
   pub hold : x .hold ≤ 1
 
-until-most : (m d : ℕ) → soundRetention m d ≡ true → (m ≤ 2) × (d ≤ latest)
-until-most m d e =
+retained-most : (m d : ℕ) → soundRetention m d ≡ true → m ≤ 2
+retained-most m d e =
     elim (either (eqb m 0)) [
-      | inl t ↦ let z : eqb d 0 ≡ true = rw t at e in (omega (arith, eqb-true m 0 t), omega (arith, eqb-true d 0 z))
-      | inr t ↦ let z : (isMode m && (leb 1 d && leb d latest)) ≡ true = rw t at e in
-          (mode-most m (and-l _ _ z), leb-true d latest (and-r (leb 1 d) _ (and-r (isMode m) _ z)))
+      | inl t ↦ omega (arith, eqb-true m 0 t)
+      | inr t ↦ let z : (isMode m && (leb 1 d && leb d latest)) ≡ true = rw t at e in mode-most m (and-l _ _ z)
     ]
 
 data-tail : (x : Row) → isData x ≡ true → soundData x ≡ true → Tail x
 data-tail x k e =
     let f = and-r (isWord (x .body)) _ e in
     let g = and-r (leb (x .size) 5497558138880) _ f in
-    let u = until-most (x .mode) (x .until) (and-l _ _ g) in
     record {
       kind = omega (arith, eqb-true (x .kind) 1 k);
       body = and-l _ _ e;
       size = leb-true (x .size) 5497558138880 (and-l _ _ f);
-      mode = u .0;
-      until = u .1;
+      mode = retained-most (x .mode) (x .until) (and-l _ _ g);
+      until = date-most (x .mode) (x .until) (and-l _ _ g);
       hold = leb-true (x .hold) 1 (and-r (soundRetention (x .mode) (x .until)) _ g);
     }
 

@@ -12,7 +12,7 @@ use Rattle.calendar.specs.Calendar.{latest}
 use Rattle.model.specs.Settings.{Bucket, sound}
 use Rattle.model.specs.Requests.{Verb, Context, Request, says, inRange}
 use Rattle.model.specs.Time.{nowOf}
-use Rattle.model.specs.Refusals.{halfGiven, lacksRight, pastDate, missing, namesMarker, barred, tooLate, spends, full, refusal}
+use Rattle.model.specs.Refusals.{halfGiven, lacksRight, shortForPage, pastDate, missing, namesMarker, barred, tooLate, spends, full, refusal}
 
 -- What holds of an accepted line, a field for each condition.
 pub record Accepted (c : ℕ) (b : Bucket) (g : Context) (now : Now) (w : Verb) : Type 0 where
@@ -22,6 +22,7 @@ pub record Accepted (c : ℕ) (b : Bucket) (g : Context) (now : Now) (w : Verb) 
   pub in-range : inRange w ≡ true
   pub not-half : halfGiven w ≡ false
   pub permitted : lacksRight (b .settings .config) (g .who) w ≡ false
+  pub page-fits : shortForPage (g .room) w ≡ false
   pub future : pastDate (now .stamp) w ≡ false
   pub present : missing (b .rows) w ≡ false
   pub no-marker : namesMarker (b .rows) w ≡ false
@@ -50,6 +51,7 @@ accepted-line c b q e =
     let s10 = skip _ _ _ (s9 .1) in
     let s11 = skip _ _ _ (s10 .1) in
     let s12 = skip _ _ _ (s11 .1) in
+    let s13 = skip _ _ _ (s12 .1) in
     let ranges = not-false _ (s3 .0) in
     record {
       whole = not-false _ (s1 .0);
@@ -58,16 +60,17 @@ accepted-line c b q e =
       in-range = and-r (leb (q .context .clock) latest) _ ranges;
       not-half = s4 .0;
       permitted = s5 .0;
-      future = s6 .0;
-      present = s7 .0;
-      no-marker = s8 .0;
-      free = s9 .0;
-      in-time = s10 .0;
-      unspent = s11 .0;
-      fitting = s12 .0;
+      page-fits = s6 .0;
+      future = s7 .0;
+      present = s8 .0;
+      no-marker = s9 .0;
+      free = s10 .0;
+      in-time = s11 .0;
+      unspent = s12 .0;
+      fitting = s13 .0;
     }
 
 pub accepts : (c : ℕ) (b : Bucket) (q : Request) → Accepted c b (q .context) (nowOf b (q .context)) (q .verb) → refusal c b (says q) ≡ 0
 unfolding refusal
 accepts c b q p =
-    simp (p .whole, p .roomy, p .instant, p .in-range, p .not-half, p .permitted, p .future, p .present, p .no-marker, p .free, p .in-time, p .unspent, p .fitting)
+    simp (p .whole, p .roomy, p .instant, p .in-range, p .not-half, p .permitted, p .page-fits, p .future, p .present, p .no-marker, p .free, p .in-time, p .unspent, p .fitting)

@@ -15,7 +15,7 @@ use Rattle.model.specs.Requests.{Rights, Version, numbered, name, noRete
 use Rattle.model.specs.Time.{defaultEnd}
 use Rattle.model.specs.Locks.{locked, admits}
 use Rattle.model.specs.Effects.{added, removed as rowsRemoved, rowsAfter, setConfig, configAfter}
-use Rattle.model.specs.Refusals.{halfGiven, needs, granted, lacksRight, pastDate, missing, namesMarker, barred, tooLate, spends, full, refusal}
+use Rattle.model.specs.Refusals.{halfGiven, needs, granted, lacksRight, shortForPage, pastDate, missing, namesMarker, barred, tooLate, spends, full, refusal}
 use Rattle.model.specs.Answers.{done, made, marked, removed, sweptCounts, shown, reply}
 use Rattle.model.specs.Run.{Reply, no, ok, replies, run, lineEvents}
 use Rattle.model.specs.LockClause.{Held, InCompliance, InGovernance, OnHold}
@@ -134,7 +134,7 @@ pub record Examples : Type 0 where
   pub hold-held : Held (run 1 fresh on-hold) (lineEvents 1 fresh on-hold) 1 OnHold
 
 pub examples : Examples
-unfolding isKeyByte isKey isPrefix periodEnd expiresAt soundRow soundRules soundConfig fits sound inRange defaultEnd locked admits added rowsRemoved rowsAfter setConfig configAfter halfGiven needs granted lacksRight pastDate missing namesMarker barred tooLate spends full refusal reply
+unfolding isKeyByte isKey isPrefix periodEnd expiresAt soundRow soundRules soundConfig fits sound inRange defaultEnd locked admits added rowsRemoved rowsAfter setConfig configAfter halfGiven needs granted lacksRight shortForPage pastDate missing namesMarker barred tooLate spends full refusal reply
 examples =
     record {
       whole-run = refl;

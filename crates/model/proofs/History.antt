@@ -6,7 +6,7 @@ use mathlib.Core.Bool.{Bool, true}
 use mathlib.Core.Option.{Option, none}
 use native.Mathlib.Omega.{arith}
 use Rattle.buffers.specs.Lists.{all}
-use Rattle.buffers.proofs.Tests.{and-l, and-r}
+use Rattle.buffers.proofs.Lists.{all-front, all-middle}
 use Rattle.model.specs.Run.{Event}
 use Rattle.model.specs.LockClause.{timeAfter, Making, makingAfter, makingFrom, madeWith}
 
@@ -44,7 +44,4 @@ split-snoc (a ∷ es) x (y ∷ early) e late h = further a y es x early e late (
 
 -- A test on all lines, the last one apart.
 pub all-snoc : (p : Event → Bool) (es : List Event) (x : Event) → all p (es ++ (x ∷ [])) ≡ true → (all p es ≡ true) × (p x ≡ true)
-all-snoc p [] x h = (refl, and-l _ _ h)
-all-snoc p (e ∷ es) x h =
-    let r = all-snoc p es x (and-r (p e) _ h) in
-    (rw (and-l (p e) _ h) (r .0), r .1)
+all-snoc p es x h = (all-front p es (x ∷ []) h, all-middle p es x [] h)

@@ -9,6 +9,7 @@ pub mod Locks
 pub mod Placing
 pub mod LockClause
 pub mod SoundRows
+pub mod Pages
 pub mod Sound
 pub mod Room
 pub mod Facts

@@ -1,15 +1,16 @@
 -- The order of keys and of rows, and that each change of the table keeps it.
-use Prim.Native.Nat.{ℕ}
+use Prim.Native.Nat.{ℕ, zero, suc}
 use mathlib.Core.Path.{_≡_, refl, sym, _∙_}
 use mathlib.Core.Logic.{_⊎_, inl, inr}
 use mathlib.Core.Bool.{Bool, true, false, true≢false, false≢true}
 use mathlib.Core.List.{List, [], _∷_}
 use native.Mathlib.Omega.{arith}
 use lib.Dec.{eqb, ltb}
+use lib.ListN.{drop}
 use borrow.Author.Tests.{eqb-true, eqb-false, eq-eqb, ltb-true, ltb-false, lt-ltb, le-ltb}
 use Rattle.buffers.specs.Lists.{all, keep, change, same}
-use Rattle.buffers.proofs.Tests.{either, and-i, and-l, and-r, or-l, or-r, or-one, or-none}
-use Rattle.buffers.proofs.Lists.{same-path, all-as, all-keep, all-change}
+use Rattle.buffers.proofs.Tests.{either, clash, and-i, and-l, and-r, or-l, or-r, or-one, or-none}
+use Rattle.buffers.proofs.Lists.{same-path, same-refl, all-as, all-keep, all-change}
 use Rattle.model.specs.Rows.{Row, before, ahead, ordered}
 use Rattle.model.specs.Effects.{insertByKey}
 
@@ -71,6 +72,20 @@ ahead-trans x y z p q =
       ]
     ]
 
+pub ahead-irrefl : (x : Row) → ahead x x ≡ false
+ahead-irrefl x = simp (before-irrefl (x .key), same-refl (x .key), le-ltb (x .number) (x .number) (omega arith))
+
+pub ahead-asym : (x y : Row) → ahead x y ≡ true → ahead y x ≡ false
+ahead-asym x y e =
+    elim (either (ahead y x)) [
+      | inl f ↦ absurd (clash (ahead x x) (ahead-trans x y x e f) (ahead-irrefl x))
+      | inr f ↦ f
+    ]
+
+-- the row of a key's version, its other numbers 0
+abbrev pub versionRow : List ℕ → ℕ → Row
+versionRow k v = record { number = v; kind = 0; created = 0; body = 0; size = 0; mode = 0; until = 0; hold = 0; key = k }
+
 -- ## Changes of the table
 
 pub all-insert : (p : Row → Bool) (x : Row) (xs : List Row) → p x ≡ true → all p xs ≡ true → all p (insertByKey x xs) ≡ true
@@ -111,6 +126,11 @@ ordered-keep p (x ∷ xs) o =
       | inl t ↦ rw t (and-i (all (ahead x) (keep p xs)) _ (all-keep (ahead x) p xs (and-l _ _ o)) (ordered-keep p xs (and-r (all (ahead x) xs) _ o)))
       | inr t ↦ rw t (ordered-keep p xs (and-r (all (ahead x) xs) _ o))
     ]
+
+pub ordered-drop : (i : ℕ) (xs : List Row) → ordered xs ≡ true → ordered (drop i xs) ≡ true
+ordered-drop zero xs o = o
+ordered-drop (suc i) [] o = refl
+ordered-drop (suc i) (x ∷ xs) o = ordered-drop i xs (and-r (all (ahead x) xs) _ o)
 
 -- A change of neither key nor number.
 pub ordered-change : (q : Row → Bool) (f : Row → Row) → ((x y : Row) → ahead x (f y) ≡ ahead x y) → ((x y : Row) → ahead (f x) y ≡ ahead x y) → (xs : List Row) → ordered xs ≡ true → ordered (change q f xs) ≡ true

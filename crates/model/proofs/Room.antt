@@ -1,6 +1,6 @@
 -- How many rows a line leaves: the used ones, less those removed, plus those added.
 use Prim.Native.Nat.{ℕ, _+_}
-use mathlib.Core.Path.{_≡_, refl, sym, ap}
+use mathlib.Core.Path.{_≡_, refl}
 use mathlib.Core.Logic.{inl, inr}
 use mathlib.Core.Bool.{Bool, true, false, not, true≢false}
 use mathlib.Core.List.{List, [], _∷_}
@@ -9,7 +9,7 @@ use native.Mathlib.Omega.{arith}
 use lib.ListN.{length, length-append}
 use Rattle.buffers.specs.Lists.{all, keep, first, change}
 use Rattle.buffers.proofs.Tests.{either, and-l, and-r}
-use Rattle.buffers.proofs.Lists.{all-first, all-as}
+use Rattle.buffers.proofs.Lists.{keep-every, all-first}
 use Rattle.calendar.specs.declared.Now.{Now}
 use Rattle.model.specs.Rows.{Row, before, ahead, ordered}
 use Rattle.model.specs.Settings.{Rule, Bucket}
@@ -17,7 +17,7 @@ use Rattle.model.specs.Requests.{name, Verb, Put, Copy, Retain, Hold, Ad
 use Rattle.model.specs.Sweep.{Fate, stays, goes, gains, fate, inPlace, marks, removes, swept, counted}
 use Rattle.model.specs.Effects.{rowOf, sameVersion, isNamed, insertByKey, added, removed, rowsAfter}
 use Rattle.model.specs.Refusals.{missing}
-use Rattle.model.proofs.SoundRows.{apart, version-refl}
+use Rattle.model.proofs.SoundRows.{version-refl, apart, others}
 
 pub length-insert : (x : Row) (xs : List Row) → length (insertByKey x xs) ≡ length xs + 1
 length-insert x [] = refl
@@ -31,10 +31,6 @@ pub length-change : (q : Row → Bool) (f : Row → Row) (xs : List Row) → len
 length-change q f [] = refl
 length-change q f (x ∷ xs) = omega (arith, length-change q f xs)
 
-keep-all : (x : Row) (xs : List Row) → all (λ y. not (sameVersion x y)) xs ≡ true → keep (λ y. not (sameVersion x y)) xs ≡ xs
-keep-all x [] e = refl
-keep-all x (y ∷ ys) e = rw (and-l (not (sameVersion x y)) _ e) (ap (λ (l : List Row). y ∷ l) (keep-all x ys (and-r (not (sameVersion x y)) _ e)))
-
 -- In an ordered table only the row itself is of its key and number.
 length-remove : (p : Row → Bool) (xs : List Row) (x : Row) → ordered xs ≡ true → first p xs ≡ some x → length (keep (λ y. not (sameVersion x y)) xs) + 1 ≡ length xs
 length-remove p [] x o f = cc
@@ -43,9 +39,8 @@ length-remove p (y ∷ ys) x o f =
       | inl t ↦
           let g : some y ≡ some x = rw t at f in
           let s : y ≡ x = cc in
-          let others : all (λ z. not (sameVersion x z)) ys ≡ true = all-as (ahead y) (λ z. not (sameVersion x z)) (λ z d. rw (sym s) (rw ((apart y z d) .0))) ys (and-l _ _ o) in
           let here : sameVersion x y ≡ true = rw s (version-refl x) in
-          simp (here, keep-all x ys others) (omega arith)
+          simp (here, keep-every (λ z. not (sameVersion x z)) ys (rw s at (others y ys (and-l _ _ o)))) (omega arith)
       | inr t ↦
           let g : first p ys ≡ some x = rw t at f in
           let d : ahead y x ≡ true = all-first (ahead y) p ys x (and-l _ _ o) g in

@@ -15,7 +15,7 @@ use Rattle.buffers.proofs.Lists.{same-path, same-refl, all-as, all-first, all-c
 use Rattle.text.specs.Keys.{isKey}
 use Rattle.calendar.specs.Calendar.{latest}
 use Rattle.calendar.proofs.Periods.{period-positive}
-use Rattle.model.specs.Rows.{Row, isData, isMarker, isMode, governance, compliance, bodies, largestSize, before, ahead, ordered, soundRetention, soundData, soundMarker, soundRow}
+use Rattle.model.specs.Rows.{Row, isData, isMarker, isMode, governance, compliance, bodies, largestSize, before, ahead, ordered, soundRetention, soundData, soundMarker, soundRow, Dated}
 use Rattle.model.specs.Settings.{Config, Settings, hasDefault, isPeriod, soundDefault}
 use Rattle.model.specs.Requests.{Name, Retention, Terms, isModeField, isDateField, isRetention}
 use Rattle.model.specs.Time.{defaultEnd, newMode, newUntil}
@@ -68,6 +68,43 @@ row-data n t x e k =
       | inl a ↦ (eqb-true (x .kind) 1 a, rw a at (s .rest))
       | inr a ↦ absurd (clash (isMarker x) (and-l _ _ (rw a at (s .rest))) k)
     ]
+
+pub sound-key : (n t : ℕ) (x : Row) → soundRow n t x ≡ true → isKey (x .key) ≡ true
+sound-key n t x e = (row-parts n t x e) .key-fits
+
+-- ## The dates of a sound row
+
+-- A sound date is an instant.
+pub date-most : (m d : ℕ) → soundRetention m d ≡ true → d ≤ latest
+date-most m d e =
+    elim (either (eqb m 0)) [
+      | inl z ↦ omega (arith, eqb-true d 0 (rw z at e))
+      | inr z ↦
+          let f : (isMode m && (leb 1 d && leb d latest)) ≡ true = rw z at e in
+          leb-true d latest (and-r (leb 1 d) _ (and-r (isMode m) _ f))
+    ]
+
+-- A row that is no data has neither mode nor date.
+pub record Bare (x : Row) : Type 0 where
+  pub no-mode : x .mode ≡ 0
+  pub no-date : x .until ≡ 0
+
+pub row-bare : (n t : ℕ) (x : Row) → soundRow n t x ≡ true → isData x ≡ false → Bare x
+row-bare n t x e d =
+    let f = and-r (eqb (x .size) 0) _ (and-r (eqb (x .body) 0) _ (and-r (isMarker x) _ (rw d at ((row-parts n t x e) .rest)))) in
+    record { no-mode = eqb-true (x .mode) 0 (and-l _ _ f); no-date = eqb-true (x .until) 0 (and-l _ _ (and-r (eqb (x .mode) 0) _ f)) }
+
+pub row-date : (n t : ℕ) (x : Row) → soundRow n t x ≡ true → x .until ≤ latest
+row-date n t x e =
+    elim (either (isData x)) [
+      | inl d ↦
+          let f = and-r (ltb (x .body) bodies) _ (rw d at ((row-parts n t x e) .rest)) in
+          date-most (x .mode) (x .until) (and-l _ _ (and-r (leb (x .size) largestSize) _ f))
+      | inr d ↦ omega (arith, (row-bare n t x e d) .no-date)
+    ]
+
+pub row-dated : (n t : ℕ) (x : Row) → t ≤ latest → soundRow n t x ≡ true → Dated x
+row-dated n t x h e = record { created = omega (arith, (row-parts n t x e) .by-now); until = row-date n t x e }
 
 -- ## Rows that a line adds or changes
 
@@ -173,6 +210,10 @@ apart x y e = (go (sameVersion x y) refl, back (sameVersion y x) refl)
     back : (t : Bool) → sameVersion y x ≡ t → sameVersion y x ≡ false
     back true q = absurd (never (sym (same-path (y .key) (x .key) (and-l _ _ q))) (sym (eqb-true (y .number) (x .number) (and-r (same (y .key) (x .key)) _ q))))
     back false q = q
+
+-- No row behind a row is of its key and number.
+pub others : (x : Row) (ys : List Row) → all (ahead x) ys ≡ true → all (λ y. not (sameVersion x y)) ys ≡ true
+others x = all-as (ahead x) (λ y. not (sameVersion x y)) (λ y d. rw ((apart x y d) .0))
 
 -- What holds of a row that is found holds of each row of its key and number.
 all-named : (p q : Row → Bool) (xs : List Row) (x : Row) → ordered xs ≡ true → first p xs ≡ some x → q x ≡ true → all (λ y. not (sameVersion x y) || q y) xs ≡ true

@@ -1,14 +1,16 @@
 -- 01, "Request lines": what an accepted line answers after `ok`, as values.
 use Prim.Native.Nat.{ℕ}
 use mathlib.Core.Bool.{Bool, false}
+use mathlib.Core.List.{List}
 use mathlib.Core.Option.{some}
 use lib.Dec.{eqb}
 use Rattle.buffers.specs.Choices.{pick, thenSome}
 use Rattle.calendar.specs.declared.Now.{Now}
 use Rattle.model.specs.Rows.{Row, isMarker}
 use Rattle.model.specs.Settings.{Bucket}
-use Rattle.model.specs.Requests.{Rights, Version, numbered, name, Get, Verb, Put, Copy, Retain, Hold, AddMarker, DeleteVersion, Set, Sweep, Ask, Request}
+use Rattle.model.specs.Requests.{Rights, Version, numbered, name, Get, ListVersions, Verb, Put, Copy, Retain, Hold, AddMarker, DeleteVersion, Set, Sweep, Ask, Request}
 use Rattle.model.specs.Time.{nowOf}
+use Rattle.model.specs.Pages.{pageRows}
 use Rattle.model.specs.Effects.{rowOf, added}
 use Rattle.model.specs.Effects.{removed as rowsRemoved}
 
@@ -25,6 +27,8 @@ pub data Answer : Type 0 where
   sweptCounts : (gone new : ℕ) → Answer
   -- GET: the row
   shown : Row → Answer
+  -- LIST: the rows
+  listed : List Row → Answer
 
 -- How answers name the row that the line adds.
 abbrev pub newVersion : Bucket → Version
@@ -41,6 +45,7 @@ reply b now who (DeleteVersion k v y) = pick (thenSome (rowOf (b .rows) (name k 
 reply b now who (Set s) = done
 reply b now who Sweep = sweptCounts (rowsRemoved b now Sweep) (added b now Sweep)
 reply b now who (Ask (Get n)) = thenSome (rowOf (b .rows) n) done (λ x. shown x)
+reply b now who (Ask (ListVersions p)) = listed (pageRows p (b .rows))
 
 abbrev pub answerTo : Bucket → Request → Answer
 answerTo b q = reply b (nowOf b (q .context)) (q .context .who) (q .verb)
@@ -54,3 +59,4 @@ givesNumber v (removed n) = false
 givesNumber v (removedMarker n) = false
 givesNumber v (sweptCounts g n) = false
 givesNumber v (shown x) = false
+givesNumber v (listed xs) = false

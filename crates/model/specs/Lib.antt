@@ -2,6 +2,7 @@
 pub mod Rows
 pub mod Settings
 pub mod Requests
+pub mod Pages
 pub mod Time
 pub mod Locks
 pub mod Sweep

@@ -1,5 +1,5 @@
--- 01, "The twelve refusals": the conditions, and the list of them in 01's order.
-use Prim.Native.Nat.{ℕ, _+_}
+-- 01, "The twelve refusals", and 13 for LIST: the conditions, and the list of them in their order.
+use Prim.Native.Nat.{ℕ, _+_, _*_}
 use mathlib.Core.Path.{_≡_}
 use mathlib.Core.Bool.{Bool, true, false, not, _&&_}
 use mathlib.Core.List.{List, [], _∷_, _++_}
@@ -11,7 +11,7 @@ use Rattle.calendar.specs.declared.Now.{Now}
 use Rattle.calendar.specs.Calendar.{latest}
 use Rattle.model.specs.Rows.{Row, isMarker}
 use Rattle.model.specs.Settings.{Config, Bucket, hasDefault, spentNumber, fits, sound}
-use Rattle.model.specs.Requests.{Letter, reading, writing, deleting, retaining, holding, bypassing, configuring, Rights, has, Retention, Terms, Setting, DefaultRetention, LifecycleRule, Get, Verb, Put, Copy, Retain, Hold, AddMarker, DeleteVersion, Set, Sweep, Ask, Context, Heard, unreadable, says, roomOf, nameOf, termsOf, retentionOf, settingOf, inRange}
+use Rattle.model.specs.Requests.{Letter, reading, writing, deleting, retaining, holding, bypassing, configuring, Rights, has, Retention, Terms, Setting, DefaultRetention, LifecycleRule, Get, ListVersions, Verb, Put, Copy, Retain, Hold, AddMarker, DeleteVersion, Set, Sweep, Ask, Context, Heard, unreadable, says, roomOf, nameOf, pageOf, termsOf, retentionOf, settingOf, inRange}
 use Rattle.model.specs.Time.{nowOf, defaultEnd}
 use Rattle.model.specs.Locks.{locked, admits}
 use Rattle.model.specs.Effects.{rowOf, added, rowsAfter}
@@ -66,6 +66,7 @@ needs (DeleteVersion k v y) = need deleting k ∷ needIf y bypassing k []
 needs (Set s) = need configuring [] ∷ []
 needs Sweep = need configuring [] ∷ []
 needs (Ask (Get n)) = need reading (n .key) ∷ []
+needs (Ask (ListVersions p)) = need reading [] ∷ []
 
 -- The letter is held for the key.
 unfoldable pub granted : Config → Rights → Letter → List ℕ → Bool
@@ -73,6 +74,23 @@ granted s who l k = has who l
 
 unfoldable pub lacksRight : Config → Rights → Verb → Bool
 lacksRight s who v = not (all (λ n. granted s who (n .letter) (n .key)) (needs v))
+
+-- ## 13. The answer buffer is too short for the page, checked after 5
+
+-- The least length of an answer buffer.
+abbrev pub leastRoom : ℕ
+leastRoom = 256
+
+-- What a row's line may take of it.
+abbrev pub rowRoom : ℕ
+rowRoom = 256
+
+-- What a page of so many rows may take.
+abbrev pub pageRoom : ℕ → ℕ
+pageRoom count = leastRoom + rowRoom * count
+
+unfoldable pub shortForPage : ℕ → Verb → Bool
+shortForPage room v = thenSome (pageOf v) false (λ p. ltb room (pageRoom (p .count)))
 
 -- ## 6. A given date is not after now
 
@@ -166,8 +184,13 @@ pub record FirstHolds (xs : List Check) (n : ℕ) : Type 0 where
   pub none-before : all (λ x. not (x .holds)) before ≡ true
 
 -- The conditions that are decided without the table.
-abbrev pub fieldChecks : Config → Rights → ℕ → Verb → List Check
-fieldChecks s who now v = check 4 (halfGiven v) ∷ check 5 (lacksRight s who v) ∷ check 6 (pastDate now v) ∷ []
+abbrev pub fieldChecks : Config → Rights → ℕ → ℕ → Verb → List Check
+fieldChecks s who room now v =
+    check 4 (halfGiven v)
+    ∷ check 5 (lacksRight s who v)
+    ∷ check 13 (shortForPage room v)
+    ∷ check 6 (pastDate now v)
+    ∷ []
 
 -- The conditions on the table and the settings.
 abbrev pub tableChecks : ℕ → Bucket → Now → Verb → List Check
@@ -181,24 +204,20 @@ tableChecks c b now v =
     ∷ []
 
 -- The conditions on a verb whose fields are in their ranges.
-abbrev pub verbChecks : ℕ → Bucket → Now → Rights → Verb → List Check
-verbChecks c b now who v = fieldChecks (b .settings .config) who (now .stamp) v ++ tableChecks c b now v
+abbrev pub verbChecks : ℕ → Bucket → Now → Context → Verb → List Check
+verbChecks c b now g v = fieldChecks (b .settings .config) (g .who) (g .room) (now .stamp) v ++ tableChecks c b now v
 
 -- The conditions on what the line says.
 abbrev pub requestChecks : ℕ → Bucket → Heard → List Check
 requestChecks c b (unreadable room) = check 3 true ∷ []
 requestChecks c b (says q) =
-    check 3 (outOfRange (q .context) (q .verb)) ∷ verbChecks c b (nowOf b (q .context)) (q .context .who) (q .verb)
+    check 3 (outOfRange (q .context) (q .verb)) ∷ verbChecks c b (nowOf b (q .context)) (q .context) (q .verb)
 
--- The last refusal's number.
+-- The largest number of a refusal.
 abbrev pub lastRefusal : ℕ
-lastRefusal = 12
+lastRefusal = 13
 
--- The least length of an answer buffer.
-abbrev pub leastRoom : ℕ
-leastRoom = 256
-
--- The conditions in 01's order; whether the whole is sound is told apart, since buffers hold more than the bucket.
+-- The conditions in their order; whether the whole is sound is told apart, since buffers hold more than the bucket.
 abbrev pub checks : Bool → ℕ → Bucket → Heard → List Check
 checks whole c b l = check 1 (not whole) ∷ check 2 (ltb (roomOf l) leastRoom) ∷ requestChecks c b l
 

@@ -1,9 +1,10 @@
 -- 01, "Request lines": what a line asks for, once it is read. A field with `-` is `none`.
 use Prim.Native.Nat.{ℕ}
-use mathlib.Core.Bool.{Bool, true, false, _&&_}
+use mathlib.Core.Bool.{Bool, true, false, not, _&&_, _||_}
 use mathlib.Core.List.{List}
 use mathlib.Core.Option.{Option, some, none}
 use lib.Dec.{eqb, leb, ltb}
+use lib.ListN.{length}
 use Rattle.text.specs.Keys.{isKey, isPrefix}
 use Rattle.calendar.specs.Calendar.{latest}
 use Rattle.model.specs.Rows.{isMode, largestSize, bodies}
@@ -67,9 +68,25 @@ pub data Setting : Type 0 where
   DefaultRetention : (mode : Option ℕ) (period : Option Period) → Setting
   LifecycleRule : (place : ℕ) (rule : Rule) → Setting
 
+-- A page of versions: the prefix of the keys, the key and the version after which it starts, and how many rows at most.
+-- Version 0 stands before the key's first row, and with the empty key before all rows.
+pub record Page : Type 0 where
+  pub prefix : List ℕ
+  pub key : List ℕ
+  pub version : ℕ
+  pub count : ℕ
+
+abbrev pub page : List ℕ → List ℕ → ℕ → ℕ → Page
+page prefix k v count = record { prefix = prefix; key = k; version = v; count = count }
+
+-- The most rows that a page may have.
+abbrev pub largestCount : ℕ
+largestCount = 1000
+
 -- The verbs that only ask.
 pub data Query : Type 0 where
   Get : Name → Query
+  ListVersions : Page → Query
 
 -- A verb with its fields. DELETE is two: with `-` it adds a marker, with a number it removes that version.
 pub data Verb : Type 0 where
@@ -120,6 +137,20 @@ nameOf (DeleteVersion k v y) = some (name k (some v))
 nameOf (Set s) = none
 nameOf Sweep = none
 nameOf (Ask (Get n)) = some n
+nameOf (Ask (ListVersions p)) = none
+
+-- The page that LIST asks for.
+abbrev pub pageOf : Verb → Option Page
+pageOf (Put k body size t) = none
+pageOf (Copy n k t) = none
+pageOf (Retain n r y) = none
+pageOf (Hold n on) = none
+pageOf (AddMarker k y) = none
+pageOf (DeleteVersion k v y) = none
+pageOf (Set s) = none
+pageOf Sweep = none
+pageOf (Ask (Get n)) = none
+pageOf (Ask (ListVersions p)) = some p
 
 -- The lock fields of a PUT or COPY.
 abbrev pub termsOf : Verb → Option Terms
@@ -197,6 +228,13 @@ abbrev pub isSetting : Setting → Bool
 isSetting (DefaultRetention m p) = isModeField m && isPeriodField p
 isSetting (LifecycleRule i u) = ltb i 8 && (isPrefix (u .prefix) && (isDays (u .currentDays) && isDays (u .noncurrentDays)))
 
+-- A place in the table: a key and a number from 0 on; the empty key has version 0 only.
+abbrev pub isPlace : List ℕ → ℕ → Bool
+isPlace k v = isPrefix k && (ltb v spentNumber && (not (eqb (length k) 0) || eqb v 0))
+
+abbrev pub isPage : Page → Bool
+isPage p = isPrefix (p .prefix) && (isPlace (p .key) (p .version) && (leb 1 (p .count) && leb (p .count) largestCount))
+
 -- Every field of the verb is within its range.
 unfoldable pub inRange : Verb → Bool
 inRange (Put k body size t) = isKey k && (ltb body bodies && (leb size largestSize && isRetention (t .retention)))
@@ -208,3 +246,4 @@ inRange (DeleteVersion k v y) = isName (name k (some v))
 inRange (Set s) = isSetting s
 inRange Sweep = true
 inRange (Ask (Get n)) = isName n
+inRange (Ask (ListVersions p)) = isPage p

@@ -1,5 +1,5 @@
 -- 01, "Rows and settings": the rows of the table, their order, and when a row is sound.
-use Prim.Native.Nat.{ℕ}
+use Prim.Native.Nat.{ℕ, _≤_}
 use mathlib.Core.Bool.{Bool, true, false, _&&_, _||_}
 use mathlib.Core.List.{List, [], _∷_}
 use lib.Dec.{eqb, leb, ltb}
@@ -82,3 +82,8 @@ soundRow next time x =
     && (leb (x .created) time
     && (isKey (x .key)
     && pick (isData x) (soundData x) (isMarker x && soundMarker x))))
+
+-- Both dates of a row are instants, as those of a sound row of a bucket are.
+pub record Dated (x : Row) : Type 0 where
+  pub created : x .created ≤ latest
+  pub until : x .until ≤ latest

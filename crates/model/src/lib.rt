@@ -1,6 +1,6 @@
 // The locked bucket as definitions and theorems, in specs/ and proofs/; the code's names for its numbers.
 
-// The twelve refusals.
+// The refusals.
 pub const UNSOUND: u64 = 1;
 
 pub const SHORT_ANSWER: u64 = 2;
@@ -24,6 +24,8 @@ pub const DATE_TOO_LATE: u64 = 10;
 pub const NUMBERS_SPENT: u64 = 11;
 
 pub const TABLE_FULL: u64 = 12;
+
+pub const SHORT_FOR_PAGE: u64 = 13;
 
 // The kinds of a row.
 pub const DATA: u64 = 1;
@@ -66,3 +68,9 @@ pub const SETTINGS_BYTES: usize = 688;
 
 // The least length of an answer buffer.
 pub const LEAST_ROOM: usize = 256;
+
+// What a row's line in a page may take of it.
+pub const ROW_ROOM: usize = 256;
+
+// The most rows that a page may have.
+pub const LARGEST_COUNT: u64 = 1000;

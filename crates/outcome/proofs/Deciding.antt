@@ -100,4 +100,4 @@ module _ (b : Lent) (g : Call) where
       let now = nowOf x (q .context) in
       let who = q .context .who in
       simp (w, e, le-ltb _ _ l, r)
-      (sym (done-decide (now .stamp) (q .verb) (verbChecks (capacity (b .keys)) x now who (q .verb)) (effect x now who (q .verb)) refl))
+      (sym (done-decide (now .stamp) (q .verb) (verbChecks (capacity (b .keys)) x now (q .context) (q .verb)) (effect x now who (q .verb)) refl))

@@ -61,7 +61,7 @@ module _ (b : Lent) (g : Call) where
   unfolding refusalOf refusal
   model-refusal w = rw (w, (whole-parts b w) .is-sound)
 
-  model-accepts : (q : Request) → whole b ≡ true → heard g ≡ says q → refusalOf b g ≡ 0 → refusal (capacity (b .keys)) (bucketOf b) (says q) ≡ 0
+  pub model-accepts : (q : Request) → whole b ≡ true → heard g ≡ says q → refusalOf b g ≡ 0 → refusal (capacity (b .keys)) (bucketOf b) (says q) ≡ 0
   model-accepts q w e z = rw e at (sym (model-refusal w) ∙ z)
 
   -- What an accepted request leaves is whole.

@@ -34,9 +34,8 @@ effect b now who v = record { rows = rowsAfter b now v; taken = added b now v; t
 abbrev pub tableDecision : ℕ → Bucket → Now → Rights → Verb → Decision
 tableDecision c b now who v = decide (tableChecks c b now v) (effect b now who v)
 
--- By refusals 4 to 12.
+-- By refusals 4 to 13.
 abbrev pub decision : ℕ → Bucket → Request → Decision
 decision c b q =
     let now = nowOf b (q .context) in
-    let who = q .context .who in
-    decide (verbChecks c b now who (q .verb)) (effect b now who (q .verb))
+    decide (verbChecks c b now (q .context) (q .verb)) (effect b now (q .context .who) (q .verb))

@@ -1,9 +1,9 @@
--- An action sets nothing.
+-- An action sets nothing and asks for no page.
 use Prim.Native.Nat.{ℕ}
 use mathlib.Core.Path.{_≡_, refl}
 use mathlib.Core.List.{List}
 use mathlib.Core.Option.{none}
-use Rattle.model.specs.Requests.{settingOf}
+use Rattle.model.specs.Requests.{pageOf, settingOf}
 use Rattle.request.specs.declared.Action.{Action}
 use Rattle.request.specs.declared.Action.the-variants.{Put, Copy, Retain, SetHold, AddMarker, DeleteVersion}
 use Rattle.request.specs.Meaning.{actionMeans}
@@ -15,3 +15,11 @@ action-unset line (Retain n r y) = refl
 action-unset line (SetHold n on) = refl
 action-unset line (AddMarker k y) = refl
 action-unset line (DeleteVersion k n y) = refl
+
+pub action-unpaged : (line : List ℕ) (a : Action) → pageOf (actionMeans line a) ≡ none
+action-unpaged line (Put k body size t) = refl
+action-unpaged line (Copy n k t) = refl
+action-unpaged line (Retain n r y) = refl
+action-unpaged line (SetHold n on) = refl
+action-unpaged line (AddMarker k y) = refl
+action-unpaged line (DeleteVersion k n y) = refl

@@ -1,3 +1,4 @@
 pub mod Answers
 pub mod Actions
 pub mod Ranges
+pub mod Pages

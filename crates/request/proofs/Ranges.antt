@@ -1,13 +1,16 @@
 -- What a line says lies in 01's ranges, and its keys and prefixes lie within the line.
 use Prim.Native.Nat.{ℕ}
 use mathlib.Core.Path.{_≡_, refl, subst}
-use mathlib.Core.Bool.{Bool, true, false, _&&_}
+use mathlib.Core.Bool.{Bool, true, false, not, _&&_, _||_}
 use mathlib.Core.List.{List}
 use mathlib.Core.Option.{Option, some, none}
 use native.Mathlib.Omega.{arith}
-use lib.Dec.{leb, ltb}
-use borrow.Author.Tests.{lt-ltb, le-leb}
+use lib.Dec.{eqb, leb, ltb}
+use lib.ListN.{length, drop, length-drop}
+use lib.Seq.{length-take-le}
+use borrow.Author.Tests.{lt-ltb, leb-true, le-leb}
 use Rattle.buffers.specs.Choices.{pick, thenSome}
+use Rattle.buffers.specs.Ranges.{Span}
 use Rattle.buffers.proofs.Tests.{and-i}
 use Rattle.text.specs.declared.Place.{Place}
 use Rattle.text.specs.Numbers.{numberOf, positiveOf}
@@ -20,7 +23,7 @@ use Rattle.dates.specs.Reading.{readDate}
 use Rattle.dates.proofs.Reading.{read-most}
 use Rattle.model.specs.Settings.{largestNumber, spentNumber, days, years, isPeriod}
 use Rattle.model.specs.Rows.{bodies}
-use Rattle.model.specs.Requests.{numbered, isVersion, isName, isModeField, isDateField, isRetention, isPeriodField, inRange}
+use Rattle.model.specs.Requests.{numbered, isVersion, isName, isModeField, isDateField, isRetention, isPeriodField, largestCount, inRange}
 use Rattle.fields.specs.declared.Version.{Version}
 use Rattle.fields.specs.declared.Version.the-variants.{Current, Numbered}
 use Rattle.fields.specs.declared.Mode.{Mode}
@@ -32,31 +35,32 @@ use Rattle.fields.specs.Fields.{readKey, readPrefix, readVersion, readMode, rea
 use Rattle.fields.specs.Meaning.{modeMeans, untilMeans, versionMeans, periodMeans, Inside, retentionMeans}
 use Rattle.request.specs.declared.Name.{Name}
 use Rattle.request.specs.declared.Verb.{Verb}
-use Rattle.request.specs.declared.Verb.the-variants.{Act}
+use Rattle.request.specs.declared.Verb.the-variants.{Act, Ask}
+use Rattle.request.specs.declared.Query.the-variants.{ListVersions}
 use Rattle.request.specs.declared.Request.{Request}
 use Rattle.request.specs.Meaning.{nameMeans, verbMeans, VerbInside}
-use Rattle.request.specs.Grammar.{nameAt, retentionAt, termsAt, putOf, copyOf, retainOf, setHoldOf, deletes, deleteOf, defaultOf, ruleOf, sweepOf, getOf, otherByWord, verbByWord, requestIn, Said, readLine}
+use Rattle.request.specs.Grammar.{nameAt, retentionAt, termsAt, putOf, copyOf, retainOf, setHoldOf, deletes, deleteOf, defaultOf, ruleOf, sweepOf, getOf, isStart, listOf, otherByWord, verbByWord, requestIn, Said, readLine}
 
 -- this holds of whatever is read
-record Passes (A : Type 0) (P : A → Type 0) (w : Option A) : Type 0 where
-  holds : (a : A) → w ≡ some a → P a
+pub record Passes (A : Type 0) (P : A → Type 0) (w : Option A) : Type 0 where
+  pub holds : (a : A) → w ≡ some a → P a
 
 module _ (A : Type 0) (P : A → Type 0) where
-  pass-none : Passes A P none
+  pub pass-none : Passes A P none
   pass-none = record { holds = λ a e. let z : _≡_ {A = ℕ} 0 1 = cc in absurd (omega arith) }
 
-  pass-some : (a : A) → P a → Passes A P (some a)
+  pub pass-some : (a : A) → P a → Passes A P (some a)
   pass-some a h = record { holds = λ b e. let q : a ≡ b = cc in subst P q h }
 
-  pass-pick : (t : Bool) (x y : Option A) → (t ≡ true → Passes A P x) → (t ≡ false → Passes A P y) → Passes A P (pick t x y)
+  pub pass-pick : (t : Bool) (x y : Option A) → (t ≡ true → Passes A P x) → (t ≡ false → Passes A P y) → Passes A P (pick t x y)
   pass-pick true x y f g = f refl
   pass-pick false x y f g = g refl
 
-  pass-then : (B : Type 0) (w : Option B) (f : B → Option A) → ((b : B) → w ≡ some b → Passes A P (f b)) → Passes A P (thenSome w none f)
+  pub pass-then : (B : Type 0) (w : Option B) (f : B → Option A) → ((b : B) → w ≡ some b → Passes A P (f b)) → Passes A P (thenSome w none f)
   pass-then B none f g = pass-none
   pass-then B (some b) f g = g b refl
 
-ruleset ways = (pass-none, pass-some, pass-pick, pass-then, refl)
+pub ruleset ways = (pass-none, pass-some, pass-pick, pass-then, refl)
 
 -- ## Keys and prefixes
 
@@ -112,6 +116,9 @@ module _ (s : List ℕ) where
 
   days-in : (n : ℕ) → positiveOf 36500 s ≡ some n → isPeriod n days ≡ true
   days-in n e = let h = positive-range 36500 s n e in rw (le-leb 1 n (h .from), le-leb n 36500 (h .to))
+
+  count-in : (n : ℕ) → positiveOf largestCount s ≡ some n → Span 1 n largestCount
+  count-in n e = positive-range largestCount s n e
 
   years-in : (n : ℕ) → positiveOf 100 s ≡ some n → isPeriod n years ≡ true
   years-in n e = let h = positive-range 100 s n e in rw (le-leb 1 n (h .from), le-leb n 100 (h .to))
@@ -228,9 +235,29 @@ module _ (s : List ℕ) where
   unfolding getOf inRange
   get-passes = search (ways, ranges) depth 16
 
+  page-stands : (p k : Place) (v n : ℕ) → isPrefix (partOf s p) ≡ true → Inside s p → isPrefix (partOf s k) ≡ true → Inside s k → leb v largestNumber ≡ true
+      → Span 1 n largestCount → isStart k v ≡ true → Stands s (Ask (ListVersions (record { prefix = p; key = k; version = v; count = n })))
+  unfolding isStart inRange
+  page-stands p k v n e i d j l c t =
+      record {
+        range = rw (e, d, lt-ltb v spentNumber (omega (arith, leb-true v largestNumber l)), le-leb 1 n (c .from), le-leb n largestCount (c .to), start);
+        inside = record { prefix = i; key = j };
+      }
+    where
+      by-length : (z : Bool) → pick z (eqb v 0) true ≡ true → (not z || eqb v 0) ≡ true
+      by-length true h = h
+      by-length false h = refl
+
+      start : (not (eqb (length (partOf s k)) 0) || eqb v 0) ≡ true
+      start = rw (length-take-le (k .len) (drop (k .start) s) (omega (arith, j .end, length-drop (k .start) s))) (by-length (eqb (k .len) 0) t)
+
+  list-passes : Passes Verb (Stands s) (listOf s)
+  unfolding listOf inRange
+  list-passes = search (ways, ranges, count-in, page-stands) depth 16
+
   other-passes : (w : List ℕ) → Passes Verb (Stands s) (otherByWord w s)
   unfolding otherByWord
-  other-passes w = search (pass-pick, pass-none, default-passes, rule-passes, sweep-passes, get-passes) depth 12
+  other-passes w = search (pass-pick, pass-none, default-passes, rule-passes, sweep-passes, get-passes, list-passes) depth 14
 
   verb-passes : (w : List ℕ) → Passes Verb (Stands s) (verbByWord w s)
   unfolding verbByWord

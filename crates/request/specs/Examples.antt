@@ -15,8 +15,8 @@ use Rattle.calendar.specs.Calendar.{leap, yearsLength, monthStart, monthLength,
 use Rattle.dates.specs.Reading.{digitOf, twoDigits, fourDigits, dayNumber, dayAt, secondOfDay, secondAt, fractionDigit, milliseconds, fractionOf, readDate}
 use Rattle.model.specs.Rows.{compliance}
 use Rattle.model.specs.Settings.{days}
-use Rattle.model.specs.Requests.{Rights, numbered, name, noRetention, Verb, Put, AddMarker, DeleteVersion, Set, DefaultRetention, Ask, Get}
-use Rattle.fields.specs.Fields.{rightsIn, readRights, readKey, readVersion, readMode, readUntil, readHold, readBypass, readPeriod}
+use Rattle.model.specs.Requests.{Rights, numbered, name, noRetention, Verb, Put, AddMarker, DeleteVersion, Set, DefaultRetention, Ask, Get, page, ListVersions}
+use Rattle.fields.specs.Fields.{rightsIn, readRights, readKey, readPrefix, readVersion, readMode, readUntil, readHold, readBypass, readPeriod}
 use Rattle.fields.specs.declared.Version.the-variants.{Current}
 use Rattle.fields.specs.declared.Mode.the-variants as mode
 use Rattle.fields.specs.declared.Until.the-variants as until
@@ -24,7 +24,7 @@ use Rattle.fields.specs.declared.Hold.the-variants as hold
 use Rattle.fields.specs.declared.Terms.{Terms}
 use Rattle.request.specs.declared.Action.the-variants.{Copy}
 use Rattle.request.specs.declared.Verb.the-variants.{Act}
-use Rattle.request.specs.Grammar.{nameAt, retentionAt, termsAt, putOf, copyOf, deleteOf, defaultOf, getOf, otherByWord, verbByWord, requestIn, Said, readLine}
+use Rattle.request.specs.Grammar.{nameAt, retentionAt, termsAt, putOf, copyOf, deleteOf, defaultOf, getOf, isStart, listOf, otherByWord, verbByWord, requestIn, Said, readLine}
 
 -- the bytes of a text in which `|` stands for a tab
 abbrev withTabs : List ℕ → List ℕ
@@ -34,6 +34,10 @@ withTabs (b ∷ s) = pick (eqb b 124) 9 b ∷ withTabs s
 -- this clock, these rights, this verb
 abbrev asks : ℕ → Rights → Verb → Option Said
 asks clock who verb = some (record { clock = clock; who = who; verb = verb })
+
+-- right r alone
+abbrev reader : Rights
+reader = record { r = true; w = false; d = false; t = false; h = false; b = false; c = false }
 
 -- no mode, no date, no hold
 abbrev noTerms : Terms
@@ -55,13 +59,13 @@ pub record Examples : Type 0 where
       ≡ asks 1709294400000 (record { r = false; w = false; d = true; t = false; h = false; b = false; c = false })
       (AddMarker (bytes "q/7") false)
   pub getNumbered : readLine (withTabs (bytes "2024-03-01T06:00:00Z|r|GET|q/7|1"))
-      ≡ asks 1709272800000 (record { r = true; w = false; d = false; t = false; h = false; b = false; c = false })
+      ≡ asks 1709272800000 reader
       (Ask (Get (name (bytes "q/7") (some (numbered 1)))))
   pub deleteExpired : readLine (withTabs (bytes "2024-03-02T00:00:00Z|d|DELETE|q/7|1|no"))
       ≡ asks 1709337600000 (record { r = false; w = false; d = true; t = false; h = false; b = false; c = false })
       (DeleteVersion (bytes "q/7") (numbered 1) false)
   pub getCurrent : readLine (withTabs (bytes "2024-03-02T00:00:00Z|r|GET|q/7|-"))
-      ≡ asks 1709337600000 (record { r = true; w = false; d = false; t = false; h = false; b = false; c = false })
+      ≡ asks 1709337600000 reader
       (Ask (Get (name (bytes "q/7") none)))
   -- a COPY's source and target are the places of their fields
   pub copyPlaces : requestIn (withTabs (bytes "2024-03-01T00:00:00Z|rw|COPY|a|-|b|-|-|-"))
@@ -70,7 +74,15 @@ pub record Examples : Type 0 where
         rights = record { r = true; w = true; d = false; t = false; h = false; b = false; c = false };
         verb = Act (Copy (record { key = record { start = 29; len = 1 }; version = Current }) (record { start = 33; len = 1 }) noTerms);
       })
+  -- pages: from the start, and from a place that needs no row
+  pub listFirst : readLine (withTabs (bytes "2024-03-01T00:00:00Z|r|LIST|q/||0|1000")) ≡ asks 1709251200000 reader (Ask (ListVersions (page (bytes "q/") [] 0 1000)))
+  pub listNext : readLine (withTabs (bytes "2024-03-01T00:00:00Z|r|LIST||q/7|4294967295|1")) ≡ asks 1709251200000 reader (Ask (ListVersions (page [] (bytes "q/7") 4294967295 1)))
+  pub listDashes : readLine (withTabs (bytes "2024-03-01T00:00:00Z|r|LIST|-|-|0|1")) ≡ asks 1709251200000 reader (Ask (ListVersions (page (bytes "-") (bytes "-") 0 1)))
   -- can't be read
+  pub emptyKeyVersion : readLine (withTabs (bytes "2024-03-01T00:00:00Z|r|LIST|q/||1|10")) ≡ none
+  pub versionDash : readLine (withTabs (bytes "2024-03-01T00:00:00Z|r|LIST|q/|q/7|-|10")) ≡ none
+  pub countZero : readLine (withTabs (bytes "2024-03-01T00:00:00Z|r|LIST|q/||0|0")) ≡ none
+  pub countLarge : readLine (withTabs (bytes "2024-03-01T00:00:00Z|r|LIST|q/||0|1001")) ≡ none
   pub versionZero : readLine (withTabs (bytes "2024-03-01T00:00:00Z|r|GET|q/7|0")) ≡ none
   pub noRights : readLine (withTabs (bytes "2024-03-01T00:00:00Z||GET|q/7|1")) ≡ none
   pub letterTwice : readLine (withTabs (bytes "2024-03-01T00:00:00Z|rwr|GET|q/7|1")) ≡ none
@@ -83,7 +95,7 @@ pub record Examples : Type 0 where
 
 -- each by computing
 pub examples : Examples
-unfolding isDigit leadingZero numberOf positiveOf fieldOf placeOf isKeyByte isPrefix isKey leap yearsLength monthStart monthLength validDay daysOf digitOf twoDigits fourDigits dayNumber dayAt secondOfDay secondAt fractionDigit milliseconds fractionOf readDate rightsIn readRights readKey readVersion readMode readUntil readHold readBypass readPeriod nameAt retentionAt termsAt putOf copyOf deleteOf defaultOf getOf otherByWord verbByWord requestIn readLine
+unfolding isDigit leadingZero numberOf positiveOf fieldOf placeOf isKeyByte isPrefix isKey leap yearsLength monthStart monthLength validDay daysOf digitOf twoDigits fourDigits dayNumber dayAt secondOfDay secondAt fractionDigit milliseconds fractionOf readDate rightsIn readRights readKey readPrefix readVersion readMode readUntil readHold readBypass readPeriod nameAt retentionAt termsAt putOf copyOf deleteOf defaultOf getOf isStart listOf otherByWord verbByWord requestIn readLine
 examples =
     record {
       default = refl;
@@ -94,6 +106,13 @@ examples =
       deleteExpired = refl;
       getCurrent = refl;
       copyPlaces = refl;
+      listFirst = refl;
+      listNext = refl;
+      listDashes = refl;
+      emptyKeyVersion = refl;
+      versionDash = refl;
+      countZero = refl;
+      countLarge = refl;
       versionZero = refl;
       noRights = refl;
       letterTwice = refl;

@@ -1,6 +1,6 @@
 -- 01, "Request lines": what a line's bytes say. Fields are counted from 0: clock, rights, verb, then the verb's fields.
 use Prim.Native.Nat.{ℕ}
-use mathlib.Core.Bool.{Bool}
+use mathlib.Core.Bool.{Bool, true}
 use mathlib.Core.List.{List}
 use mathlib.Core.Option.{Option, some, none}
 use lib.Dec.{eqb, ltb}
@@ -9,10 +9,12 @@ use Rattle.buffers.specs.Choices.{pick, thenSome}
 use Rattle.buffers.specs.Lists.{same}
 use Rattle.buffers.specs.Texts.{bytes}
 use Rattle.text.specs.declared.Place.{Place}
-use Rattle.text.specs.Numbers.{numberOf}
+use Rattle.text.specs.Numbers.{numberOf, positiveOf}
 use Rattle.text.specs.Fields.{fieldOf, tabsIn}
 use Rattle.dates.specs.Reading.{readDate}
 use Rattle.model.specs.Rows.{largestSize}
+use Rattle.model.specs.Settings.{largestNumber}
+use Rattle.model.specs.Requests.{largestCount}
 use Rattle.model.specs.Requests as model
 use Rattle.fields.specs.declared.Version.{Version}
 use Rattle.fields.specs.declared.Version.the-variants.{Current, Numbered}
@@ -24,6 +26,7 @@ use Rattle.request.specs.declared.Name.{Name}
 use Rattle.request.specs.declared.Action.{Action}
 use Rattle.request.specs.declared.Action.the-variants.{Put, Copy, Retain, SetHold, AddMarker, DeleteVersion}
 use Rattle.request.specs.declared.Setting.the-variants.{Default, Rule}
+use Rattle.request.specs.declared.Query.the-variants.{Get, ListVersions}
 use Rattle.request.specs.declared.Verb.{Verb}
 use Rattle.request.specs.declared.Verb.the-variants.{Act, Set, Sweep, Ask}
 use Rattle.request.specs.declared.Request.{Request}
@@ -126,15 +129,31 @@ sweepOf s = pick (eqb (tabsIn s) 2) (some Sweep) none
 
 -- GET key, version
 unfoldable pub getOf : List ℕ → Option Verb
-getOf s = pick (eqb (tabsIn s) 4) (thenSome (nameAt s 3 4) none (λ n. some (Ask (record { name = n })))) none
+getOf s = pick (eqb (tabsIn s) 4) (thenSome (nameAt s 3 4) none (λ n. some (Ask (Get n)))) none
 
--- DEFAULT, RULE, SWEEP and GET by their word
+-- the empty key has version 0 only
+unfoldable pub isStart : Place → ℕ → Bool
+isStart k v = pick (eqb (k .len) 0) (eqb v 0) true
+
+-- LIST prefix, key or nothing, version or 0, count 1 to 1000
+unfoldable pub listOf : List ℕ → Option Verb
+listOf s =
+    pick (eqb (tabsIn s) 6)
+    (thenSome (readPrefix s 3) none (λ p.
+    thenSome (readPrefix s 4) none (λ k.
+    thenSome (numberOf largestNumber (fieldOf s 5)) none (λ v.
+    thenSome (positiveOf largestCount (fieldOf s 6)) none (λ n.
+    pick (isStart k v) (some (Ask (ListVersions (record { prefix = p; key = k; version = v; count = n })))) none)))))
+    none
+
+-- DEFAULT, RULE, SWEEP, GET and LIST by their word
 unfoldable pub otherByWord : List ℕ → List ℕ → Option Verb
 otherByWord w s =
     pick (same w (bytes "DEFAULT")) (defaultOf s)
     (pick (same w (bytes "RULE")) (ruleOf s)
     (pick (same w (bytes "SWEEP")) (sweepOf s)
-    (pick (same w (bytes "GET")) (getOf s) none)))
+    (pick (same w (bytes "GET")) (getOf s)
+    (pick (same w (bytes "LIST")) (listOf s) none))))
 
 -- the verb by its word
 unfoldable pub verbByWord : List ℕ → List ℕ → Option Verb

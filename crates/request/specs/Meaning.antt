@@ -22,7 +22,9 @@ use Rattle.request.specs.declared.VerbRead.the-variants as verb-read
 use Rattle.request.specs.declared.Request.{Request}
 use Rattle.request.specs.declared.LineRead.{LineRead}
 use Rattle.request.specs.declared.LineRead.the-variants as line-read
+use Rattle.request.specs.declared.Page.{Page}
 use Rattle.request.specs.declared.Query.{Query}
+use Rattle.request.specs.declared.Query.the-variants.{Get, ListVersions}
 use Rattle.fields.specs.declared.Retention.{Retention}
 use Rattle.fields.specs.declared.Terms.{Terms}
 use Rattle.fields.specs.Meaning.{modeMeans, retentionMeans, termsMeans, versionMeans, periodMeans, Inside}
@@ -47,9 +49,14 @@ abbrev pub settingMeans : List ℕ → Setting → model.Setting
 settingMeans s (Default m p) = model.DefaultRetention (modeMeans m) (periodMeans p)
 settingMeans s (Rule i p current noncurrent) = model.LifecycleRule i (record { prefix = partOf s p; currentDays = current; noncurrentDays = noncurrent })
 
--- GET
+-- a page of versions
+abbrev pub pageMeans : List ℕ → Page → model.Page
+pageMeans s p = model.page (partOf s (p .prefix)) (partOf s (p .key)) (p .version) (p .count)
+
+-- GET or LIST
 abbrev pub queryMeans : List ℕ → Query → model.Query
-queryMeans s q = model.Get (nameMeans s (q .name))
+queryMeans s (Get n) = model.Get (nameMeans s n)
+queryMeans s (ListVersions p) = model.ListVersions (pageMeans s p)
 
 -- a verb with its fields
 abbrev pub verbMeans : List ℕ → Verb → model.Verb
@@ -101,9 +108,15 @@ abbrev pub SettingInside : List ℕ → Setting → Type 0
 SettingInside s (Default m p) = Unit
 SettingInside s (Rule i p current noncurrent) = Inside s p
 
--- the key that a query names does
+-- so do prefix and key of a page
+pub record PageInside (s : List ℕ) (p : Page) : Type 0 where
+  pub prefix : Inside s (p .prefix)
+  pub key : Inside s (p .key)
+
+-- and the key that a GET names
 abbrev pub QueryInside : List ℕ → Query → Type 0
-QueryInside s q = Inside s (q .name .key)
+QueryInside s (Get n) = Inside s (n .key)
+QueryInside s (ListVersions p) = PageInside s p
 
 -- so does every key and prefix of the verb
 abbrev pub VerbInside : List ℕ → Verb → Type 0

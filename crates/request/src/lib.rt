@@ -46,9 +46,18 @@ pub enum Setting {
     Rule(u64, Place, u64, u64),
 }
 
-// What asks: GET alone.
-pub struct Query {
-    pub name: Name,
+// A page of versions: the places of its prefix and of the key that it starts after, the version, and how many rows at most.
+pub struct Page {
+    pub prefix: Place,
+    pub key: Place,
+    pub version: u64,
+    pub count: u64,
+}
+
+// The verbs that only ask.
+pub enum Query {
+    Get(Name),
+    ListVersions(Page),
 }
 
 pub enum Verb {

@@ -2,6 +2,7 @@
 use crate::Action;
 use crate::Name;
 use crate::NameRead;
+use crate::Page;
 use crate::Query;
 use crate::RetentionRead;
 use crate::Setting;
@@ -18,12 +19,13 @@ use fields::Terms;
 use fields::UntilRead;
 use fields::Version;
 use fields::VersionRead;
+use text::Place;
 use text::Value;
 ghost use mathlib.Core.Path.{_≡_};
 ghost use Prim.Native.Nat.{_<_};
 ghost use Rattle.text.specs.Fields.{fieldOf, Split};
 ghost use Rattle.text.specs.Numbers.{valueOf, numberOf};
-ghost use Rattle.request.specs.Grammar.{nameAt, retentionAt, termsAt, putOf, copyOf, retainOf, setHoldOf, deleteOf, defaultOf, ruleOf, sweepOf, getOf, otherByWord, verbByWord};
+ghost use Rattle.request.specs.Grammar.{nameAt, retentionAt, termsAt, putOf, copyOf, retainOf, setHoldOf, deleteOf, defaultOf, ruleOf, sweepOf, getOf, isStart, listOf, otherByWord, verbByWord};
 ghost use Rattle.request.specs.Meaning.{nameFrom, retentionFrom, termsFrom, verbFrom};
 
 // The largest body number.
@@ -250,10 +252,52 @@ fn read_get(line: &[u8], marks: &[usize]) -> VerbRead
     let NameRead::Is(name) = read_name(line, marks, 3, 4) else {
         return VerbRead::Bad;
     };
-    VerbRead::Is(Verb::Ask(Query { name }))
+    VerbRead::Is(Verb::Ask(Query::Get(name)))
 }
 
-// DEFAULT, RULE, SWEEP and GET by their word.
+// The empty key has version 0 only.
+fn is_start(key: Place, version: u64) -> bool
+    ensures { λ r. ⌜ r ≡ isStart key version ⌝ }
+{
+    if key.len == 0 {
+        return version == 0;
+    }
+    true
+}
+
+// LIST prefix, key or nothing, version, count.
+fn read_list(line: &[u8], marks: &[usize]) -> VerbRead
+    requires { ⌜ Split (now line) (now marks) ⌝ }
+    ensures { λ r. ⌜ verbFrom r ≡ listOf (now (line .entry)) ⌝ }
+{
+    if text::tabs(line, marks) != 6 {
+        return VerbRead::Bad;
+    }
+    let KeyRead::Is(prefix) = fields::read_prefix(line, marks, 3) else {
+        return VerbRead::Bad;
+    };
+    let KeyRead::Is(key) = fields::read_prefix(line, marks, 4) else {
+        return VerbRead::Bad;
+    };
+    let Value::Is(version) = read_number(line, marks, 5, model::LARGEST_NUMBER) else {
+        return VerbRead::Bad;
+    };
+    let Value::Is(count) = text::read_positive(text::field(line, marks, 6), model::LARGEST_COUNT)
+    else {
+        return VerbRead::Bad;
+    };
+    if is_start(key, version) {
+        return VerbRead::Is(Verb::Ask(Query::ListVersions(Page {
+            prefix,
+            key,
+            version,
+            count,
+        })));
+    }
+    VerbRead::Bad
+}
+
+// DEFAULT, RULE, SWEEP, GET and LIST by their word.
 fn read_other(word: &[u8], line: &[u8], marks: &[usize]) -> VerbRead
     requires { ⌜ Split (now line) (now marks) ⌝ }
     ensures { λ r. ⌜ verbFrom r ≡ otherByWord (now (word .entry)) (now (line .entry)) ⌝ }
@@ -269,6 +313,9 @@ fn read_other(word: &[u8], line: &[u8], marks: &[usize]) -> VerbRead
     }
     if text::is_word(word, b"GET") {
         return read_get(line, marks);
+    }
+    if text::is_word(word, b"LIST") {
+        return read_list(line, marks);
     }
     VerbRead::Bad
 }

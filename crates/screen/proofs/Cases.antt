@@ -1,23 +1,31 @@
--- A definition by cases on an enum, at the case that the code found, and the refusal from the three tests.
-use Prim.Native.Nat.{ℕ}
+-- A definition by cases on an enum, at the case that the code found, and the refusal from the four tests.
+use Prim.Native.Nat.{ℕ, _-_, _/_, _≤_}
 use mathlib.Core.Path.{_≡_, refl, sym, _∙_, ap}
+use mathlib.Core.Logic.{inl, inr}
 use mathlib.Core.Bool.{Bool, true, false, not, and-true}
 use mathlib.Core.List.{List}
+use native.Mathlib.Omega.{arith}
+use lib.Dec.{ltb}
+use borrow.Author.Tests.{lt-ltb, le-ltb, ltb-true, ltb-false}
+use Rattle.buffers.proofs.Tests.{either}
 use Rattle.model.specs.Settings.{Config}
 use Rattle.model.specs.Requests as model
 use Rattle.model.specs.Requests.{retentionOf}
-use Rattle.model.specs.Refusals.{oneOf, settingHalf, retentionHalf, halfGiven, needs, granted, lacksRight, isPast, pastDate}
+use Rattle.model.specs.Refusals.{oneOf, settingHalf, retentionHalf, halfGiven, needs, granted, lacksRight, leastRoom, rowRoom, shortForPage, isPast, pastDate}
 use Rattle.fields.specs.declared.Until.{Until}
 use Rattle.fields.specs.declared.Rights.{Rights}
 use Rattle.fields.specs.declared.Retention.{Retention}
+use Rattle.request.specs.declared.Name.{Name}
 use Rattle.request.specs.declared.Action.{Action}
 use Rattle.request.specs.declared.Setting.{Setting}
 use Rattle.request.specs.declared.Verb.{Verb}
 use Rattle.request.specs.declared.Verb.the-variants.{Act, Set, Sweep, Ask}
+use Rattle.request.specs.declared.Page.{Page}
 use Rattle.request.specs.declared.Query.{Query}
+use Rattle.request.specs.declared.Query.the-variants.{Get, ListVersions}
 use Rattle.fields.specs.Meaning.{untilMeans, rightsMeans, retentionMeans}
-use Rattle.request.specs.Meaning.{actionMeans, settingMeans, verbMeans}
-use Rattle.request.proofs.Actions.{action-unset}
+use Rattle.request.specs.Meaning.{actionMeans, settingMeans, queryMeans, verbMeans}
+use Rattle.request.proofs.Actions.{action-unset, action-unpaged}
 use Rattle.screen.specs.Screen.{screened}
 
 -- ## Fields
@@ -76,9 +84,45 @@ module _ (s : Config) (line : List ℕ) (a : Rights) (v : Verb) where
 
   pub ask-allowed : (q : Query) → v ≡ Ask q → lacksRight s (rightsMeans a) (verbMeans line v) ≡ not (a .r)
   unfolding lacksRight needs granted
-  ask-allowed q e = rw e (ap not (and-true (a .r)))
+  ask-allowed (Get n) e = rw e (ap not (and-true (a .r)))
+  ask-allowed (ListVersions p) e = rw e (ap not (and-true (a .r)))
 
 pub ruleset allowances = (act-allowed, set-allowed, sweep-allowed, ask-allowed)
+
+-- ## 13
+
+module _ (line : List ℕ) (room : ℕ) (q : Query) (r : Bool) where
+  pub get-fits : (n : Name) → q ≡ Get n → r ≡ false → r ≡ shortForPage room (model.Ask (queryMeans line q))
+  unfolding shortForPage
+  get-fits n e h = rw e h
+
+  -- Division by what a row may take can't overflow, as the product of the count could.
+  pub page-fits : (p : Page) → q ≡ ListVersions p → leastRoom ≤ room → r ≡ ltb ((room - leastRoom) / rowRoom) (p .count) → r ≡ shortForPage room (model.Ask (queryMeans line q))
+  unfolding shortForPage
+  page-fits p e l h =
+      let fit = (room - leastRoom) / rowRoom in
+      rw e (h ∙ elim (either (ltb fit (p .count))) [
+        | inl t ↦ t ∙ sym (lt-ltb room _ (omega (arith, ltb-true fit (p .count) t)))
+        | inr t ↦ t ∙ sym (le-ltb room _ (omega (arith, ltb-false fit (p .count) t)))
+      ])
+
+module _ (line : List ℕ) (room : ℕ) (v : Verb) (r : Bool) where
+  pub fits-act : (a : Action) → v ≡ Act a → r ≡ false → r ≡ shortForPage room (verbMeans line v)
+  unfolding shortForPage
+  fits-act a e h = rw (e, action-unpaged line a) h
+
+  pub fits-set : (s : Setting) → v ≡ Set s → r ≡ false → r ≡ shortForPage room (verbMeans line v)
+  unfolding shortForPage
+  fits-set s e h = rw e h
+
+  pub fits-sweep : v ≡ Sweep → r ≡ false → r ≡ shortForPage room (verbMeans line v)
+  unfolding shortForPage
+  fits-sweep e h = rw e h
+
+  pub fits-ask : (q : Query) → v ≡ Ask q → ((l : List ℕ) → r ≡ shortForPage room (model.Ask (queryMeans l q))) → r ≡ shortForPage room (verbMeans line v)
+  fits-ask q e h = rw e (h line)
+
+pub ruleset pages = (refl, get-fits, page-fits, fits-act, fits-set, fits-sweep, fits-ask)
 
 -- ## 6
 
@@ -103,23 +147,28 @@ pub ruleset dates = (refl, past-act, past-set, past-sweep, past-ask)
 
 -- ## The refusal
 
-module _ (s : Config) (a : Rights) (line : List ℕ) (now : ℕ) (v : Verb) (h : Bool) (eh : (l : List ℕ) → h ≡ halfGiven (verbMeans l v)) where
-  pub refused-4 : h ≡ true → 4 ≡ screened s (rightsMeans a) now (verbMeans line v)
+module _ (s : Config) (a : Rights) (line : List ℕ) (room now : ℕ) (v : Verb) (h : Bool) (eh : (l : List ℕ) → h ≡ halfGiven (verbMeans l v)) where
+  pub refused-4 : h ≡ true → 4 ≡ screened s (rightsMeans a) room now (verbMeans line v)
   unfolding screened
   refused-4 e = simp (sym (eh line) ∙ e)
 
   module _ (w : Bool) (ew : (g : Config) (l : List ℕ) → lacksRight g (rightsMeans a) (verbMeans l v) ≡ not w) (f : h ≡ false) where
-    pub refused-5 : w ≡ false → 5 ≡ screened s (rightsMeans a) now (verbMeans line v)
+    pub refused-5 : w ≡ false → 5 ≡ screened s (rightsMeans a) room now (verbMeans line v)
     unfolding screened
     refused-5 e = simp (sym (eh line) ∙ f, ew s line, e)
 
-    module _ (p : Bool) (ep : (l : List ℕ) → p ≡ pastDate now (verbMeans l v)) (t : w ≡ true) where
-      pub refused-6 : p ≡ true → 6 ≡ screened s (rightsMeans a) now (verbMeans line v)
+    module _ (n : Bool) (en : (l : List ℕ) → n ≡ shortForPage room (verbMeans l v)) (t : w ≡ true) where
+      pub refused-13 : n ≡ true → 13 ≡ screened s (rightsMeans a) room now (verbMeans line v)
       unfolding screened
-      refused-6 e = simp (sym (eh line) ∙ f, ew s line, t, sym (ep line) ∙ e)
+      refused-13 e = simp (sym (eh line) ∙ f, ew s line, t, sym (en line) ∙ e)
 
-      pub passed : p ≡ false → 0 ≡ screened s (rightsMeans a) now (verbMeans line v)
-      unfolding screened
-      passed e = simp (sym (eh line) ∙ f, ew s line, t, sym (ep line) ∙ e)
+      module _ (p : Bool) (ep : (l : List ℕ) → p ≡ pastDate now (verbMeans l v)) (u : n ≡ false) where
+        pub refused-6 : p ≡ true → 6 ≡ screened s (rightsMeans a) room now (verbMeans line v)
+        unfolding screened
+        refused-6 e = simp (sym (eh line) ∙ f, ew s line, t, sym (en line) ∙ u, sym (ep line) ∙ e)
 
-pub ruleset refusals = (refused-4, refused-5, refused-6, passed)
+        pub passed : p ≡ false → 0 ≡ screened s (rightsMeans a) room now (verbMeans line v)
+        unfolding screened
+        passed e = simp (sym (eh line) ∙ f, ew s line, t, sym (en line) ∙ u, sym (ep line) ∙ e)
+
+pub ruleset refusals = (refused-4, refused-5, refused-13, refused-6, passed)

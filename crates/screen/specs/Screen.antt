@@ -1,4 +1,4 @@
--- Refusals 2 to 6, by the definitions of the model.
+-- Refusals 2 to 6, and 13 among them, by the definitions of the model.
 use Prim.Native.Nat.{ℕ}
 use mathlib.Core.Path.{_≡_}
 use mathlib.Core.Bool.{Bool, true, _&&_}
@@ -25,28 +25,28 @@ use Rattle.screen.specs.declared.Screened.the-variants.{Refused, Passed}
 unfoldable pub mayPut : Rights → Terms → Bool
 mayPut a t = a .w && (pick (isSome (modeMeans (t .retention .mode))) (a .t) true && pick (isSome (holdMeans (t .hold))) (a .h) true)
 
--- the first of 4, 5 and 6 that holds, or 0
-unfoldable pub screened : Config → model.Rights → ℕ → model.Verb → ℕ
-screened s who now v = firstOf (fieldChecks s who now v)
+-- the first of 4, 5, 13 and 6 that holds, or 0
+unfoldable pub screened : Config → model.Rights → ℕ → ℕ → model.Verb → ℕ
+screened s who room now v = firstOf (fieldChecks s who room now v)
 
 -- ## A line
 
--- the first of 4, 5 and 6 that holds of a request, or 0
-abbrev pub requestRefusal : Config → ℕ → List ℕ → Request → ℕ
-requestRefusal s time line q = screened s (rightsMeans (q .rights)) (nowAt time (q .clock) .stamp) (verbMeans line (q .verb))
+-- the first of them that holds of a request, or 0
+abbrev pub requestRefusal : Config → ℕ → List ℕ → ℕ → Request → ℕ
+requestRefusal s time line room q = screened s (rightsMeans (q .rights)) room (nowAt time (q .clock) .stamp) (verbMeans line (q .verb))
 
 -- a refusal, or where it is 0 the verb and its now
 abbrev pub screenedAs : ℕ → Verb → Now → Screened
 screenedAs n v when = pick (eqb n 0) (Passed v when) (Refused n)
 
--- what a line comes to by refusals 2 to 6
+-- what a line comes to
 unfoldable pub screenedLine : Config → ℕ → List ℕ → ℕ → Screened
 screenedLine s time line room =
     pick (ltb room leastRoom) (Refused 2)
     (thenSome (requestIn line) (Refused 3) (λ q.
-    screenedAs (requestRefusal s time line q) (q .verb) (nowAt time (q .clock))))
+    screenedAs (requestRefusal s time line room q) (q .verb) (nowAt time (q .clock))))
 
--- its number in 01: the first of 2 to 6 that holds, or 0
+-- its number: the first that holds, or 0
 abbrev pub lineRefusal : Screened → ℕ
 lineRefusal (Refused n) = n
 lineRefusal (Passed v when) = 0

@@ -1,4 +1,4 @@
-// Refusals 2 to 6: those that are decided without the table. The definitions are in the model and in specs/.
+// The refusals that are decided without the table: 2 to 6, and 13 after 5. The definitions are in the model and in specs/.
 use calendar::Now;
 use fields::Mode;
 use fields::Retention;
@@ -7,21 +7,22 @@ use fields::Terms;
 use fields::Until;
 use request::Action;
 use request::LineRead;
+use request::Query;
 use request::Request;
 use request::Setting;
 use request::Verb;
 use settings::State;
 ghost use mathlib.Core.Path.{_≡_};
 ghost use mathlib.Core.List.{List};
-ghost use Prim.Native.Nat.{ℕ, max};
+ghost use Prim.Native.Nat.{ℕ, _≤_, max};
 ghost use mathlib.Core.Bool.{true, not};
 ghost use Rattle.buffers.specs.Choices.{pick};
 ghost use Rattle.model.specs.Settings.{Config};
-ghost use Rattle.model.specs.Requests.{noRetention, retentionOf};
-ghost use Rattle.model.specs.Refusals.{oneOf, settingHalf, retentionHalf, halfGiven, lacksRight, isPast, pastDate};
+ghost use Rattle.model.specs.Requests.{noRetention, retentionOf, Ask};
+ghost use Rattle.model.specs.Refusals.{oneOf, settingHalf, retentionHalf, halfGiven, lacksRight, leastRoom, shortForPage, isPast, pastDate};
 ghost use Rattle.model.specs.Time.{nowAt};
 ghost use Rattle.fields.specs.Meaning.{untilMeans, rightsMeans, retentionMeans};
-ghost use Rattle.request.specs.Meaning.{actionMeans, settingMeans, verbMeans};
+ghost use Rattle.request.specs.Meaning.{actionMeans, settingMeans, queryMeans, verbMeans};
 ghost use Rattle.screen.specs.Screen.{mayPut, screened, Screens};
 
 // What a line comes to before the table is looked at: its refusal, or its verb and its now.
@@ -138,6 +139,32 @@ fn is_allowed(a: Rights, verb: Verb) -> bool
     }
 }
 
+// An answer buffer of this length is too short for a page of so many rows.
+fn is_page_short(q: Query, room: usize) -> bool
+    requires { ⌜ leastRoom ≤ room ⌝ }
+    ensures { λ r. ⌜ ((line : List ℕ) → r ≡ shortForPage room (Ask (queryMeans line q))) ⌝ }
+{
+    match q {
+        Query::Get(_) => false,
+        Query::ListVersions(p) => {
+            let fit = (room - model::LEAST_ROOM) / model::ROW_ROOM;
+            (fit as u64) < p.count
+        }
+    }
+}
+
+fn is_short_for_page(verb: Verb, room: usize) -> bool
+    requires { ⌜ leastRoom ≤ room ⌝ }
+    ensures { λ r. ⌜ ((line : List ℕ) → r ≡ shortForPage room (verbMeans line verb)) ⌝ }
+{
+    match verb {
+        Verb::Act(_) => false,
+        Verb::Set(_) => false,
+        Verb::Sweep => false,
+        Verb::Ask(q) => is_page_short(q, room),
+    }
+}
+
 fn is_past(d: Until, instant: u64) -> bool
     ensures { λ r. ⌜ r ≡ isPast instant (untilMeans d) ⌝ }
 {
@@ -162,9 +189,10 @@ fn is_past_date(verb: Verb, instant: u64) -> bool
     }
 }
 
-// The first of refusals 4 to 6 that holds, or 0; keys play no part.
-fn screen(q: Request, instant: u64) -> u64
-    ensures { λ r. ⌜ ((s : Config) (line : List ℕ) → r ≡ screened s (rightsMeans (q .rights)) instant (verbMeans line (q .verb))) ⌝ }
+// The first of refusals 4, 5, 13 and 6 that holds, or 0; keys play no part.
+fn screen(q: Request, room: usize, instant: u64) -> u64
+    requires { ⌜ leastRoom ≤ room ⌝ }
+    ensures { λ r. ⌜ ((s : Config) (line : List ℕ) → r ≡ screened s (rightsMeans (q .rights)) room instant (verbMeans line (q .verb))) ⌝ }
 {
     let a = q.rights;
     let verb = q.verb;
@@ -172,6 +200,9 @@ fn screen(q: Request, instant: u64) -> u64
         return model::HALF_GIVEN;
     }
     if is_allowed(a, verb) {
+        if is_short_for_page(verb, room) {
+            return model::SHORT_FOR_PAGE;
+        }
         if is_past_date(verb, instant) {
             return model::PAST_DATE;
         }
@@ -200,7 +231,7 @@ fn now_at(time: u64, clock: u64) -> Now
     }
 }
 
-// Refusals 2 to 6 of a line, by the settings and the length of the answer buffer.
+// Refusals 2 to 6 and 13 of a line, by the settings and the length of the answer buffer.
 pub fn screen_line(s: State, line: &[u8], room: usize) -> Screened
     ensures { λ r. ⌜ Screens s (now (line .entry)) room r ⌝ }
 {
@@ -211,7 +242,7 @@ pub fn screen_line(s: State, line: &[u8], room: usize) -> Screened
         return Screened::Refused(model::UNREADABLE);
     };
     let when = now_at(s.time, q.clock);
-    let n = screen(q, when.stamp);
+    let n = screen(q, room, when.stamp);
     if n != 0 {
         return Screened::Refused(n);
     }

@@ -17,7 +17,7 @@ use Rattle.table.specs.Layout.{rowAt, rowsOf}
 use Rattle.table.specs.Places.{keyAt}
 use Rattle.table.proofs.Held.{rows-length}
 use Rattle.model.specs.Rows.{Row, before, ahead, ordered}
-use Rattle.model.proofs.Order.{before-trans, ahead-trans}
+use Rattle.model.proofs.Order.{before-trans, ahead-trans, versionRow}
 use Rattle.search.specs.Places.{leading, nthRow, foundIf, keyPlace, currentIn, versionPlace, versionIn}
 use Rattle.search.specs.Keys.{isOrder}
 use Rattle.search.specs.Searching.{Searchable}
@@ -30,7 +30,7 @@ use Rattle.search.proofs.Positions.{no-row, all-row, rows-row, number-a
 -- ## The rows that pass a test
 
 module _ (q : Row → Bool) where
-  leading-stops : (xs : List Row) (i : ℕ) (y : Row) → nthRow xs i ≡ some y → q y ≡ false → leading q xs ≤ i
+  pub leading-stops : (xs : List Row) (i : ℕ) (y : Row) → nthRow xs i ≡ some y → q y ≡ false → leading q xs ≤ i
   leading-stops [] i y f e = omega arith
   leading-stops (x ∷ xs) zero y f e = let g : x ≡ y = cc in rw (g, e) (omega arith)
   leading-stops (x ∷ xs) (suc i) y f e =
@@ -40,7 +40,7 @@ module _ (q : Row → Bool) where
       ]
 
   -- A test that each row passes that is ahead of one that passes.
-  leading-passes : ((x y : Row) → ahead x y ≡ true → q y ≡ true → q x ≡ true)
+  pub leading-passes : ((x y : Row) → ahead x y ≡ true → q y ≡ true → q x ≡ true)
       → (xs : List Row) (i : ℕ) (y : Row) → ordered xs ≡ true → nthRow xs i ≡ some y → q y ≡ true → i < leading q xs
   leading-passes m [] i y o f e = absurd (no-row i y f)
   leading-passes m (x ∷ xs) zero y o f e = let g : x ≡ y = cc in rw (g, e) (omega arith)
@@ -58,16 +58,12 @@ module _ (q : Row → Bool) where
 
 -- ## Halving
 
-key-ahead : (k : List ℕ) (x y : Row) → ahead x y ≡ true → before (y .key) k ≡ true → before (x .key) k ≡ true
+pub key-ahead : (k : List ℕ) (x y : Row) → ahead x y ≡ true → before (y .key) k ≡ true → before (x .key) k ≡ true
 key-ahead k x y d e =
     elim (or-one (before (x .key) (y .key)) _ d) [
       | inl b ↦ before-trans (x .key) (y .key) k b e
       | inr b ↦ rw (same-path (x .key) (y .key) (and-l _ _ b)) e
     ]
-
--- the row of a key's version, its other numbers 0
-abbrev pub versionRow : List ℕ → ℕ → Row
-versionRow k v = record { number = v; kind = 0; created = 0; body = 0; size = 0; mode = 0; until = 0; hold = 0; key = k }
 
 -- what holds at each turn: the place m is from low to high
 pub record Between (n b : List ℕ) (u m low high : ℕ) : Type 0 where
@@ -76,7 +72,7 @@ pub record Between (n b : List ℕ) (u m low high : ℕ) : Type 0 where
   pub from : low ≤ m
   pub to : m ≤ high
 
-abbrev middle : ℕ → ℕ → ℕ
+abbrev pub middle : ℕ → ℕ → ℕ
 middle low high = low + (high - low) / 2
 
 module _ (n b : List ℕ) (u m low high : ℕ) (w : Between n b u m low high) where

@@ -5,22 +5,27 @@ use mathlib.Core.Logic.{inl, inr}
 use mathlib.Core.Bool.{Bool, true, false, not, _&&_, and-true}
 use mathlib.Core.List.{List, [], _∷_}
 use mathlib.Core.Option.{some, none}
+use native.Mathlib.Omega.{arith}
 use lib.Dec.{eqb}
 use lib.ListN.{set}
 use borrow.Author.Tests.{eqb-true, not-true}
 use Rattle.buffers.specs.Choices.{thenSome}
 use Rattle.buffers.specs.Lists.{all, keep, first, change, same}
+use Rattle.buffers.specs.Ranges.{Within}
 use Rattle.buffers.proofs.Tests.{either, eqb-sym, clash, and-l, and-r, or-one}
-use Rattle.buffers.proofs.Lists.{first-none, first-as, same-path, all-as, same-sym}
+use Rattle.buffers.proofs.Lists.{keep-every, all-as, first-none, first-as, same-path, same-sym}
 use Rattle.model.specs.Rows.{Row, before, ahead, ordered}
 use Rattle.model.specs.Requests.{Name, name, numbered}
 use Rattle.model.specs.Effects.{rowOf, sameVersion, isNamed, insertByKey}
-use Rattle.model.proofs.SoundRows.{apart, version-refl}
+use Rattle.model.proofs.Order.{versionRow}
+use Rattle.model.proofs.SoundRows.{version-refl, apart, others}
 use Rattle.table.specs.Changes.{insertAt, removeAt}
+use Rattle.table.specs.Layout.{rowsOf}
 use Rattle.search.specs.Places.{leading, nthRow, foundIf, keyPlace, currentIn, versionPlace, versionIn, rowFound, placeFound}
+use Rattle.search.specs.declared.Found.{Found}
+use Rattle.search.specs.declared.Found.the-variants.{At, Place}
 use Rattle.search.proofs.Comparing.{before-one}
-use Rattle.search.proofs.Positions.{all-row, place-if}
-use Rattle.search.proofs.Halving.{versionRow}
+use Rattle.search.proofs.Positions.{all-row, place-if, current-used, current-free}
 
 -- ## The row that is found
 
@@ -96,27 +101,32 @@ pub current-place : (k : List ℕ) (xs : List Row) → placeFound (currentIn k x
 unfolding currentIn
 current-place k xs = place-if (λ x. same (x .key) k) xs (keyPlace k xs)
 
--- ## A row that is named, by its position
+-- So the place that it gives is the key's, within the used rows or right behind them.
+module _ (n b : List ℕ) (u : ℕ) (k : List ℕ) (r : Found) (i : ℕ) (e : r ≡ currentIn k (rowsOf n b u)) where
+  here : placeFound r ≡ i → i ≡ keyPlace k (rowsOf n b u)
+  here q = sym q ∙ ap placeFound e ∙ current-place k (rowsOf n b u)
 
--- No other row is of the same key and version number.
-others : (x y : Row) (ys : List Row) → all (ahead y) ys ≡ true → x ≡ y → all (λ z. not (sameVersion x z)) ys ≡ true
-others x y ys o e = all-as (ahead y) (λ z. not (sameVersion x z)) (λ z d. rw e (rw ((apart y z d) .0))) ys o
+  pub place-at : r ≡ At i → Within i (keyPlace k (rowsOf n b u)) u
+  place-at t = record { is = here (ap placeFound t); most = omega (arith, current-used n b u k r i e t) }
+
+  pub place-free : r ≡ Place i → Within i (keyPlace k (rowsOf n b u)) u
+  place-free t = record { is = here (ap placeFound t); most = current-free n b u k r i e t }
+
+pub ruleset place-cases = (place-at, place-free)
+
+-- ## A row that is named, by its position
 
 change-none : (x : Row) (f : Row → Row) (xs : List Row) → all (λ y. not (sameVersion x y)) xs ≡ true → change (sameVersion x) f xs ≡ xs
 change-none x f [] e = refl
 change-none x f (y ∷ ys) e =
     rw (not-true (sameVersion x y) (and-l _ _ e)) (ap (λ (l : List Row). y ∷ l) (change-none x f ys (and-r (not (sameVersion x y)) _ e)))
 
-keep-all : (x : Row) (xs : List Row) → all (λ y. not (sameVersion x y)) xs ≡ true → keep (λ y. not (sameVersion x y)) xs ≡ xs
-keep-all x [] e = refl
-keep-all x (y ∷ ys) e = rw (and-l (not (sameVersion x y)) _ e) (ap (λ (l : List Row). y ∷ l) (keep-all x ys (and-r (not (sameVersion x y)) _ e)))
-
 change-at : (x : Row) (f : Row → Row) (xs : List Row) (i : ℕ) → ordered xs ≡ true → nthRow xs i ≡ some x → change (sameVersion x) f xs ≡ set xs i (f x)
 change-at x f [] i o e = refl
 change-at x f (y ∷ ys) zero o e =
     let q : x ≡ y = cc in
     let here : sameVersion x y ≡ true = rw (sym q) (version-refl x) in
-    rw (here, change-none x f ys (others x y ys (and-l _ _ o) q), q)
+    rw (here, change-none x f ys (rw (sym q) at (others y ys (and-l _ _ o))), q)
 change-at x f (y ∷ ys) (suc i) o e =
     let here : sameVersion x y ≡ false = (apart y x (all-row (ahead y) ys i x (and-l _ _ o) e)) .1 in
     rw here (ap (λ (l : List Row). y ∷ l) (change-at x f ys i (and-r (all (ahead y) ys) _ o) e))
@@ -127,7 +137,7 @@ keep-at x [] (suc i) o e = refl
 keep-at x (y ∷ ys) zero o e =
     let q : x ≡ y = cc in
     let here : sameVersion x y ≡ true = rw (sym q) (version-refl x) in
-    rw here (keep-all x ys (others x y ys (and-l _ _ o) q))
+    rw here (keep-every (λ z. not (sameVersion x z)) ys (rw (sym q) at (others y ys (and-l _ _ o))))
 keep-at x (y ∷ ys) (suc i) o e =
     let here : sameVersion x y ≡ false = (apart y x (all-row (ahead y) ys i x (and-l _ _ o) e)) .1 in
     rw here (ap (λ (l : List Row). y ∷ l) (keep-at x ys i (and-r (all (ahead y) ys) _ o) e))

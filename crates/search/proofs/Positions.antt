@@ -65,6 +65,14 @@ leading-most q (x ∷ xs) =
       | inr t ↦ rw t (omega arith)
     ]
 
+pub leading-as : (p q : Row → Bool) → ((x : Row) → p x ≡ q x) → (xs : List Row) → leading p xs ≡ leading q xs
+leading-as p q f [] = refl
+leading-as p q f (x ∷ xs) = rw (f x, leading-as p q f xs)
+
+pub none-lead : (p q : Row → Bool) → ((x : Row) → q x ≡ true → p x ≡ false) → (xs : List Row) → all q xs ≡ true → leading p xs ≡ 0
+none-lead p q f [] e = refl
+none-lead p q f (x ∷ xs) e = rw (f x (and-l _ _ e))
+
 module _ (p : Row → Bool) (xs : List Row) (m : ℕ) where
   pub place-if : placeFound (foundIf p xs m) ≡ m
   place-if =

@@ -1,4 +1,4 @@
-// Serves each line of standard input through the entry that tests the whole bucket, with an answer buffer of 256 bytes.
+// Serves each line of standard input through the entry that tests the whole bucket, with the answer buffer that the program `bucketrun` has.
 // The files stdin and stdout hold the lines and the answers of tests/stations.md, the paper's examples and the boundaries of each field,
 // on a bucket of 1024 rows; the implementation in tests/reference is held to the same page.
 use libc::STDIN_FILENO;
@@ -58,11 +58,11 @@ fn no_text() -> [u8; 262144]
     [0; 262144]
 }
 
-// The smallest answer buffer that is admitted.
-fn no_answer() -> [u8; 256]
-    ensures { λ r. ⌜ r ≡ replicate 256 0 ⌝ }
+// Room for a page of 255 rows.
+fn no_answer() -> [u8; 65536]
+    ensures { λ r. ⌜ r ≡ replicate 65536 0 ⌝ }
 {
-    [0; 256]
+    [0; 65536]
 }
 
 fn main() {

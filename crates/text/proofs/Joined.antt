@@ -13,9 +13,11 @@ use Rattle.buffers.specs.Lists.{all}
 use Rattle.buffers.proofs.Tests.{either, and-l, and-r}
 use Rattle.buffers.proofs.Lists.{all-as, all-append}
 use Rattle.text.specs.Numbers.{isDigit}
+use Rattle.text.specs.Keys.{isKeyByte, isKey}
 use Rattle.text.specs.Fields.{fields, tabbed}
-use Rattle.text.specs.Lines.{feedAt, firstLine}
+use Rattle.text.specs.Lines.{linesOf, feedAt, firstLine}
 use Rattle.text.specs.Printing.{digits}
+use Rattle.text.proofs.Keys.{prefix-bytes, key-prefix}
 use Rattle.text.proofs.Lines.{first-more}
 use Rattle.text.proofs.RoundTrip.{digits-all}
 
@@ -42,6 +44,17 @@ digit-visible b e =
 pub digits-visible : (n : ℕ) → visible (digits n) ≡ true
 digits-visible n = all-as isDigit (λ b. leb 33 b) digit-visible (digits n) (digits-all n)
 
+key-byte-visible : (b : ℕ) → isKeyByte b ≡ true → leb 33 b ≡ true
+unfolding isKeyByte
+key-byte-visible b e =
+    elim (either (ltb b 33)) [
+      | inl t ↦ absurd (false≢true (rw t at e))
+      | inr t ↦ le-leb 33 b (ltb-false b 33 t)
+    ]
+
+pub key-visible : (k : List ℕ) → isKey k ≡ true → visible k ≡ true
+key-visible k e = all-as isKeyByte (λ b. leb 33 b) key-byte-visible k (prefix-bytes k (key-prefix k e))
+
 -- ## Fields
 
 -- A tab ends a field.
@@ -63,7 +76,13 @@ without-back f (g ∷ gs) e d =
 pub fields-back : (f : List ℕ) (fs : List (List ℕ)) → visible f ≡ true → all visible fs ≡ true → fields (f ++ tabbed fs) ≡ f ∷ fs
 fields-back f fs e d = without-back f fs (visible-without 9 (omega arith) f e) (all-as visible (without 9) (visible-without 9 (omega arith)) fs d)
 
--- ## The first line
+-- ## Lines
+
+-- A line feed ends a line.
+line-feed : (l rest : List ℕ) → without 10 l ≡ true → linesOf (l ++ 10 ∷ rest) ≡ l ∷ linesOf rest
+line-feed [] rest e = refl
+line-feed (b ∷ l) rest e =
+    rw (not-true (eqb b 10) (and-l _ _ e)) (first-more b l (linesOf rest) (linesOf (l ++ 10 ∷ rest)) (line-feed l rest (and-r (not (eqb b 10)) _ e)))
 
 feed-behind : (l rest : List ℕ) → without 10 l ≡ true → feedAt (l ++ 10 ∷ rest) ≡ length l
 feed-behind [] rest e = refl
@@ -73,8 +92,16 @@ tabbed-without : (fs : List (List ℕ)) → all (without 10) fs ≡ true → wit
 tabbed-without [] e = refl
 tabbed-without (f ∷ fs) e = all-append (λ b. not (eqb b 10)) f (tabbed fs) (and-l _ _ e) (tabbed-without fs (and-r (without 10 f) _ e))
 
--- A line of such fields is the first line of whatever it begins.
-pub first-line : (f : List ℕ) (fs : List (List ℕ)) (rest : List ℕ) → visible f ≡ true → all visible fs ≡ true → firstLine ((f ++ tabbed fs) ++ 10 ∷ rest) ≡ f ++ tabbed fs
-first-line f fs rest e d =
-    let w : without 10 (f ++ tabbed fs) ≡ true = all-append (λ b. not (eqb b 10)) f (tabbed fs) (visible-without 10 (omega arith) f e) (tabbed-without fs (all-as visible (without 10) (visible-without 10 (omega arith)) fs d)) in
-    rw (feed-behind (f ++ tabbed fs) rest w) (take-at (f ++ tabbed fs) (10 ∷ rest) (length (f ++ tabbed fs)) refl)
+module _ (f : List ℕ) (fs : List (List ℕ)) (rest : List ℕ) (e : visible f ≡ true) (d : all visible fs ≡ true) where
+  no-feed : without 10 (f ++ tabbed fs) ≡ true
+  no-feed =
+      all-append (λ b. not (eqb b 10)) f (tabbed fs) (visible-without 10 (omega arith) f e)
+      (tabbed-without fs (all-as visible (without 10) (visible-without 10 (omega arith)) fs d))
+
+  -- A line of such fields is the first line of whatever it begins.
+  pub first-line : firstLine ((f ++ tabbed fs) ++ 10 ∷ rest) ≡ f ++ tabbed fs
+  first-line = rw (feed-behind (f ++ tabbed fs) rest no-feed) (take-at (f ++ tabbed fs) (10 ∷ rest) (length (f ++ tabbed fs)) refl)
+
+  -- The lines behind it are those of the rest.
+  pub line-back : linesOf ((f ++ tabbed fs) ++ 10 ∷ rest) ≡ (f ++ tabbed fs) ∷ linesOf rest
+  line-back = line-feed (f ++ tabbed fs) rest no-feed

@@ -1,4 +1,4 @@
--- Keys and prefixes have at most 63 bytes.
+-- Keys and prefixes: at most 63 bytes, each of which may stand in a key.
 use Prim.Native.Nat.{ℕ, _≤_}
 use mathlib.Core.Path.{_≡_}
 use mathlib.Core.Logic.{inl, inr}
@@ -8,7 +8,7 @@ use lib.Dec.{eqb, ltb}
 use lib.ListN.{length}
 use borrow.Author.Tests.{ltb-false}
 use Rattle.buffers.proofs.Tests.{either}
-use Rattle.text.specs.Keys.{isPrefix, isKey}
+use Rattle.text.specs.Keys.{keyBytes, isPrefix, isKey}
 
 pub prefix-short : (k : List ℕ) → isPrefix k ≡ true → length k ≤ 63
 unfolding isPrefix
@@ -18,10 +18,22 @@ prefix-short k e =
       | inr t ↦ ltb-false 63 (length k) t
     ]
 
-pub key-short : (k : List ℕ) → isKey k ≡ true → length k ≤ 63
+pub prefix-bytes : (k : List ℕ) → isPrefix k ≡ true → keyBytes k ≡ true
+unfolding isPrefix
+prefix-bytes k e =
+    elim (either (ltb 63 (length k))) [
+      | inl t ↦ absurd (false≢true (rw t at e))
+      | inr t ↦ rw t at e
+    ]
+
+-- A key is a prefix.
+pub key-prefix : (k : List ℕ) → isKey k ≡ true → isPrefix k ≡ true
 unfolding isKey
-key-short k e =
+key-prefix k e =
     elim (either (eqb (length k) 0)) [
       | inl t ↦ absurd (false≢true (rw t at e))
-      | inr t ↦ prefix-short k (rw t at e)
+      | inr t ↦ rw t at e
     ]
+
+pub key-short : (k : List ℕ) → isKey k ≡ true → length k ≤ 63
+key-short k e = prefix-short k (key-prefix k e)

@@ -1,6 +1,6 @@
 -- Every printed number reads back as the same number, and no tab stands in it.
 use Prim.Native.Nat.{ℕ, zero, suc, _+_, _-_, _*_, _/_, _%_, _≤_, _<_}
-use mathlib.Core.Path.{_≡_, refl, _∙_}
+use mathlib.Core.Path.{_≡_, refl, sym, ap, _∙_}
 use mathlib.Core.Bool.{Bool, true, false}
 use mathlib.Core.List.{List, [], _∷_, _++_}
 use mathlib.Core.Option.{some}
@@ -78,6 +78,12 @@ unfolding numberOf digits
 number-back k n h =
     let s = up-some (suc n) n (omega arith) in
     simp (ne-eqb (length (digitsUp (suc n) n)) 0 (λ e. omega arith), no-zero-first n, up-digits (suc n) n, up-spelt (suc n) n (omega arith), le-ltb k n h)
+
+-- Different numbers are printed differently.
+pub digits-one-number : (m n : ℕ) → digits m ≡ digits n → m ≡ n
+digits-one-number m n e =
+    let s : some m ≡ some n = sym (number-back (m + n) m (omega arith)) ∙ ap (numberOf (m + n)) e ∙ number-back (m + n) n (omega arith) in
+    cc
 
 -- Only digits are printed.
 pub digits-all : (n : ℕ) → all isDigit (digits n) ≡ true

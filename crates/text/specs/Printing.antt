@@ -13,6 +13,12 @@ digitsUp (suc f) n = pick (ltb n 10) ((48 + n) ∷ []) (digitsUp f (n / 10) ++ (
 unfoldable pub digits : ℕ → List ℕ
 digits n = digitsUp (suc n) n
 
--- two digits, those of a number below 100
+-- two digits, those of a number below 100, zeros in front; four and eight likewise
 abbrev pub pairOf : ℕ → List ℕ
 pairOf n = (48 + n / 10) ∷ (48 + n % 10) ∷ []
+
+abbrev pub fourOf : ℕ → List ℕ
+fourOf n = pairOf (n / 100) ++ pairOf (n % 100)
+
+abbrev pub eightOf : ℕ → List ℕ
+eightOf n = fourOf (n / 10000) ++ fourOf (n % 10000)

@@ -9,7 +9,7 @@ ghost use Rattle.text.specs.Numbers.{valueOf, isDigit, leadingZero, digi
 ghost use Rattle.text.specs.Fields.{tabsIn, startOf, fieldOf, placeOf, partOf, Split};
 ghost use Rattle.text.specs.Lines.{feedAt};
 ghost use Rattle.text.specs.Keys.{isKeyByte, keyBytes, isPrefix, isKey, contains};
-ghost use Rattle.text.specs.Printing.{pairOf, digits};
+ghost use Rattle.text.specs.Printing.{pairOf, fourOf, eightOf, digits};
 
 // A number that was read, or one that can't be read.
 pub enum Value {
@@ -320,18 +320,74 @@ fn print_pair(out: &mut [u8], at: usize, n: u64) -> usize
     at + 2
 }
 
-// Writes the digits of n from `at` on, and returns the place after them.
-pub fn print_number(out: &mut [u8], at: usize, n: u64) -> usize
-    requires { ⌜ at + 20 ≤ length (now out) ⌝ }
-    ensures { λ r. ⌜ Wrote (now (out .entry)) at (digits n) 20 (now (out .exit)) r ⌝ }
+// Writes four digits, those of a number below 10000.
+fn print_four(out: &mut [u8], at: usize, n: u64) -> usize
+    requires { ⌜ (at + 4 ≤ length (now out)) × (n < 10000) ⌝ }
+    ensures { λ r. ⌜ Wrote (now (out .entry)) at (fourOf n) 4 (now (out .exit)) r ⌝ }
+{
+    let next = print_pair(out, at, n / 100);
+    print_pair(out, next, n % 100)
+}
+
+// Writes eight digits, those of a number below 100000000.
+fn print_eight(out: &mut [u8], at: usize, n: u64) -> usize
+    requires { ⌜ (at + 8 ≤ length (now out)) × (n < 100000000) ⌝ }
+    ensures { λ r. ⌜ Wrote (now (out .entry)) at (eightOf n) 8 (now (out .exit)) r ⌝ }
+{
+    let next = print_four(out, at, n / 10000);
+    print_four(out, next, n % 10000)
+}
+
+// Writes the digits of a number below 100.
+fn print_first_pair(out: &mut [u8], at: usize, n: u64) -> usize
+    requires { ⌜ (at + 2 ≤ length (now out)) × (n < 100) ⌝ }
+    ensures { λ r. ⌜ Wrote (now (out .entry)) at (digits n) 2 (now (out .exit)) r ⌝ }
 {
     if n < 10 {
         out[at] = (48 + n) as u8;
         return at + 1;
     }
+    print_pair(out, at, n)
+}
+
+// Writes the digits of a number below 10000.
+fn print_first_four(out: &mut [u8], at: usize, n: u64) -> usize
+    requires { ⌜ (at + 4 ≤ length (now out)) × (n < 10000) ⌝ }
+    ensures { λ r. ⌜ Wrote (now (out .entry)) at (digits n) 4 (now (out .exit)) r ⌝ }
+{
     if n < 100 {
-        return print_pair(out, at, n);
+        return print_first_pair(out, at, n);
     }
-    let next = print_number(out, at, n / 100);
+    let next = print_first_pair(out, at, n / 100);
     print_pair(out, next, n % 100)
+}
+
+// Writes the digits of a number below 100000000.
+fn print_first_eight(out: &mut [u8], at: usize, n: u64) -> usize
+    requires { ⌜ (at + 8 ≤ length (now out)) × (n < 100000000) ⌝ }
+    ensures { λ r. ⌜ Wrote (now (out .entry)) at (digits n) 8 (now (out .exit)) r ⌝ }
+{
+    if n < 10000 {
+        return print_first_four(out, at, n);
+    }
+    let next = print_first_four(out, at, n / 10000);
+    print_four(out, next, n % 10000)
+}
+
+// Writes the digits of n from `at` on, and returns the place after them: eight at a time, since a division waits for the one before it.
+pub fn print_number(out: &mut [u8], at: usize, n: u64) -> usize
+    requires { ⌜ at + 20 ≤ length (now out) ⌝ }
+    ensures { λ r. ⌜ Wrote (now (out .entry)) at (digits n) 20 (now (out .exit)) r ⌝ }
+{
+    if n < 100000000 {
+        return print_first_eight(out, at, n);
+    }
+    let rest = n / 100000000;
+    if rest < 100000000 {
+        let next = print_first_eight(out, at, rest);
+        return print_eight(out, next, n % 100000000);
+    }
+    let first = print_first_four(out, at, rest / 100000000);
+    let next = print_eight(out, first, rest % 100000000);
+    print_eight(out, next, n % 100000000)
 }

@@ -1,10 +1,16 @@
 //! The answers of accepted lines, and refusals in print.
-use crate::bucket::{Row, BODY, HOLD, LENGTH, MODE, UNTIL, VERSION};
+use crate::bucket::{Block, Bucket, Row, BODY, CREATED, DATA, HOLD, KIND, LENGTH, MODE, UNTIL, VERSION};
 use crate::dates;
+use crate::pages::Page;
 use crate::requests::{COMPLIANCE, GOVERNANCE};
 
 /// The least bytes that an answer buffer must have.
 pub const LEAST_BUFFER: usize = 256;
+
+/// The least bytes that the answer buffer of a page of so many rows must have.
+pub fn page_buffer(count: usize) -> usize {
+    256 + 256 * count
+}
 
 #[derive(Clone, Copy, Debug, PartialEq, Eq)]
 pub enum Answer {
@@ -14,6 +20,7 @@ pub enum Answer {
     Removed { number: u64, marker: bool },
     Swept { removed: usize, added: usize },
     Got(Row),
+    Listed(Page),
 }
 
 /// A buffer that is filled from its start.
@@ -36,13 +43,14 @@ impl Writer<'_> {
     fn number(&mut self, mut value: u64) {
         let mut digits = [0; 20];
         let mut at = digits.len();
-        loop {
+        while value >= 10 {
+            at -= 2;
+            dates::put_two(&mut digits[at..at + 2], value % 100);
+            value /= 100;
+        }
+        if value > 0 || at == digits.len() {
             at -= 1;
-            digits[at] = b'0' + (value % 10) as u8;
-            value /= 10;
-            if value == 0 {
-                break;
-            }
+            digits[at] = b'0' + value as u8;
         }
         self.word(&digits[at..]);
     }
@@ -51,6 +59,11 @@ impl Writer<'_> {
         self.number(row[VERSION]);
         self.number(row[BODY]);
         self.number(row[LENGTH]);
+        self.lock(row);
+    }
+
+    /// Mode and date, each `-` where there is none, and hold.
+    fn lock(&mut self, row: &Row) {
         match row[MODE] {
             GOVERNANCE => self.word(b"GOVERNANCE"),
             COMPLIANCE => self.word(b"COMPLIANCE"),
@@ -63,10 +76,33 @@ impl Writer<'_> {
         }
         self.word(if row[HOLD] == 1 { b"ON" } else { b"OFF" });
     }
+
+    /// A row's line in a page.
+    fn listed(&mut self, key: &Block, row: &Row) {
+        self.text(&key[1..=key[0] as usize]);
+        self.number(row[VERSION]);
+        self.word(if row[KIND] == DATA { b"data" } else { b"marker" });
+        self.word(&dates::print(row[CREATED]));
+        if row[KIND] == DATA {
+            self.number(row[BODY]);
+            self.number(row[LENGTH]);
+        } else {
+            self.word(b"-");
+            self.word(b"-");
+        }
+        self.lock(row);
+        self.text(b"\n");
+    }
+
+    fn page(&mut self, bucket: &Bucket, page: &Page) {
+        for at in page.from..page.from + page.rows {
+            self.listed(&bucket.keys[at], &bucket.rows[at]);
+        }
+    }
 }
 
-/// Writes an answer at the start of a buffer of at least 256 bytes, and says how long it is.
-pub fn write(answer: &Answer, buffer: &mut [u8]) -> usize {
+/// Writes an answer at the start of a buffer that is not too short for it, and says how long it is.
+pub fn write(answer: &Answer, bucket: &Bucket, buffer: &mut [u8]) -> usize {
     let mut writer = Writer { buffer, length: 0 };
     writer.text(b"ok");
     match answer {
@@ -85,8 +121,12 @@ pub fn write(answer: &Answer, buffer: &mut [u8]) -> usize {
             writer.number(*added as u64);
         }
         Answer::Got(row) => writer.row(row),
+        Answer::Listed(page) => writer.number(page.rows as u64),
     }
     writer.text(b"\n");
+    if let Answer::Listed(page) = answer {
+        writer.page(bucket, page);
+    }
     writer.length
 }
 

@@ -1,6 +1,6 @@
 //! "Rows and settings": the table, its order, and when the whole is sound.
 use crate::dates;
-use crate::settings::Settings;
+use crate::settings::{word, Settings};
 use std::cmp::Ordering;
 
 /// A key or a prefix: its length, its bytes, then zeros.
@@ -50,6 +50,14 @@ fn key_order(one: &Block, other: &Block) -> Ordering {
     one[1..].cmp(&other[1..])
 }
 
+/// Whether a prefix begins the key; a prefix that is longer differs from the zeros behind the key.
+pub fn begins(prefix: &Block, key: &Block) -> bool {
+    let length = prefix[0] as usize;
+    let differ = word(&prefix[1..9]) ^ word(&key[1..9]);
+    let alike = differ.trailing_zeros() as usize / 8;
+    alike >= length.min(8) && (length <= 8 || prefix[9..=length] == key[9..=length])
+}
+
 /// The bucket: settings, and a table of as many rows as its capacity.
 #[derive(Clone, Debug, PartialEq, Eq)]
 pub struct Bucket {
@@ -73,7 +81,7 @@ impl Bucket {
     }
 
     /// The first place whose row stands at or after this version of the key.
-    fn place(&self, key: &Block, version: u64) -> usize {
+    pub fn place(&self, key: &Block, version: u64) -> usize {
         let (mut low, mut high) = (0, self.used());
         while low < high {
             let middle = (low + high) / 2;

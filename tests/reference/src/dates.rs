@@ -80,11 +80,20 @@ pub fn read(text: &[u8]) -> Option<u64> {
     Some(days * DAY + ((hour * 60 + minute) * 60 + second) * 1000 + thousandths)
 }
 
-fn put_digits(out: &mut [u8], mut value: u64) {
-    for place in out.iter_mut().rev() {
-        *place = b'0' + (value % 10) as u8;
-        value /= 10;
+/// The digits of each number below 100.
+const TWO_DIGITS: [[u8; 2]; 100] = {
+    let mut digits = [[b'0'; 2]; 100];
+    let mut value = 0;
+    while value < 100 {
+        digits[value] = [b'0' + (value / 10) as u8, b'0' + (value % 10) as u8];
+        value += 1;
     }
+    digits
+};
+
+/// Writes the two digits of a value below 100.
+pub fn put_two(out: &mut [u8], value: u64) {
+    out.copy_from_slice(&TWO_DIGITS[value as usize]);
 }
 
 /// The date of an instant, with exactly three fraction digits.
@@ -98,19 +107,21 @@ pub fn print(instant: u64) -> [u8; PRINTED] {
         year += 1;
     }
     let mut left = days - days_before_year(year);
-    let mut month = 12;
-    while days_before_month(year, month) > left {
-        month -= 1;
+    let mut month = 1 + left / 32;
+    while month < 12 && days_before_month(year, month + 1) <= left {
+        month += 1;
     }
     left -= days_before_month(year, month);
     let mut out = *b"0000-00-00T00:00:00.000Z";
-    put_digits(&mut out[0..4], year);
-    put_digits(&mut out[5..7], month);
-    put_digits(&mut out[8..10], left + 1);
-    put_digits(&mut out[11..13], within / 3600000);
-    put_digits(&mut out[14..16], within / 60000 % 60);
-    put_digits(&mut out[17..19], within / 1000 % 60);
-    put_digits(&mut out[20..23], within % 1000);
+    put_two(&mut out[0..2], year / 100);
+    put_two(&mut out[2..4], year % 100);
+    put_two(&mut out[5..7], month);
+    put_two(&mut out[8..10], left + 1);
+    put_two(&mut out[11..13], within / 3600000);
+    put_two(&mut out[14..16], within / 60000 % 60);
+    put_two(&mut out[17..19], within / 1000 % 60);
+    put_two(&mut out[20..22], within / 10 % 100);
+    out[22] = b'0' + (within % 10) as u8;
     out
 }
 

@@ -14,10 +14,10 @@ impl Bucket {
         refuse(answer.len() < LEAST_BUFFER, SHORT_ANSWER)?;
         let request = requests::read(line).ok_or(UNREADABLE)?;
         let now = self.settings.time.max(request.clock);
-        screen(&request, now)?;
+        screen(&request, now, answer.len())?;
         let said = self.carry_out(&request.verb, now)?;
         self.settings.time = now;
-        Ok(answers::write(&said, answer))
+        Ok(answers::write(&said, self, answer))
     }
 
     /// The bucket that bytes say, sound or not, if their lengths fit one capacity.

@@ -1,4 +1,4 @@
-//! The locked bucket of the gauge hub, written from document 01 and from nothing else.
+//! The locked bucket of the gauge hub, written from document 01 and its change requests and from nothing else.
 //!
 //! The modules follow the document's sections. The engine that is proved is compared with this one.
 #![forbid(unsafe_code)]
@@ -8,6 +8,7 @@ pub mod bucket;
 pub mod dates;
 pub mod entry;
 pub mod locks;
+pub mod pages;
 pub mod program;
 pub mod refusals;
 pub mod requests;

@@ -1,4 +1,5 @@
-//! "The twelve refusals": their numbers, and those that the request's own fields decide.
+//! "The twelve refusals" and the thirteenth: their numbers, and those that the request's own fields decide.
+use crate::answers::page_buffer;
 use crate::requests::{self as right, Request, Retention, Verb};
 
 pub const UNSOUND: u64 = 1;
@@ -13,6 +14,7 @@ pub const LOCKED: u64 = 9;
 pub const DATE_TOO_FAR: u64 = 10;
 pub const NUMBERS_SPENT: u64 = 11;
 pub const FULL: u64 = 12;
+pub const SHORT_FOR_PAGE: u64 = 13;
 
 /// Refuses with a number where the test holds.
 pub fn refuse(when: bool, number: u64) -> Result<(), u64> {
@@ -62,7 +64,7 @@ fn needed_rights(verb: &Verb) -> u8 {
         Verb::Hold { .. } => right::LEGAL_HOLD,
         Verb::Delete { bypass, .. } => right::DELETE | bypass_right(*bypass),
         Verb::Default { .. } | Verb::Rule { .. } | Verb::Sweep => right::CONFIGURE,
-        Verb::Get { .. } => right::READ,
+        Verb::Get { .. } | Verb::List { .. } => right::READ,
     }
 }
 
@@ -75,9 +77,18 @@ fn given_date(verb: &Verb) -> Option<u64> {
     }
 }
 
-/// Refusals 4 to 6.
-pub fn screen(request: &Request, now: u64) -> Result<(), u64> {
+/// Whether a page's answer buffer has too few bytes for the rows that it asks for, be they there or not.
+fn short_for_page(verb: &Verb, room: usize) -> bool {
+    match verb {
+        Verb::List { count, .. } => room < page_buffer(*count),
+        _ => false,
+    }
+}
+
+/// Refusals 4 and 5, then 13, then 6, for an answer buffer of so many bytes.
+pub fn screen(request: &Request, now: u64, room: usize) -> Result<(), u64> {
     refuse(half_given(&request.verb), HALF_GIVEN)?;
     refuse(needed_rights(&request.verb) & !request.rights != 0, NO_RIGHT)?;
+    refuse(short_for_page(&request.verb, room), SHORT_FOR_PAGE)?;
     refuse(given_date(&request.verb).is_some_and(|date| date <= now), DATE_PASSED)
 }

@@ -4,6 +4,8 @@ use crate::dates;
 use crate::settings::{DAYS, MAX_DAYS, MAX_YEARS, YEARS};
 
 pub const MAX_LINE: usize = 512;
+/// The most rows that a page may ask for.
+pub const MAX_PAGE: u64 = 1000;
 
 pub const GOVERNANCE: u64 = 1;
 pub const COMPLIANCE: u64 = 2;
@@ -41,6 +43,14 @@ pub struct Name<'a> {
     pub version: Option<u64>,
 }
 
+/// A place in the table's order, with or without a row of its own: version 0 is before the key's first row, and no key
+/// with it is the start.
+#[derive(Clone, Copy, Debug, PartialEq, Eq)]
+pub struct Place<'a> {
+    pub key: &'a [u8],
+    pub version: u64,
+}
+
 #[derive(Clone, Copy, Debug, PartialEq, Eq)]
 pub struct Period {
     pub count: u64,
@@ -58,6 +68,7 @@ pub enum Verb<'a> {
     Rule { number: usize, prefix: &'a [u8], current: u64, noncurrent: u64 },
     Sweep,
     Get { name: Name<'a> },
+    List { prefix: &'a [u8], after: Place<'a>, count: usize },
 }
 
 /// The fields of a line that are still to be read.
@@ -91,6 +102,11 @@ impl<'a> Fields<'a> {
 
     fn name(&mut self) -> Option<Name<'a>> {
         Some(Name { key: self.key()?, version: missing(self.next()?, version)? })
+    }
+
+    fn place(&mut self) -> Option<Place<'a>> {
+        let place = Place { key: self.prefix()?, version: self.number(MAX_VERSION)? };
+        (!place.key.is_empty() || place.version == 0).then_some(place)
     }
 
     fn retention(&mut self) -> Option<Retention> {
@@ -216,6 +232,11 @@ fn verb<'a>(word: &[u8], fields: &mut Fields<'a>) -> Option<Verb<'a>> {
         },
         b"SWEEP" => Verb::Sweep,
         b"GET" => Verb::Get { name: fields.name()? },
+        b"LIST" => Verb::List {
+            prefix: fields.prefix()?,
+            after: fields.place()?,
+            count: fields.number(MAX_PAGE).filter(|&count| count > 0)? as usize,
+        },
         _ => return None,
     })
 }

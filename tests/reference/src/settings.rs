@@ -56,12 +56,9 @@ impl Rule {
             && (!absent || *self == Rule::ABSENT)
     }
 
-    /// Whether the rule's prefix begins the key; a prefix that is longer differs from the zeros behind the key.
+    /// Whether the rule's prefix begins the key.
     pub fn covers(&self, key: &Block) -> bool {
-        let length = self.prefix[0] as usize;
-        let differ = word(&self.prefix[1..9]) ^ word(&key[1..9]);
-        let alike = differ.trailing_zeros() as usize / 8;
-        alike >= length.min(8) && (length <= 8 || self.prefix[9..=length] == key[9..=length])
+        bucket::begins(&self.prefix, key)
     }
 }
 

@@ -37,6 +37,7 @@ impl Bucket {
             }
             Verb::Sweep => self.sweep_line(now),
             Verb::Get { name } => Ok(Answer::Got(self.rows[self.named_data(name)?])),
+            Verb::List { prefix, after, count } => Ok(Answer::Listed(self.page(prefix, after, count))),
         }
     }
 

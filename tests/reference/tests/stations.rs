@@ -2,7 +2,7 @@
 use std::fs;
 use std::path::PathBuf;
 
-/// The bytes that a cell of the page stands for: `¦` is a tab, `{k*63}` 63 letters k, `{7F}` the byte 0x7F.
+/// The bytes that a cell of the page stands for: `¦` is a tab, `↵` a line feed, `{k*63}` 63 letters k, `{7F}` the byte 0x7F.
 fn bytes_of(cell: &str) -> Vec<u8> {
     let cell = cell.trim();
     if cell == "(empty)" {
@@ -15,6 +15,7 @@ fn bytes_of(cell: &str) -> Vec<u8> {
         rest = &rest[c.len_utf8()..];
         match c {
             '¦' => bytes.push(b'\t'),
+            '↵' => bytes.push(b'\n'),
             '{' => {
                 let (word, behind) = rest.split_once('}').expect("a closing brace");
                 rest = behind;
@@ -41,6 +42,7 @@ fn the_files_are_those_of_the_page() {
         count += 1;
         assert_eq!(cells[1].trim(), count.to_string(), "the stations are numbered");
         let line = bytes_of(cells[2]);
+        assert!(!line.contains(&b'\n'), "a request is one line");
         if let Some(said) = cells[4].trim().strip_prefix("a line of ") {
             let (length, _) = said.split_once(' ').expect("a length");
             assert_eq!(line.len().to_string(), length, "station {count} is as long as it says");

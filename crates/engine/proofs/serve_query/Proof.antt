@@ -8,13 +8,11 @@ pub serve-query-spec : {M : Type 1} → statement M
 serve-query-spec =
     tie.close
     (tie.spec
-    (λ c κs. search needs)
-    (λ c κs. search (needs, queries))
-    (λ c. search needs)
-    (λ c κs. search needs)
     (λ c. search needs)
     (λ c κs. search (needs, queries))
-    (λ c κs. search needs)
-    (λ c. search (needs, queries))
     (λ c. search needs)
-    (λ c. search (needs, queries)))
+    (λ c κs. search (needs, queries))
+    (λ c. search needs)
+    (λ c. search needs)
+    (λ c. search needs)
+    (λ c. search needs))

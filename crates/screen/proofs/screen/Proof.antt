@@ -13,5 +13,7 @@ screen-spec =
     (λ c κs. search (needs, refusals))
     (λ c κs. search (needs, refusals))
     (λ c. search (needs, refusals))
+    (λ c κs. search (needs, refusals))
+    (λ c. search (needs, refusals))
     (λ c. search (needs, refusals))
     (λ c. search (needs, refusals)))

@@ -1,6 +1,7 @@
 //! Writes a load: request lines that fill a table and then go on around so many rows, the same for each run.
 //!
 //! `loads NAME ROWS LINES` prints the lines; the share that the reference accepts goes to standard error.
+use reference::answers::page_buffer;
 use reference::bucket::{DATA, KIND, UNTIL, VERSION};
 use reference::locks::locked;
 use reference::{dates, Bucket};
@@ -47,7 +48,11 @@ fn date(instant: u64) -> String {
 impl Load {
     fn new(name: &str, rows: usize) -> Load {
         let mut random = Random::new(1, 1);
-        let count = if name == "sweeps" { rows * 5 / 8 } else { rows.div_ceil(2) };
+        let count = match name {
+            "sweeps" => rows * 5 / 8,
+            "pages" => rows.div_ceil(4),
+            _ => rows.div_ceil(2),
+        };
         let keys = (0..count).map(|_| key(&mut random)).collect();
         let step = if name == "sweeps" { 600000 } else { 2000 };
         Load { bucket: Bucket::fresh(CAPACITY), random, keys, clock: START, step, rows }
@@ -82,11 +87,15 @@ impl Load {
         at
     }
 
+    fn key_at(&self, at: usize) -> String {
+        let block = &self.bucket.keys[at];
+        String::from_utf8_lossy(&block[1..=block[0] as usize]).into_owned()
+    }
+
     /// The key and version fields that name a row, the current one half the time by `-`.
     fn name(&mut self, at: usize) -> String {
-        let block = &self.bucket.keys[at];
-        let key = String::from_utf8_lossy(&block[1..=block[0] as usize]).to_string();
-        let current = self.bucket.first_place(block) == at;
+        let key = self.key_at(at);
+        let current = self.bucket.first_place(&self.bucket.keys[at]) == at;
         if current && self.random.once_in(2) {
             return format!("{key}\t-");
         }
@@ -101,9 +110,7 @@ impl Load {
     /// Removes a version of any kind, with bypass where it is locked.
     fn remove(&mut self) -> String {
         let at = self.random.below(self.bucket.used());
-        let block = &self.bucket.keys[at];
-        let key = String::from_utf8_lossy(&block[1..=block[0] as usize]);
-        let row = &self.bucket.rows[at];
+        let (key, row) = (self.key_at(at), &self.bucket.rows[at]);
         let (rights, bypass) = if locked(row, self.clock, false) { ("db", "yes") } else { ("d", "no") };
         format!("{rights}\tDELETE\t{key}\t{}\t{bypass}", row[VERSION])
     }
@@ -134,6 +141,15 @@ impl Load {
         format!("h\tHOLD\t{}\t{on}", self.name(at))
     }
 
+    /// A page of all keys or of one prefix, from the start or after some row of it.
+    fn list(&mut self, count: usize) -> String {
+        let at = self.random.below(self.bucket.used());
+        let (key, version) = (self.key_at(at), self.bucket.rows[at][VERSION]);
+        let prefix = PREFIXES.iter().find(|prefix| key.starts_with(*prefix) && self.random.once_in(2));
+        let place = if self.random.once_in(2) { "\t0".to_string() } else { format!("{key}\t{version}") };
+        format!("r\tLIST\t{}\t{place}\t{count}", prefix.unwrap_or(&""))
+    }
+
     /// A rule for each prefix but the last, and one for every key.
     fn rule(&mut self, number: usize) -> String {
         let prefix = if number == 7 { "" } else { PREFIXES[number] };
@@ -158,7 +174,8 @@ impl Load {
             return Some(self.rule(number));
         }
         if number < self.rows {
-            return Some(self.put());
+            let marked = name == "pages" && self.random.once_in(8);
+            return Some(if marked { self.mark() } else { self.put() });
         }
         let rows = self.rows;
         let spread = rows.div_ceil(50);
@@ -169,6 +186,7 @@ impl Load {
             ("retention", 0..=3) => self.retain(),
             ("retention", 4..=5) => self.hold(),
             ("retention", _) => self.get(),
+            ("pages", _) => self.list(if number % 2 == 0 { 10 } else { 200 }),
             ("sweeps", 0..=1) if self.bucket.used() < CAPACITY => self.put(),
             ("sweeps", _) => "c\tSWEEP".to_string(),
             _ => return None,
@@ -179,7 +197,7 @@ impl Load {
 /// Writes the lines and returns how many of them the reference accepts, if the load is known.
 fn write(name: &str, rows: usize, lines: usize, out: &mut impl Write) -> io::Result<Option<usize>> {
     let mut load = Load::new(name, rows);
-    let mut answer = [0; 256];
+    let mut answer = vec![0; page_buffer(200)];
     let mut accepted = 0;
     for number in 0..lines {
         load.clock = START + load.step * number as u64;
@@ -202,7 +220,7 @@ fn main() -> io::Result<()> {
     };
     let mut out = BufWriter::new(io::stdout().lock());
     let Some(accepted) = write(name, rows, lines, &mut out)? else {
-        return Err(io::Error::other("the loads are mixed, churn, retention and sweeps"));
+        return Err(io::Error::other("the loads are mixed, churn, retention, sweeps and pages"));
     };
     out.flush()?;
     eprintln!("{name}: {:.1} % of the lines accepted", 100.0 * accepted as f64 / lines as f64);

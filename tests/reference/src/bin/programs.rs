@@ -156,16 +156,38 @@ fn compare(engine: &str, reference: &str, lines: &[Vec<u8>]) -> io::Result<usize
     Ok(runs)
 }
 
-/// Each line is answered before the next one comes, also where it comes in two pieces.
+/// The lines that an answer has behind its first one: those of a page's rows.
+fn rows_shown(line: &[u8], first: &[u8]) -> usize {
+    let listed = line.split(|&byte| byte == b'\t').nth(2) == Some(b"LIST");
+    let count = first.strip_prefix(b"ok\t").filter(|_| listed).map(String::from_utf8_lossy);
+    count.map_or(0, |count| count.trim_end().parse().unwrap_or(0))
+}
+
+/// What was printed, parted into an answer for each line that was asked.
+fn parted<'a>(asked: &[&[u8]], mut printed: &'a [u8]) -> Option<Vec<&'a [u8]>> {
+    let mut answers = Vec::new();
+    for line in asked {
+        let mut feeds = (0..printed.len()).filter(|&at| printed[at] == b'\n');
+        let first = feeds.next()?;
+        let end = match rows_shown(line, &printed[..first]) {
+            0 => first,
+            rows => feeds.nth(rows - 1)?,
+        };
+        let (answer, rest) = printed.split_at(end + 1);
+        answers.push(answer);
+        printed = rest;
+    }
+    printed.is_empty().then_some(answers)
+}
+
+/// Each of the first and of the last lines is answered before the next one comes, also where it comes in two pieces.
 fn converse(engine: &str, reference: &str, lines: &[Vec<u8>]) -> io::Result<usize> {
     let mut random = Random::new(2, 0);
-    let input = mixed(&lines[..lines.len().min(1000)], &mut random);
+    let count = lines.len().min(700);
+    let input = mixed(&[&lines[..count], &lines[lines.len() - count..]].concat(), &mut random);
     let asked: Vec<&[u8]> = input.split_inclusive(|&byte| byte == b'\n').collect();
     let printed = printed(reference, vec![input.clone()])?;
-    let answers: Vec<&[u8]> = printed.split_inclusive(|&byte| byte == b'\n').collect();
-    if asked.len() != answers.len() {
-        return Err(Error::other("not one answer for each line"));
-    }
+    let answers = parted(&asked, &printed).ok_or_else(|| Error::other("not one answer for each line"))?;
     let mut running = Running::start(engine)?;
     for (line, answer) in asked.iter().zip(&answers) {
         let (start, end) = line.split_at(random.below(line.len()));

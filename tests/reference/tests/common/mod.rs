@@ -14,8 +14,13 @@ impl Hub {
 
     /// The answer to a line, as `bucketrun` prints it; a refusal changes nothing.
     pub fn say(&mut self, line: &str) -> String {
+        self.say_in(300, line)
+    }
+
+    /// The answer to a line with an answer buffer of so many bytes.
+    pub fn say_in(&mut self, room: usize, line: &str) -> String {
         let before = self.bucket.clone();
-        let mut answer = [b'?'; 300];
+        let mut answer = vec![b'?'; room];
         let said = match self.bucket.serve(line.replace('|', "\t").as_bytes(), &mut answer) {
             Ok(length) => {
                 assert!(answer[length..].iter().all(|&byte| byte == b'?'), "bytes after the answer");
@@ -23,7 +28,7 @@ impl Hub {
             }
             Err(number) => {
                 assert_eq!(before, self.bucket, "a refusal changes nothing");
-                assert_eq!(answer, [b'?'; 300], "a refusal writes nothing");
+                assert!(answer.iter().all(|&byte| byte == b'?'), "a refusal writes nothing");
                 format!("no\t{number}\n")
             }
         };

@@ -26,4 +26,8 @@ read-other-spec =
     (λ c κs. search needs)
     (λ c κs. search needs)
     (λ c. search tests depth 16)
+    (λ c. search needs)
+    (λ c κs. search needs)
+    (λ c κs. search needs)
+    (λ c. search tests depth 16)
     (λ c. search tests depth 16))

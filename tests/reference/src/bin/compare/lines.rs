@@ -1,11 +1,13 @@
 //! Request lines that fit the bucket's state often enough to reach every number.
 use crate::random::Random;
 use crate::sides::Side;
-use reference::bucket::{CREATED, MAX_LENGTH, UNTIL, VERSION};
+use reference::bucket::{CREATED, MAX_LENGTH, MAX_VERSION, UNTIL, VERSION};
 use reference::dates::{self, DAY, LAST};
 use reference::settings::DefaultRetention;
 
 const KEYS: [&str; 8] = ["a", "b", "a/1", "a/2", "a/", "-", "!", "~"];
+/// The key and version fields of the place before every row.
+pub const START: &str = "\t0";
 const PREFIXES: [&str; 6] = ["", "a", "a/", "-", "b", "zz"];
 
 /// A random line over the state of a bucket.
@@ -105,7 +107,8 @@ impl Maker<'_> {
     fn key(&mut self) -> String {
         match self.random.below(40) {
             0 => "k".repeat(63),
-            1 => format!("r{}", self.random.below(100000)),
+            1 => self.long_key(),
+            2 => format!("r{}", self.random.below(100000)),
             _ => {
                 let count = self.keys.min(KEYS.len());
                 KEYS[self.random.below(count)].into()
@@ -113,13 +116,24 @@ impl Maker<'_> {
         }
     }
 
+    /// A key that differs from others like it only behind some words of eight bytes, or just before their end.
+    fn long_key(&mut self) -> String {
+        let alike = self.random.pick(&[6, 7, 8, 9, 15, 16, 24, 31, 32, 61]);
+        format!("{}{}", "k".repeat(alike), self.random.pick(&["", "!", "~", "~k"]))
+    }
+
+    /// The key and the version number of a row.
+    fn named(&self, at: usize) -> (String, u64) {
+        let block = &self.side.keys.seen()[64 * at..64 * at + 64];
+        let key = String::from_utf8_lossy(&block[1..=(block[0] as usize).min(63)]).into_owned();
+        (key, self.side.rows.word(64 * at + 8 * VERSION))
+    }
+
     /// A key and a version field, mostly of a row that is there.
     fn name(&mut self) -> String {
         if let (false, Some(at)) = (self.random.once_in(8), self.row()) {
-            let block = &self.side.keys.seen()[64 * at..64 * at + 64];
-            let key = String::from_utf8_lossy(&block[1..=(block[0] as usize).min(63)]).into_owned();
-            let version = self.side.rows.word(64 * at + 8 * VERSION).to_string();
-            let version = if self.random.once_in(4) { "-".into() } else { version };
+            let (key, version) = self.named(at);
+            let version = if self.random.once_in(4) { "-".into() } else { version.to_string() };
             return format!("{key}\t{version}");
         }
         let version = ["-", "1", "2", "5", "4294967295"][self.random.below(5)];
@@ -174,8 +188,66 @@ impl Maker<'_> {
         format!("RULE\t{number}\t{prefix}\t{}\t{}", self.days(), self.days())
     }
 
+    /// A prefix, mostly some first bytes of a key that is there.
+    fn prefix(&mut self) -> String {
+        match self.row() {
+            Some(at) if !self.random.once_in(4) => {
+                let (key, _) = self.named(at);
+                let length = self.random.below(key.len() + 1);
+                key.chars().take(length).collect()
+            }
+            _ => self.random.pick(&PREFIXES).into(),
+        }
+    }
+
+    /// The key and version fields of a place: at, before or behind a row that is there, or anywhere.
+    fn place(&mut self) -> String {
+        let any = self.random.pick(&[0, 0, 1, 2, 5, 100, MAX_VERSION]);
+        let Some(at) = self.row().filter(|_| !self.random.once_in(6)) else {
+            return if self.random.once_in(2) { START.into() } else { format!("{}\t{any}", self.key()) };
+        };
+        let (key, number) = self.named(at);
+        match self.random.below(10) {
+            0 => format!("{key}\t0"),
+            1 => format!("{key}\t{}", number.saturating_sub(1)),
+            2 => format!("{key}\t{}", number.saturating_add(1)),
+            3 => format!("{key}\t{any}"),
+            4 => format!("{key}!\t{any}"),
+            5 => format!("{}\t{any}", self.prefix()),
+            _ => format!("{key}\t{number}"),
+        }
+    }
+
+    fn used(&self) -> usize {
+        self.side.settings.word(8) as usize
+    }
+
+    /// A page's count: mostly small, some at or over its limits, some up to as many as there are rows.
+    fn count(&mut self) -> usize {
+        match self.random.below(16) {
+            0 => self.random.pick(&[0, 999, 1000, 1001]),
+            1 => self.random.pick(&[254, 255, 256, 1000]),
+            2..=4 => 1 + self.random.below(1 + self.used().min(999)),
+            5..=6 => 1 + self.random.below(40),
+            _ => 1 + self.random.below(4),
+        }
+    }
+
+    /// A prefix and a count whose pages are to be followed: at most some forty of them.
+    pub fn pages(&mut self) -> (String, usize) {
+        let least = 1 + self.used() / 40;
+        let spread = self.random.pick(&[1, 1, 3, 10, 100, 900]);
+        (self.prefix(), least + self.random.below(spread))
+    }
+
+    /// The line that asks for one page.
+    pub fn page(&mut self, prefix: &str, place: &str, count: usize) -> Vec<u8> {
+        let instant = self.clock();
+        format!("{}\tr\tLIST\t{prefix}\t{place}\t{count}", self.date(instant)).into_bytes()
+    }
+
     fn verb(&mut self) -> String {
-        match self.random.below(100) {
+        match self.random.below(120) {
             0..=25 => self.put(),
             26..=36 => format!("COPY\t{}\t{}\t{}", self.name(), self.key(), self.new_row()),
             37..=50 => format!("RETAIN\t{}\t{}\t{}", self.name(), self.retention(5), self.bypass()),
@@ -185,7 +257,8 @@ impl Maker<'_> {
             77..=79 => self.default(),
             80..=84 => self.rule(),
             85..=91 => "SWEEP".into(),
-            _ => format!("GET\t{}", self.name()),
+            92..=99 => format!("GET\t{}", self.name()),
+            _ => format!("LIST\t{}\t{}\t{}", self.prefix(), self.place(), self.count()),
         }
     }
 

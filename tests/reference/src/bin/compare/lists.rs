@@ -1,10 +1,12 @@
 //! One list of lines, from a fresh bucket or a filled one.
 use crate::damage;
-use crate::lines::Maker;
+use crate::lines::{Maker, START};
 use crate::mutate::mutated;
 use crate::random::Random;
-use crate::sides::{Side, Sides};
+use crate::sides::{asks_for, Fault, Side, Sides};
 use crate::tally::Tally;
+use crate::{pages, plain};
+use reference::answers::{page_buffer, LEAST_BUFFER};
 use reference::Bucket;
 
 /// How one list is served.
@@ -45,9 +47,12 @@ fn shown(line: &[u8]) -> String {
 }
 
 impl List<'_> {
+    fn maker(&mut self) -> Maker<'_> {
+        Maker { random: &mut self.random, side: &self.sides.engine, keys: self.keys }
+    }
+
     fn line(&mut self) -> Vec<u8> {
-        let mut maker = Maker { random: &mut self.random, side: &self.sides.engine, keys: self.keys };
-        let line = maker.line();
+        let line = self.maker().line();
         if self.random.once_in(10) {
             mutated(&line, &mut self.random)
         } else {
@@ -55,29 +60,84 @@ impl List<'_> {
         }
     }
 
-    /// An answer buffer of some length that is full of junk.
-    fn lend_answer(&mut self) {
-        let length = match self.random.below(40) {
-            0 => self.random.below(256),
-            1 => 255,
-            2..=5 => 257 + self.random.below(100),
+    /// The length of a line's answer buffer: at, below or above the least that serves it.
+    fn some_room(&mut self, line: &[u8]) -> usize {
+        let least = asks_for(line).map_or(LEAST_BUFFER, page_buffer);
+        match self.random.below(40) {
+            0 => self.random.below(LEAST_BUFFER),
+            1 => LEAST_BUFFER - 1,
+            2..=5 => least + 1 + self.random.below(100),
             6 => 65536,
-            _ => 256,
-        };
+            7..=12 if least > LEAST_BUFFER => self.random.pick(&[LEAST_BUFFER, least - 1, least - 1]),
+            13 if least > LEAST_BUFFER => self.random.below(least),
+            _ => least,
+        }
+    }
+
+    /// An answer buffer of a length that is full of junk.
+    fn lend_answer(&mut self, length: usize) {
         let junk = self.random.next();
         let answer = &mut self.sides.engine.answer;
-        if answer.seen().len() != length {
-            answer.resize(length);
-        }
+        answer.refill(length, junk as u8);
         for (at, byte) in answer.bytes().iter_mut().take(400).enumerate() {
             *byte = (junk >> (at % 57)) as u8;
         }
     }
 
     fn serve(&mut self, line: &[u8]) -> Result<(), String> {
-        self.lend_answer();
+        let room = self.some_room(line);
+        self.serve_in(room, line).map(drop)
+    }
+
+    fn serve_in(&mut self, room: usize, line: &[u8]) -> Result<u64, String> {
+        self.lend_answer(room);
         let number = self.sides.serve(line).map_err(|difference| format!("{}\n{difference}", shown(line)))?;
         self.tally.count(line, number);
+        Ok(number)
+    }
+
+    /// The rows of the bucket, looked at one by one, that pages of a prefix are to show.
+    fn matching(&self, prefix: &str) -> Vec<String> {
+        let side = &self.sides.engine;
+        let bucket = Bucket::from_bytes(side.settings.seen(), side.rows.seen(), side.keys.seen());
+        let mut rows = plain::matching(&bucket.expect("the lengths fit"), prefix);
+        if self.sides.fault == Fault::Following {
+            rows.pop();
+        }
+        rows
+    }
+
+    /// The rows of the page after a place, as the engine's answer shows them.
+    fn page(&mut self, prefix: &str, place: &str, count: usize) -> Result<Vec<String>, String> {
+        let line = self.maker().page(prefix, place, count);
+        let number = self.serve_in(page_buffer(count), &line)?;
+        if number != 0 {
+            return Err(format!("{}\nthe page is refused with {number}", shown(&line)));
+        }
+        pages::shown(self.sides.engine.answer.seen()).ok_or(format!("{}\nno page is shown", shown(&line)))
+    }
+
+    /// Follows the pages of a prefix to their end: they show every matching row once and no others.
+    fn follow(&mut self) -> Result<(), String> {
+        let (prefix, count) = self.maker().pages();
+        let matching = self.matching(&prefix);
+        let (mut rows, mut place) = (Vec::new(), START.to_string());
+        loop {
+            let page = self.page(&prefix, &place, count)?;
+            let full = page.len() == count;
+            rows.extend(page);
+            self.tally.pages += 1;
+            if !full || rows.len() > matching.len() {
+                break;
+            }
+            place = pages::place_of(&rows[rows.len() - 1]);
+        }
+        self.tally.rows += rows.len() as u64;
+        if rows != matching {
+            return Err(format!(
+                "pages of {count} rows of the prefix {prefix:?} show other rows than match it"
+            ));
+        }
         Ok(())
     }
 
@@ -112,6 +172,7 @@ impl List<'_> {
             0..=2 => self.serve_changed(damage::bucket, &line)?,
             3 => self.serve_changed(damage::lengths, &line)?,
             4 if self.random.once_in(3) => damage::sound_change(&mut self.sides.engine, &mut self.random),
+            5 if self.random.once_in(3) => self.follow()?,
             _ => {}
         }
         self.serve(&line)
@@ -119,20 +180,21 @@ impl List<'_> {
 }
 
 /// Serves the next list of a run; an error says in which line the sides differ.
-pub fn run(seed: u64, broken: bool, tally: &mut Tally) -> Result<(), String> {
+pub fn run(seed: u64, fault: Fault, tally: &mut Tally) -> Result<(), String> {
     let mut random = Random::new(seed, tally.lists);
     let capacity = some_capacity(&mut random);
     let fill = capacity > 8 && random.once_in(3);
     let side = if fill { filled(capacity, &mut random) } else { Side::new(capacity) };
     let keys = 1 + random.below(8);
     let steps = 50 + random.below(300);
-    let mut list = List { sides: Sides::new(side, broken), random, keys, tally };
+    let mut list = List { sides: Sides::new(side, fault), random, keys, tally };
     if !fill {
         list.make_fresh()?;
     }
     for step in 0..steps {
         list.step().map_err(|said| format!("step {step}, capacity {capacity}, {said}"))?;
     }
+    list.follow()?;
     list.ask_keys()?;
     list.tally.served(&list.sides.served);
     Ok(())

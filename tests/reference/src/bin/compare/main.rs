@@ -4,10 +4,14 @@ mod engine;
 mod lines;
 mod lists;
 mod mutate;
+mod pages;
+#[path = "../shared/plain.rs"]
+mod plain;
 mod random;
 mod sides;
 mod tally;
 
+use sides::Fault;
 use std::env;
 use std::process::ExitCode;
 use std::time::{Duration, Instant, SystemTime, UNIX_EPOCH};
@@ -17,7 +21,7 @@ struct Options {
     seconds: u64,
     seed: u64,
     lists: u64,
-    broken: bool,
+    fault: Fault,
 }
 
 /// A seed that differs from run to run; it is printed.
@@ -26,14 +30,14 @@ fn some_seed() -> u64 {
 }
 
 fn options() -> Option<Options> {
-    let mut options = Options { seconds: 60, seed: some_seed(), lists: u64::MAX, broken: false };
+    let mut options = Options { seconds: 60, seed: some_seed(), lists: u64::MAX, fault: Fault::None };
     let mut words = env::args().skip(1);
     while let Some(word) = words.next() {
         match word.as_str() {
             "--seconds" => options.seconds = words.next()?.parse().ok()?,
             "--seed" => options.seed = words.next()?.parse().ok()?,
             "--lists" => options.lists = words.next()?.parse().ok()?,
-            "--break" => options.broken = true,
+            "--break" => options.fault = Fault::read(&words.next()?)?,
             _ => return None,
         }
     }
@@ -42,14 +46,14 @@ fn options() -> Option<Options> {
 
 fn main() -> ExitCode {
     let Some(options) = options() else {
-        eprintln!("usage: compare [--seconds N] [--seed S] [--lists N] [--break]");
+        eprintln!("usage: compare [--seconds N] [--seed S] [--lists N] [--break answer|page|following]");
         return ExitCode::from(2);
     };
     println!("seed {}", options.seed);
     let end = Instant::now() + Duration::from_secs(options.seconds);
     let mut tally = Tally::default();
     while tally.lists < options.lists && Instant::now() < end {
-        if let Err(difference) = lists::run(options.seed, options.broken, &mut tally) {
+        if let Err(difference) = lists::run(options.seed, options.fault, &mut tally) {
             println!("seed {}, list {}: DIFFERENCE\n{difference}", options.seed, tally.lists);
             return ExitCode::FAILURE;
         }
@@ -62,6 +66,10 @@ fn main() -> ExitCode {
     }
     if !tally.idle().is_empty() || tally.keys == 0 {
         println!("entries that served no line: {:?}; {} keys", tally.idle(), tally.keys);
+        return ExitCode::FAILURE;
+    }
+    if tally.rows == 0 {
+        println!("no page was followed that showed a row");
         return ExitCode::FAILURE;
     }
     println!("no difference");

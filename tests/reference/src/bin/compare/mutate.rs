@@ -2,7 +2,7 @@
 use crate::random::Random;
 
 /// Fields at and over the limits, to stand in for some other field.
-const FIELDS: [&str; 34] = [
+const FIELDS: [&str; 37] = [
     "",
     "-",
     "0",
@@ -12,6 +12,8 @@ const FIELDS: [&str; 34] = [
     "8",
     "+1",
     "-1",
+    "1000",
+    "1001",
     "36500",
     "36501",
     "36500d",
@@ -37,6 +39,7 @@ const FIELDS: [&str; 34] = [
     "rr",
     "SWEEP",
     "GETS",
+    "LIST",
 ];
 
 const DATES: [&str; 14] = [

@@ -1,5 +1,6 @@
 //! The two sides that are compared: equal buffers, lent to the engine and to the reference.
-use crate::engine;
+use crate::{engine, pages};
+use reference::requests::{self, Verb};
 use reference::settings::{word, BYTES};
 
 /// The bytes before and after each lent buffer, which nobody may touch.
@@ -26,6 +27,14 @@ impl Lent {
 
     pub fn seen(&self) -> &[u8] {
         &self.whole[GUARD..self.whole.len() - GUARD]
+    }
+
+    /// Makes the buffer of a length and fills it with a byte.
+    pub fn refill(&mut self, length: usize, byte: u8) {
+        if self.seen().len() != length {
+            *self = Lent::new(length);
+        }
+        self.bytes().fill(byte);
     }
 
     /// Makes the buffer longer with zeros or shorter.
@@ -86,19 +95,68 @@ pub const ENTRIES: [(&str, Serve); 3] =
     [("serve", engine::serve), ("serve_words", engine::serve_words), ("serve_lent", engine::serve_lent)];
 type Serve = fn(&mut [u8], &mut [u8], &mut [u8], &[u8], &mut [u8]) -> u64;
 
+/// A fault that is planted on purpose, so that a difference must be found.
+#[derive(Clone, Copy, PartialEq, Eq)]
+pub enum Fault {
+    None,
+    /// In each answer of the reference.
+    Answer,
+    /// In the last row of each page of the reference.
+    Page,
+    /// In the rows that followed pages are held to.
+    Following,
+}
+
+impl Fault {
+    pub fn read(word: &str) -> Option<Fault> {
+        match word {
+            "answer" => Some(Fault::Answer),
+            "page" => Some(Fault::Page),
+            "following" => Some(Fault::Following),
+            _ => None,
+        }
+    }
+
+    /// Spoils the answer of an accepted line.
+    fn spoil(self, line: &[u8], answer: &mut [u8]) {
+        match self {
+            Fault::Answer => answer[0] ^= 1,
+            Fault::Page if asks_for(line).is_some() => spoil_last_row(answer),
+            _ => {}
+        }
+    }
+}
+
+/// The count of the page that a line asks for, if it can be read and is a LIST.
+pub fn asks_for(line: &[u8]) -> Option<usize> {
+    match requests::read(line)?.verb {
+        Verb::List { count, .. } => Some(count),
+        _ => None,
+    }
+}
+
+/// Alters the last byte of a page's last row, if it shows one.
+fn spoil_last_row(answer: &mut [u8]) {
+    let rows = pages::shown(answer).expect("the reference's page can be read");
+    let bytes: usize = rows.iter().map(|row| row.len() + 1).sum();
+    let first = answer.iter().position(|&byte| byte == b'\n').expect("its first line ends");
+    if bytes > 0 {
+        answer[first + bytes - 1] ^= 1;
+    }
+}
+
 /// The engine's bytes; the reference works on a copy of them.
 pub struct Sides {
     pub engine: Side,
     reference: Side,
-    broken: bool,
+    pub fault: Fault,
     /// How often each entry has served a line.
     pub served: [u64; ENTRIES.len()],
 }
 
 impl Sides {
-    /// With `broken` the reference's answers are perturbed, so that a difference must be found.
-    pub fn new(side: Side, broken: bool) -> Sides {
-        Sides { engine: side.clone(), reference: side, broken, served: [0; ENTRIES.len()] }
+    pub fn new(side: Side, fault: Fault) -> Sides {
+        Sides { engine: side.clone(), reference: side, fault, served: [0; ENTRIES.len()] }
     }
 
     /// The entry whose turn it is, of those that such lengths can be lent to.
@@ -128,8 +186,8 @@ impl Sides {
             line,
             two.answer.bytes(),
         );
-        if self.broken && reference == 0 {
-            two.answer.bytes()[0] ^= 1;
+        if reference == 0 {
+            self.fault.spoil(line, two.answer.bytes());
         }
         self.agreed(engine, reference).map_err(|difference| format!("{name}: {difference}"))
     }

@@ -1,9 +1,9 @@
 //! How often each number came, by verb, and each entry was called.
 use crate::sides::ENTRIES;
 
-const VERBS: [&str; 10] =
-    ["PUT", "COPY", "RETAIN", "HOLD", "DELETE", "DEFAULT", "RULE", "SWEEP", "GET", "other"];
-const NUMBERS: usize = 13;
+const VERBS: [&str; 11] =
+    ["PUT", "COPY", "RETAIN", "HOLD", "DELETE", "DEFAULT", "RULE", "SWEEP", "GET", "LIST", "other"];
+const NUMBERS: usize = 14;
 
 #[derive(Default)]
 pub struct Tally {
@@ -11,6 +11,9 @@ pub struct Tally {
     pub lines: u64,
     pub fresh: [u64; 2],
     pub keys: u64,
+    /// The pages that were followed to their end, and the rows that they showed.
+    pub pages: u64,
+    pub rows: u64,
     entries: [u64; ENTRIES.len()],
     counts: [[u64; NUMBERS]; VERBS.len()],
 }
@@ -32,7 +35,7 @@ impl Tally {
         self.entries.iter_mut().zip(served).for_each(|(sum, count)| *sum += count);
     }
 
-    /// The numbers from 0 to 12 that never came.
+    /// The numbers from 0 to 13 that never came.
     pub fn missing(&self) -> Vec<usize> {
         (0..NUMBERS).filter(|&number| self.counts.iter().all(|row| row[number] == 0)).collect()
     }
@@ -53,6 +56,7 @@ impl Tally {
             println!("{name}: {count} lines");
         }
         println!("fresh buckets: {} made, {} refused; {} keys", self.fresh[0], self.fresh[1], self.keys);
+        println!("followed to their end: {} pages with {} rows", self.pages, self.rows);
         print!("{:8}", "number");
         (0..NUMBERS).for_each(|number| print!("{number:>9}"));
         println!();

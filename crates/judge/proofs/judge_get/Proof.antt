@@ -1,11 +1,11 @@
--- `judge_query` meets its contract.
+-- `judge_get` meets its contract.
 use Rattle.judge.proofs.Naming.{data-ways}
 use borrow.Author.Needs.{needs}
-use Rattle.judge.proofs.judge_query.Statement.{statement}
-use Rattle.judge.proofs.judge_query.Tie as tie
+use Rattle.judge.proofs.judge_get.Statement.{statement}
+use Rattle.judge.proofs.judge_get.Tie as tie
 
-pub judge-query-spec : {M : Type 1} → statement M
-judge-query-spec =
+pub judge-get-spec : {M : Type 1} → statement M
+judge-get-spec =
     tie.close
     (tie.spec
     (λ c κs. search needs)

@@ -1,0 +1,5 @@
+pub mod Order
+pub mod Runs
+pub mod Places
+pub mod Sound
+pub mod Writing

@@ -1,0 +1,115 @@
+-- A page's rows are one run of an ordered table.
+use Prim.Native.Nat.{ℕ, zero, suc, _+_, _-_, min, max}
+use mathlib.Core.Path.{_≡_, refl, sym, _∙_, ap}
+use mathlib.Core.Logic.{inl, inr}
+use mathlib.Core.Bool.{Bool, true, false, not, _&&_}
+use mathlib.Core.List.{List, [], _∷_}
+use native.Mathlib.Omega.{arith}
+use lib.Dec.{leb}
+use lib.ListN.{take, drop, length-take}
+use lib.Seq.{take-take, take-all, drop-drop}
+use borrow.Author.Tests.{leb-true, leb-false}
+use Rattle.buffers.specs.Lists.{keep, all}
+use Rattle.buffers.proofs.Tests.{either, clash, and-l, and-r}
+use Rattle.buffers.proofs.Lists.{keep-every, keep-nothing, keep-as, keep-both, all-as}
+use Rattle.model.specs.Rows.{Row, before, ahead, ordered}
+use Rattle.model.specs.Requests.{page}
+use Rattle.model.specs.Pages.{matches, comesAfter, rowsAfterPlace, pageRows}
+use Rattle.model.proofs.Order.{ordered-drop}
+use Rattle.search.specs.Places.{leading, keyPlace}
+use Rattle.search.proofs.Positions.{none-lead}
+use Rattle.search.proofs.Halving.{key-ahead}
+use Rattle.listing.specs.Places.{placeAfter, pageStart, upTo, prefixEnd, pageEnd}
+use Rattle.listing.proofs.Order.{after-falls, matches-up-to, up-to-falls}
+
+-- As many as two numbers allow.
+take-least : {A : Type 0} (j k : ℕ) (l : List A) → take (min j k) l ≡ take j (take k l)
+take-least j k l =
+    elim (either (leb j k)) [
+      | inl t ↦ let q : min j k ≡ j = omega (arith, leb-true j k t) in rw q (sym (take-take j k l (leb-true j k t)))
+      | inr t ↦
+          let q : min j k ≡ k = omega (arith, leb-false j k t) in
+          rw q (sym (take-all j (take k l) (omega (arith, length-take k l, leb-false j k t))))
+    ]
+
+-- ## A test that each row passes that is ahead of one that passes
+
+module _ (t : Row → Bool) (falls : (x y : Row) → ahead x y ≡ true → t y ≡ true → t x ≡ true) where
+  fails : (x y : Row) → t x ≡ false → ahead x y ≡ true → t y ≡ false
+  fails x y f a =
+      elim (either (t y)) [
+        | inl e ↦ absurd (clash (t x) (falls x y a e) f)
+        | inr e ↦ e
+      ]
+
+  failing : (x : Row) → t x ≡ false → (xs : List Row) → all (ahead x) xs ≡ true → all (λ y. not (t y)) xs ≡ true
+  failing x f = all-as (ahead x) (λ y. not (t y)) (λ y a. rw (fails x y f a))
+
+  -- The rows that pass stand in front, those that fail behind them.
+  keep-front : (xs : List Row) → ordered xs ≡ true → keep t xs ≡ take (leading t xs) xs
+  keep-front [] o = refl
+  keep-front (x ∷ xs) o =
+      elim (either (t x)) [
+        | inl e ↦ rw e (ap (λ (l : List Row). x ∷ l) (keep-front xs (and-r (all (ahead x) xs) _ o)))
+        | inr e ↦ rw e (keep-nothing t xs (failing x e xs (and-l _ _ o)))
+      ]
+
+  keep-behind : (xs : List Row) → ordered xs ≡ true → keep (λ x. not (t x)) xs ≡ drop (leading t xs) xs
+  keep-behind [] o = refl
+  keep-behind (x ∷ xs) o =
+      elim (either (t x)) [
+        | inl e ↦ rw e (keep-behind xs (and-r (all (ahead x) xs) _ o))
+        | inr e ↦ rw e (ap (λ (l : List Row). x ∷ l) (keep-every (λ y. not (t y)) xs (failing x e xs (and-l _ _ o))))
+      ]
+
+  leading-drop : (i : ℕ) (xs : List Row) → ordered xs ≡ true → leading t (drop i xs) ≡ leading t xs - i
+  leading-drop zero xs o = omega arith
+  leading-drop (suc i) [] o = omega arith
+  leading-drop (suc i) (x ∷ xs) o =
+      let more = leading-drop i xs (and-r (all (ahead x) xs) _ o) in
+      elim (either (t x)) [
+        | inl e ↦ rw e (omega arith)
+        | inr e ↦ rw e (omega (arith, none-lead t (ahead x) (λ y. fails x y e) xs (and-l _ _ o)))
+      ]
+
+-- ## A page
+
+not-not : (b : Bool) → b ≡ not (not b)
+not-not true = refl
+not-not false = refl
+
+module _ (p k : List ℕ) (v : ℕ) (xs : List Row) (o : ordered xs ≡ true) where
+  rows-after : keep (comesAfter k v) xs ≡ drop (placeAfter k v xs) xs
+  unfolding placeAfter
+  rows-after =
+      keep-as (comesAfter k v) (λ x. not (not (comesAfter k v x))) (λ x. not-not (comesAfter k v x)) xs
+      ∙ keep-behind (λ x. not (comesAfter k v x)) (after-falls k v) xs o
+
+  -- Those whose keys are not before the prefix, from a place on.
+  rows-above : (a : ℕ) → keep (λ x. not (before (x .key) p)) (drop a xs) ≡ drop (max (keyPlace p xs) a) xs
+  unfolding keyPlace
+  rows-above a =
+      let q : a + (keyPlace p xs - a) ≡ max (keyPlace p xs) a = omega arith in
+      keep-behind (λ x. before (x .key) p) (key-ahead p) (drop a xs) (ordered-drop a xs o)
+      ∙ rw (leading-drop (λ x. before (x .key) p) (key-ahead p) a xs o) (drop-drop (keyPlace p xs - a) a xs ∙ ap (λ (i : ℕ). drop i xs) q)
+
+  -- The matching rows after a place are the run from the page's start to the prefix's end.
+  rows-run : rowsAfterPlace p k v xs ≡ take (prefixEnd p xs - pageStart p k v xs) (drop (pageStart p k v xs) xs)
+  unfolding pageStart prefixEnd
+  rows-run =
+      let s = pageStart p k v xs in
+      let above : Row → Bool = λ x. not (before (x .key) p) in
+      keep-both (matches p) (comesAfter k v) xs
+      ∙ keep-as (matches p) (λ x. upTo p x && above x) (matches-up-to p) (keep (comesAfter k v) xs)
+      ∙ keep-both (upTo p) above (keep (comesAfter k v) xs)
+      ∙ ap (keep (upTo p)) (ap (keep above) rows-after ∙ rows-above (placeAfter k v xs))
+      ∙ keep-front (upTo p) (up-to-falls p) (drop s xs) (ordered-drop s xs o)
+      ∙ rw (leading-drop (upTo p) (up-to-falls p) s xs o)
+
+  -- A page's rows are those from its start to its end.
+  pub page-run : (count start end : ℕ) → start ≡ pageStart p k v xs → end ≡ pageEnd p start count xs
+      → take (end - start) (drop start xs) ≡ pageRows (page p k v count) xs
+  unfolding pageEnd
+  page-run count start end e f =
+      let q : end - start ≡ min count (prefixEnd p xs - start) = omega arith in
+      rw q (take-least count (prefixEnd p xs - start) (drop start xs) ∙ rw e (ap (take count) (sym rows-run)))
