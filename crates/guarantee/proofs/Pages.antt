@@ -134,19 +134,24 @@ module _ {prefix key version : List ℕ} {b : Lent} {g : Call} (s : ServedPage p
       let l = ltb-true (length (shownBy (exchange b g))) (countSent (exchange b g)) e in
       shown-rows ∙ ap (map rowLine) (take-all (s .count) wanted (omega (arith, length-take (s .count) wanted, many, s .count-is, l)))
 
-  -- A full page ends in a row, and the rows after that row are the rest.
-  record Full : Type 0 where
+  -- A page that another goes on after ends in a row, and the rows after that row are the rest.
+  record GoesOn : Type 0 where
     last : Row
     key-is : lastKey ((outcome b g) .answer) ≡ last .key
     version-is : numberOf largestNumber (lastVersion ((outcome b g) .answer)) ≡ some (last .number)
     rest : rowsAfterPlace prefix (last .key) (last .number) rows ≡ drop (s .count) wanted
 
-  full-page : eqb (length (shownBy (exchange b g))) (countSent (exchange b g)) ≡ true → Full
-  full-page e =
+  -- It has rows: an empty page has no version in its last line that could be read.
+  not-empty : (n : ℕ) → numberOf largestNumber (lastVersion ((outcome b g) .answer)) ≡ some n → (xs : List Row) → take (s .count) wanted ≡ xs → 1 ≤ length xs
+  unfolding lastVersion fieldOf numberOf
+  not-empty n v [] e = let z : _≡_ {A = Option ℕ} none (some n) = rw (shown-rows, e) at v in let y : _≡_ {A = ℕ} 0 1 = cc in absurd (omega arith)
+  not-empty n v (x ∷ xs) e = omega arith
+
+  goes-on : (n : ℕ) → numberOf largestNumber (lastVersion ((outcome b g) .answer)) ≡ some n → GoesOn
+  goes-on n v =
       let a = s .is-listed in
-      let full = eqb-true (length (shownBy (exchange b g))) (countSent (exchange b g)) e in
       let room = drop (length (pageText (take (s .count) wanted))) (g .answer) in
-      let t = ending (take (s .count) wanted) (omega (arith, many, full, s .count-is, a .some)) in
+      let t = ending (take (s .count) wanted) (not-empty n v (take (s .count) wanted) refl) in
       let x = t .last in
       let sound = row-parts _ _ x (all-middle (soundRow (b .settings .next) (b .settings .time)) (t .before) x [] (rw (t .is) at (page-sound a))) in
       record {
@@ -160,7 +165,7 @@ module _ {prefix key version : List ℕ} {b : Lent} {g : Call} (s : ServedPage p
       }
 
   -- The page's lines and those of the rows after its last row are all.
-  page-and-rest : (f : Full) (k : List ℕ) (n : ℕ) (xs : List Row) (ls : List (List ℕ)) → k ≡ f .last .key → n ≡ f .last .number → xs ≡ rows
+  page-and-rest : (f : GoesOn) (k : List ℕ) (n : ℕ) (xs : List Row) (ls : List (List ℕ)) → k ≡ f .last .key → n ≡ f .last .number → xs ≡ rows
       → ls ≡ map rowLine (rowsAfterPlace prefix k n xs) → shownBy (exchange b g) ++ ls ≡ map rowLine wanted
   page-and-rest f k n xs ls ek en ex e =
       ap₂ (λ (l m : List (List ℕ)). l ++ m) shown-rows (e ∙ rw (ek, en, ex) (ap (map rowLine) (f .rest)))
@@ -180,9 +185,8 @@ pages-from prefix key version b (g ∷ []) e =
     record { number = s .number; version-is = s .version-is; all-is = append-nil (shownBy (exchange b g)) ∙ last-page s (and-r (isPageFrom prefix key version (exchange b g)) _ e) }
 pages-from prefix key version b (g ∷ h ∷ gs) e =
     let s = served-page prefix key version b g (and-l _ _ e) in
-    let d = and-r (isPageFrom prefix key version (exchange b g)) _ e in
-    let f = full-page s (and-l _ _ d) in
-    let next = pages-from prefix (lastKey ((outcome b g) .answer)) (lastVersion ((outcome b g) .answer)) (step b g) (h ∷ gs) (and-r (eqb (length (shownBy (exchange b g))) (countSent (exchange b g))) _ d) in
+    let next = pages-from prefix (lastKey ((outcome b g) .answer)) (lastVersion ((outcome b g) .answer)) (step b g) (h ∷ gs) (and-r (isPageFrom prefix key version (exchange b g)) _ e) in
+    let f = goes-on s (next .number) (next .version-is) in
     let same : some (next .number) ≡ some (f .last .number) = sym (next .version-is) ∙ f .version-is in
     let number-is : next .number ≡ f .last .number = cc in
     record {

@@ -70,12 +70,12 @@ countSent e = orZero (numberOf largestCount (sentField (e .sent) 6))
 abbrev pub shownBy : Exchange → List (List ℕ)
 shownBy e = linesShown (e .answer)
 
--- Pages of a prefix from a key and a version on: each shows as many lines as its count and the next starts at the key and the version in its last line; the last shows fewer.
+-- Pages of a prefix from a key and a version on: each next starts at the key and the version in the last line of the one before, and the last shows fewer lines than its count.
 abbrev pub arePages : List ℕ → List ℕ → List ℕ → List Exchange → Bool
 arePages prefix key version [] = false
 arePages prefix key version (e ∷ []) = isPageFrom prefix key version e && ltb (length (shownBy e)) (countSent e)
 arePages prefix key version (e ∷ f ∷ es) =
-    isPageFrom prefix key version e && (eqb (length (shownBy e)) (countSent e) && arePages prefix (lastKey (e .answer)) (lastVersion (e .answer)) (f ∷ es))
+    isPageFrom prefix key version e && arePages prefix (lastKey (e .answer)) (lastVersion (e .answer)) (f ∷ es)
 
 -- From the start: the empty key and version 0.
 abbrev pub followPages : List ℕ → List Exchange → Bool
