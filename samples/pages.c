@@ -39,5 +39,5 @@ int main(int count, char **words) {
         fprintf(stderr, "usage: pages FOLDER, where a hub has saved its bucket\n");
         return 2;
     }
-    return !send_pages(words[1], "q/");
+    return !send_pages(words[1], "");
 }

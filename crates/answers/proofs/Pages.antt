@@ -68,7 +68,7 @@ module _ (x : Row) (k : isKey (x .key) ≡ true) where
   line-until d m h = rw (line-fields, d) (until-reads (x .mode) (x .until) m h)
 
   -- A marker has no date.
-  pub line-marker : isData x ≡ false → fieldOf (rowLine x) 7 ≡ bytes "-"
+  line-marker : isData x ≡ false → fieldOf (rowLine x) 7 ≡ bytes "-"
   unfolding fieldOf kindFields
   line-marker d = rw (line-fields, d)
 
@@ -83,10 +83,10 @@ module _ (x : Row) (k : isKey (x .key) ≡ true) where
 
 -- Rows of one line have one key and one number.
 module _ (x y : Row) (k : isKey (x .key) ≡ true) (j : isKey (y .key) ≡ true) (e : rowLine x ≡ rowLine y) where
-  pub line-one-key : x .key ≡ y .key
+  line-one-key : x .key ≡ y .key
   line-one-key = sym (line-key x k) ∙ ap (λ (l : List ℕ). fieldOf l 0) e ∙ line-key y j
 
-  pub line-one-number : x .number ≡ y .number
+  line-one-number : x .number ≡ y .number
   line-one-number = digits-one-number (x .number) (y .number) (sym (line-version x k) ∙ ap (λ (l : List ℕ). fieldOf l 1) e ∙ line-version y j)
 
 -- So the line tells the version.
@@ -111,22 +111,22 @@ lines-of (x ∷ xs) room e =
     ∙ ap (λ (l : List (List ℕ)). rowLine x ∷ l) (lines-of xs room (and-r (isKey (x .key)) _ e))
 
 -- the first line: `ok` and the number of rows
-abbrev firstOf : ℕ → List ℕ
-firstOf n = bytes "ok" ++ tabbed (digits n ∷ [])
+abbrev countLine : ℕ → List ℕ
+countLine n = bytes "ok" ++ tabbed (digits n ∷ [])
 
 count-visible : (n : ℕ) → all visible (digits n ∷ []) ≡ true
 count-visible n = and-i (visible (digits n)) _ (digits-visible n) refl
 
-page-lines : (xs : List Row) (room : List ℕ) → all (λ x. isKey (x .key)) xs ≡ true → linesOf (pageText xs ++ room) ≡ firstOf (length xs) ∷ (map rowLine xs ++ linesOf room)
+page-lines : (xs : List Row) (room : List ℕ) → all (λ x. isKey (x .key)) xs ≡ true → linesOf (pageText xs ++ room) ≡ countLine (length xs) ∷ (map rowLine xs ++ linesOf room)
 unfolding pageText okText fieldsText
 page-lines xs room e =
-    let t : pageText xs ++ room ≡ firstOf (length xs) ++ 10 ∷ (rowTexts xs ++ room) = simp append-assoc in
+    let t : pageText xs ++ room ≡ countLine (length xs) ++ 10 ∷ (rowTexts xs ++ room) = simp append-assoc in
     ap linesOf t ∙ line-back (bytes "ok") (digits (length xs) ∷ []) (rowTexts xs ++ room) refl (count-visible (length xs))
-    ∙ ap (λ (l : List (List ℕ)). firstOf (length xs) ∷ l) (lines-of xs room e)
+    ∙ ap (λ (l : List (List ℕ)). countLine (length xs) ∷ l) (lines-of xs room e)
 
 module _ (xs : List Row) (room : List ℕ) (keys : all (λ x. isKey (x .key)) xs ≡ true) (few : length xs ≤ largestCount) where
   -- The first line says how many rows there are.
-  pub rows-said : rowsSaid (pageText xs ++ room) ≡ length xs
+  rows-said : rowsSaid (pageText xs ++ room) ≡ length xs
   unfolding rowsSaid fieldOf
   rows-said =
       rw (page-lines xs room keys) (rw (fields-back (bytes "ok") (digits (length xs) ∷ []) refl (count-visible (length xs)), number-back largestCount (length xs) few))

@@ -107,7 +107,7 @@ fn put_contents(out: &mut [u8], at: usize, n: Numbers) -> usize
     put_lock(out, after_size, n.mode, n.until, n.hold)
 }
 
-// A data row's fields behind its number, and the line feed.
+// A data row's fields behind its number, and the line feed: 5 bytes for the kind, 25 for the date, 126 for the rest.
 fn put_data(out: &mut [u8], at: usize, n: Numbers) -> usize
     requires { ⌜ (at + 156 ≤ length (now out)) × (n .created ≤ latest) × (n .until ≤ latest) ⌝ }
     ensures { λ r. ⌜ Wrote (now (out .entry)) at (fieldsText (dataFields (rowFrom n []))) 156 (now (out .exit)) r ⌝ }
@@ -117,7 +117,7 @@ fn put_data(out: &mut [u8], at: usize, n: Numbers) -> usize
     put_contents(out, after_created, n)
 }
 
-// A marker's fields behind its number, and the line feed.
+// A marker's fields behind its number, and the line feed; they take fewer bytes than a data row's.
 fn put_marker(out: &mut [u8], at: usize, created: u64) -> usize
     requires { ⌜ (at + 156 ≤ length (now out)) × (created ≤ latest) ⌝ }
     ensures { λ r. ⌜ Wrote (now (out .entry)) at (fieldsText (markerFields created)) 156 (now (out .exit)) r ⌝ }

@@ -33,12 +33,12 @@ use Rattle.outcome.specs.Outcome.{Outcome, written, outcome}
 use Rattle.outcome.proofs.Demands.{accepted-request, outcome-number, accepted-of-whole}
 use Rattle.outcome.proofs.Kept.{model-accepts, accepted-bucket}
 use Rattle.guarantee.specs.Calls.{step}
-use Rattle.guarantee.specs.Pages.{ReadsBack, ReadBack, PageReadsBack}
+use Rattle.guarantee.specs.Pages.{LineReadsBack, LinesReadBack, PageReadsBack}
 
 -- ## The lines of sound rows
 
 module _ (next time : ℕ) (l : time ≤ latest) where
-  row-reads-back : (x : Row) → soundRow next time x ≡ true → ReadsBack x (rowLine x)
+  row-reads-back : (x : Row) → soundRow next time x ≡ true → LineReadsBack x (rowLine x)
   row-reads-back x e =
       let k = sound-key next time x e in
       let d = row-dated next time x l e in
@@ -52,7 +52,7 @@ module _ (next time : ℕ) (l : time ≤ latest) where
         no-date = line-no-date x k;
       }
 
-  rows-read-back : (xs : List Row) → all (soundRow next time) xs ≡ true → ReadBack xs (map rowLine xs)
+  rows-read-back : (xs : List Row) → all (soundRow next time) xs ≡ true → LinesReadBack xs (map rowLine xs)
   rows-read-back [] e = tt
   rows-read-back (x ∷ xs) e = (row-reads-back x (and-l _ _ e), rows-read-back xs (and-r (soundRow next time x) _ e))
 
@@ -108,7 +108,7 @@ module _ {b : Lent} {g : Call} {p : Page} (a : Listed b g p) where
   pub shown-is : linesShown ((outcome b g) .answer) ≡ map rowLine (pageRows p rows)
   shown-is = ap linesShown (a .answer-is) ∙ page-shows (pageRows p rows) (drop (length (pageText (pageRows p rows))) (g .answer)) page-keys page-few
 
-  pub page-reads-back : ReadBack (pageRows p rows) (linesShown ((outcome b g) .answer))
+  pub page-reads-back : LinesReadBack (pageRows p rows) (linesShown ((outcome b g) .answer))
   page-reads-back = rw shown-is (rows-read-back (b .settings .next) (b .settings .time) (a .time-fits) (pageRows p rows) page-sound)
 
 pub reads-back : (b : Lent) (g : Call) → PageReadsBack b g

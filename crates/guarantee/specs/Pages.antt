@@ -114,19 +114,19 @@ PagesShowAllBytes = (prefix : List ℕ) (b : Bytes) (gs : List Call) → followP
 -- ## Every line of a page reads back
 
 -- A line has the row's nine fields, and both dates read as the row's instants; a row without a mode has no date.
-pub record ReadsBack (x : Row) (l : List ℕ) : Type 0 where
+pub record LineReadsBack (x : Row) (l : List ℕ) : Type 0 where
   pub nine : fields l ≡ lineFields x
   pub created : readDate (fieldOf l 3) ≡ some (x .created)
   pub until : (x .mode ≡ 0 → ⊥) → readDate (fieldOf l 7) ≡ some (x .until)
   pub no-date : x .mode ≡ 0 → fieldOf l 7 ≡ bytes "-"
 
 -- Row by row.
-abbrev pub ReadBack : List Row → List (List ℕ) → Type 0
-ReadBack [] [] = Unit
-ReadBack [] (l ∷ ls) = ⊥
-ReadBack (x ∷ xs) [] = ⊥
-ReadBack (x ∷ xs) (l ∷ ls) = ReadsBack x l × ReadBack xs ls
+abbrev pub LinesReadBack : List Row → List (List ℕ) → Type 0
+LinesReadBack [] [] = Unit
+LinesReadBack [] (l ∷ ls) = ⊥
+LinesReadBack (x ∷ xs) [] = ⊥
+LinesReadBack (x ∷ xs) (l ∷ ls) = LineReadsBack x l × LinesReadBack xs ls
 
 -- In the answer buffer after an accepted LIST the lines are those of the page's rows.
 abbrev pub PageReadsBack : Lent → Call → Type 0
-PageReadsBack b g = (p : Page) (q : Request) → (outcome b g) .number ≡ 0 → heard g ≡ says q → q .verb ≡ Ask (ListVersions p) → ReadBack (pageRows p (bucketOf b .rows)) (linesShown ((outcome b g) .answer))
+PageReadsBack b g = (p : Page) (q : Request) → (outcome b g) .number ≡ 0 → heard g ≡ says q → q .verb ≡ Ask (ListVersions p) → LinesReadBack (pageRows p (bucketOf b .rows)) (linesShown ((outcome b g) .answer))

@@ -33,7 +33,7 @@ pub record Accepted (hub : Hub) (b : Lent) (g : Call) : Type 0 where
   pub hears : heard g ≡ says request
   pub does : hub b g ≡ accepted b request (g .answer)
 
--- Demand 1: with table, settings and answer buffer of arbitrary contents and lengths, a line is accepted or refused with a number of 01; a refusal writes nothing.
+-- Demand 1: with table, settings and answer buffer of arbitrary contents and lengths, a line is accepted or refused with a number of a condition; a refusal writes nothing.
 pub record Demand1 (hub : Hub) (b : Lent) (g : Call) : Type 0 where
   pub numbered : (hub b g) .number ≤ lastRefusal
   pub writes-nothing : ((hub b g) .number ≡ 0 → ⊥) → Unchanged hub b g ((hub b g) .number)

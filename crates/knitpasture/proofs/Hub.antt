@@ -1,4 +1,4 @@
--- Of every call over bytes: its number is 0 to 12, a refusal leaves every byte as it was, and an accepted call leaves bytes that spell what its outcome leaves.
+-- Of every call over bytes: its number is 0 to 13, a refusal leaves every byte as it was, and an accepted call leaves bytes that spell what its outcome leaves.
 use Prim.Native.Nat.{_*_, _/_, _≤_}
 use mathlib.Core.Path.{_≡_, refl}
 use mathlib.Core.Bool.{true}
@@ -44,7 +44,7 @@ module _ (b : Bytes) (g : Call) where
   abbrev core : Outcome
   core = outcome (lentOf b) g
 
-  -- Demand 1, over bytes: the number is 0 to 12.
+  -- Demand 1, over bytes: the number is 0 to 13.
   pub hub-range : (hubServed b g) .number ≤ lastRefusal
   unfolding hubServed
   hub-range = spelling-ways b (λ (x : ByteOutcome). x .number ≤ lastRefusal) (λ _. left-range (numbersBytes (core .bucket .numbers)) (lentOf b) b g) (omega arith)

@@ -1,4 +1,4 @@
--- Of every call over numbers: its number is 0 to 12, and a refusal leaves every buffer as it was. A call over bytes is the call over the numbers that they spell, its rows spelled again.
+-- Of every call over numbers: its number is 0 to 13, and a refusal leaves every buffer as it was. A call over bytes is the call over the numbers that they spell, its rows spelled again.
 use Prim.Native.Nat.{ℕ, _/_, _%_, _≤_}
 use mathlib.Core.Path.{_≡_, refl, _∙_}
 use mathlib.Core.Logic.{inl, inr}
@@ -19,7 +19,7 @@ use Rattle.knitpasture.specs.Bytes.{numbersFrom, numbersBytes, tableLeng
 use Rattle.knitpasture.proofs.Left.{reads-as, RefusalKeeps, left-kept, left-range}
 
 module _ (b : Bytes) (g : Call) where
-  -- Demand 1, over numbers: the number is 0 to 12.
+  -- Demand 1, over numbers: the number is 0 to 13.
   pub words-range : (wordsServed b g) .number ≤ lastRefusal
   unfolding wordsServed
   words-range =

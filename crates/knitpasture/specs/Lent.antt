@@ -1,4 +1,4 @@
--- What a call leaves whose settings are lent: the outcome of its line, without the answer's length, which its line feed tells.
+-- What a call leaves whose settings are lent: the outcome of its line, without the answer's length, which its bytes tell: its first line feed, or that of a page's last line.
 use Prim.Native.Nat.{ℕ}
 use mathlib.Core.List.{List}
 use Rattle.bucket.specs.Whole.{Lent}

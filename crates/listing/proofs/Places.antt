@@ -101,7 +101,7 @@ module _ (n b : List ℕ) (u : ℕ) (k : List ℕ) (v : ℕ) where
     pub after-place : r ≡ Place i → Within i (placeAfter k v (rowsOf n b u)) u
     after-place t = record { is = ap behindFound (sym t ∙ e) ∙ version-after k v (ne-eqb v 0 h) (rowsOf n b u) (s .in-order); most = version-free n b u k r i v e t }
 
--- A place at most one behind a row that is found fits.
+-- A place at most one behind a row that is found fits; of any such place, so that the wrong one fails by its place.
 pub after-fits : (n b : List ℕ) (u : ℕ) (k : List ℕ) (v : ℕ) (r : Found) (i j : ℕ) → r ≡ versionIn k v (rowsOf n b u) → r ≡ At i → leb j 1 ≡ true → Fits w64 u → Fits w64 (i + j)
 after-fits n b u k v r i j e t h f = let g = version-used n b u k r i v e t in let l = leb-true j 1 h in let m : i + j ≤ u = omega arith in omega (arith, f)
 

@@ -173,7 +173,7 @@ none-after b now (Set s) v l e = e
 none-after b now Sweep v l e = swept-none (b .settings .config .rules) now (b .settings .next) none (b .rows) v l e
 none-after b now (Ask q) v l e = e
 
--- The answer to a DELETE or a GET makes no version.
+-- The answer to a DELETE, a GET or a LIST makes no version.
 pub removal-answers : (a : Bool) (u : Version) (v : ℕ) → givesNumber v (pick a (removedMarker u) (removed u)) ≡ false
 removal-answers true u v = refl
 removal-answers false u v = refl

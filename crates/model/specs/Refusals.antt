@@ -16,6 +16,12 @@ use Rattle.model.specs.Time.{nowOf, defaultEnd}
 use Rattle.model.specs.Locks.{locked, admits}
 use Rattle.model.specs.Effects.{rowOf, added, rowsAfter}
 
+-- ## 2. The answer buffer is too short
+
+-- The least length of an answer buffer.
+abbrev pub leastRoom : ℕ
+leastRoom = 256
+
 -- ## 3. A field is outside its range
 
 abbrev pub outOfRange : Context → Verb → Bool
@@ -77,11 +83,7 @@ lacksRight s who v = not (all (λ n. granted s who (n .letter) (n .key)) (needs 
 
 -- ## 13. The answer buffer is too short for the page, checked after 5
 
--- The least length of an answer buffer.
-abbrev pub leastRoom : ℕ
-leastRoom = 256
-
--- What a row's line may take of it.
+-- What a row's line may take of an answer buffer.
 abbrev pub rowRoom : ℕ
 rowRoom = 256
 

@@ -39,7 +39,7 @@ use Rattle.request.specs.declared.Verb.the-variants.{Act, Ask}
 use Rattle.request.specs.declared.Query.the-variants.{ListVersions}
 use Rattle.request.specs.declared.Request.{Request}
 use Rattle.request.specs.Meaning.{nameMeans, verbMeans, VerbInside}
-use Rattle.request.specs.Grammar.{nameAt, retentionAt, termsAt, putOf, copyOf, retainOf, setHoldOf, deletes, deleteOf, defaultOf, ruleOf, sweepOf, getOf, isStart, listOf, otherByWord, verbByWord, requestIn, Said, readLine}
+use Rattle.request.specs.Grammar.{nameAt, retentionAt, termsAt, putOf, copyOf, retainOf, setHoldOf, deletes, deleteOf, defaultOf, ruleOf, sweepOf, getOf, namesPlace, listOf, otherByWord, verbByWord, requestIn, Said, readLine}
 
 -- this holds of whatever is read
 pub record Passes (A : Type 0) (P : A → Type 0) (w : Option A) : Type 0 where
@@ -236,8 +236,8 @@ module _ (s : List ℕ) where
   get-passes = search (ways, ranges) depth 16
 
   page-stands : (p k : Place) (v n : ℕ) → isPrefix (partOf s p) ≡ true → Inside s p → isPrefix (partOf s k) ≡ true → Inside s k → leb v largestNumber ≡ true
-      → Span 1 n largestCount → isStart k v ≡ true → Stands s (Ask (ListVersions (record { prefix = p; key = k; version = v; count = n })))
-  unfolding isStart inRange
+      → Span 1 n largestCount → namesPlace k v ≡ true → Stands s (Ask (ListVersions (record { prefix = p; key = k; version = v; count = n })))
+  unfolding namesPlace inRange
   page-stands p k v n e i d j l c t =
       record {
         range = rw (e, d, lt-ltb v spentNumber (omega (arith, leb-true v largestNumber l)), le-leb 1 n (c .from), le-leb n largestCount (c .to), start);

@@ -24,7 +24,7 @@ use Rattle.fields.specs.declared.Hold.the-variants as hold
 use Rattle.fields.specs.declared.Terms.{Terms}
 use Rattle.request.specs.declared.Action.the-variants.{Copy}
 use Rattle.request.specs.declared.Verb.the-variants.{Act}
-use Rattle.request.specs.Grammar.{nameAt, retentionAt, termsAt, putOf, copyOf, deleteOf, defaultOf, getOf, isStart, listOf, otherByWord, verbByWord, requestIn, Said, readLine}
+use Rattle.request.specs.Grammar.{nameAt, retentionAt, termsAt, putOf, copyOf, deleteOf, defaultOf, getOf, namesPlace, listOf, otherByWord, verbByWord, requestIn, Said, readLine}
 
 -- the bytes of a text in which `|` stands for a tab
 abbrev withTabs : List ℕ → List ℕ
@@ -95,7 +95,7 @@ pub record Examples : Type 0 where
 
 -- each by computing
 pub examples : Examples
-unfolding isDigit leadingZero numberOf positiveOf fieldOf placeOf isKeyByte isPrefix isKey leap yearsLength monthStart monthLength validDay daysOf digitOf twoDigits fourDigits dayNumber dayAt secondOfDay secondAt fractionDigit milliseconds fractionOf readDate rightsIn readRights readKey readPrefix readVersion readMode readUntil readHold readBypass readPeriod nameAt retentionAt termsAt putOf copyOf deleteOf defaultOf getOf isStart listOf otherByWord verbByWord requestIn readLine
+unfolding isDigit leadingZero numberOf positiveOf fieldOf placeOf isKeyByte isPrefix isKey leap yearsLength monthStart monthLength validDay daysOf digitOf twoDigits fourDigits dayNumber dayAt secondOfDay secondAt fractionDigit milliseconds fractionOf readDate rightsIn readRights readKey readPrefix readVersion readMode readUntil readHold readBypass readPeriod nameAt retentionAt termsAt putOf copyOf deleteOf defaultOf getOf namesPlace listOf otherByWord verbByWord requestIn readLine
 examples =
     record {
       default = refl;

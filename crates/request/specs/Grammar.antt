@@ -131,9 +131,9 @@ sweepOf s = pick (eqb (tabsIn s) 2) (some Sweep) none
 unfoldable pub getOf : List ℕ → Option Verb
 getOf s = pick (eqb (tabsIn s) 4) (thenSome (nameAt s 3 4) none (λ n. some (Ask (Get n)))) none
 
--- the empty key has version 0 only
-unfoldable pub isStart : Place → ℕ → Bool
-isStart k v = pick (eqb (k .len) 0) (eqb v 0) true
+-- the key and the version name a place: the empty key has version 0 only
+unfoldable pub namesPlace : Place → ℕ → Bool
+namesPlace k v = pick (eqb (k .len) 0) (eqb v 0) true
 
 -- LIST prefix, key or nothing, version or 0, count 1 to 1000
 unfoldable pub listOf : List ℕ → Option Verb
@@ -143,7 +143,7 @@ listOf s =
     thenSome (readPrefix s 4) none (λ k.
     thenSome (numberOf largestNumber (fieldOf s 5)) none (λ v.
     thenSome (positiveOf largestCount (fieldOf s 6)) none (λ n.
-    pick (isStart k v) (some (Ask (ListVersions (record { prefix = p; key = k; version = v; count = n })))) none)))))
+    pick (namesPlace k v) (some (Ask (ListVersions (record { prefix = p; key = k; version = v; count = n })))) none)))))
     none
 
 -- DEFAULT, RULE, SWEEP, GET and LIST by their word

@@ -25,7 +25,7 @@ ghost use mathlib.Core.Path.{_≡_};
 ghost use Prim.Native.Nat.{_<_};
 ghost use Rattle.text.specs.Fields.{fieldOf, Split};
 ghost use Rattle.text.specs.Numbers.{valueOf, numberOf};
-ghost use Rattle.request.specs.Grammar.{nameAt, retentionAt, termsAt, putOf, copyOf, retainOf, setHoldOf, deleteOf, defaultOf, ruleOf, sweepOf, getOf, isStart, listOf, otherByWord, verbByWord};
+ghost use Rattle.request.specs.Grammar.{nameAt, retentionAt, termsAt, putOf, copyOf, retainOf, setHoldOf, deleteOf, defaultOf, ruleOf, sweepOf, getOf, namesPlace, listOf, otherByWord, verbByWord};
 ghost use Rattle.request.specs.Meaning.{nameFrom, retentionFrom, termsFrom, verbFrom};
 
 // The largest body number.
@@ -255,9 +255,9 @@ fn read_get(line: &[u8], marks: &[usize]) -> VerbRead
     VerbRead::Is(Verb::Ask(Query::Get(name)))
 }
 
-// The empty key has version 0 only.
-fn is_start(key: Place, version: u64) -> bool
-    ensures { λ r. ⌜ r ≡ isStart key version ⌝ }
+// The key and the version name a place: the empty key has version 0 only.
+fn names_place(key: Place, version: u64) -> bool
+    ensures { λ r. ⌜ r ≡ namesPlace key version ⌝ }
 {
     if key.len == 0 {
         return version == 0;
@@ -286,7 +286,7 @@ fn read_list(line: &[u8], marks: &[usize]) -> VerbRead
     else {
         return VerbRead::Bad;
     };
-    if is_start(key, version) {
+    if names_place(key, version) {
         return VerbRead::Is(Verb::Ask(Query::ListVersions(Page {
             prefix,
             key,

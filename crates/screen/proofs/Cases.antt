@@ -96,7 +96,7 @@ module _ (line : List ℕ) (room : ℕ) (q : Query) (r : Bool) where
   unfolding shortForPage
   get-fits n e h = rw e h
 
-  -- Division by what a row may take can't overflow, as the product of the count could.
+  -- So many rows fit as the division says.
   pub page-fits : (p : Page) → q ≡ ListVersions p → leastRoom ≤ room → r ≡ ltb ((room - leastRoom) / rowRoom) (p .count) → r ≡ shortForPage room (model.Ask (queryMeans line q))
   unfolding shortForPage
   page-fits p e l h =

@@ -140,13 +140,14 @@ fn is_allowed(a: Rights, verb: Verb) -> bool
 }
 
 // An answer buffer of this length is too short for a page of so many rows.
-fn is_page_short(q: Query, room: usize) -> bool
+fn is_short_for_query(q: Query, room: usize) -> bool
     requires { ⌜ leastRoom ≤ room ⌝ }
     ensures { λ r. ⌜ ((line : List ℕ) → r ≡ shortForPage room (Ask (queryMeans line q))) ⌝ }
 {
     match q {
         Query::Get(_) => false,
         Query::ListVersions(p) => {
+            // Nothing bounds the count here, so a product could overflow.
             let fit = (room - model::LEAST_ROOM) / model::ROW_ROOM;
             (fit as u64) < p.count
         }
@@ -161,7 +162,7 @@ fn is_short_for_page(verb: Verb, room: usize) -> bool
         Verb::Act(_) => false,
         Verb::Set(_) => false,
         Verb::Sweep => false,
-        Verb::Ask(q) => is_page_short(q, room),
+        Verb::Ask(q) => is_short_for_query(q, room),
     }
 }
 
