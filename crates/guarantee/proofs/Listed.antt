@@ -64,7 +64,6 @@ pub record Listed (b : Lent) (g : Call) (p : Page) : Type 0 where
   pub time-fits : b .settings .time ≤ latest
   pub next-fits : b .settings .next ≤ spentNumber
   pub rows-sound : all (soundRow (b .settings .next) (b .settings .time)) (bucketOf b .rows) ≡ true
-  pub some : 1 ≤ p .count
   pub few : p .count ≤ largestCount
   pub answer-is : (outcome b g) .answer ≡ written (pageText (pageRows p (bucketOf b .rows))) (g .answer)
   pub rows-stay : bucketOf (step b g) .rows ≡ bucketOf b .rows
@@ -85,7 +84,6 @@ listed b g p q n h v =
       time-fits = leb-true _ latest (s .time-fits);
       next-fits = s .next-fits;
       rows-sound = s .rows-sound;
-      some = leb-true 1 (p .count) (and-l _ _ counted);
       few = leb-true (p .count) largestCount (and-r (leb 1 (p .count)) _ counted);
       answer-is = rw (does, v);
       rows-stay = ap (λ (o : Outcome). bucketOf (o .bucket) .rows) does ∙ ap (λ (x : Bucket). x .rows) (accepted-bucket b g q w h z) ∙ rw v;
