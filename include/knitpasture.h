@@ -37,7 +37,7 @@ extern "C" {
 #define KNITPASTURE_MAX_ROWS 1024
 #define KNITPASTURE_MIN_ANSWER 256
 #define KNITPASTURE_MAX_LINE 512
-#define KNITPASTURE_MAX_COUNT 1000
+#define KNITPASTURE_MAX_COUNT 1000 /* of a LIST */
 
 /* The answer buffer that a LIST with this count needs, in bytes. */
 #define KNITPASTURE_PAGE_ROOM(count) (KNITPASTURE_MIN_ANSWER + 256 * (size_t)(count))
@@ -103,8 +103,9 @@ uint64_t knitpasture_fresh(uint8_t *settings, size_t settings_length,
  * The answer to every verb but LIST is one line: it ends with its first line feed (0x0A), within the first
  * KNITPASTURE_MIN_ANSWER bytes. The answer to LIST is a page, within the first KNITPASTURE_PAGE_ROOM(count) bytes: its
  * first line is `ok`, a tab and the number of rows, then comes a line for each row, each ended by a line feed, and the
- * answer ends with the line feed of the last of them, or of the first line where there are no rows. The next LIST takes
- * the key and the version of the page's last line, byte for byte; a page of fewer rows than its count is the last. */
+ * answer ends with the line feed of the last of them, or of the first line where there are no rows. The fields of a LIST
+ * are prefix, key, version and count: the first has an empty key and version 0, the next takes the key and the version
+ * of the page's last line, byte for byte, and a page of fewer rows than its count is the last. */
 uint64_t knitpasture_serve(uint8_t *settings, size_t settings_length,
                            uint8_t *rows, size_t rows_length,
                            uint8_t *keys, size_t keys_length,
