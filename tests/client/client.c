@@ -1,4 +1,5 @@
-/* What modem firmware does, through each entry: lend three buffers, serve lines, follow pages, save, load and go on. */
+/* What modem firmware does, through each entry: lend three buffers, serve lines, send a PUT again, follow pages, save, load
+ * and go on. */
 #include "../../samples/page.h"
 #include "../../samples/save.h"
 
@@ -32,10 +33,13 @@ static int untouched(const uint8_t *answer, size_t from, size_t length) {
     return from >= length;
 }
 
+/* How many of the bucket's rows are lent. */
+static size_t lent = CAPACITY;
+
 #define SETTINGS(bucket) (bucket)->settings, sizeof (bucket)->settings
-#define ROWS(bucket) (bucket)->rows, sizeof (bucket)->rows
-#define WORDS(bucket) (uint64_t *)(bucket)->rows, sizeof (bucket)->rows / 8
-#define KEYS(bucket) (bucket)->keys, sizeof (bucket)->keys
+#define ROWS(bucket) (bucket)->rows, lent * KNITPASTURE_ROW_BYTES
+#define WORDS(bucket) (uint64_t *)(bucket)->rows, lent * KNITPASTURE_ROW_WORDS
+#define KEYS(bucket) (bucket)->keys, lent * KNITPASTURE_KEY_BYTES
 
 /* The entries, which take turns by the form of rows and settings. */
 static enum { AS_BYTES, AS_WORDS, AS_STRUCT, FORMS } form;
@@ -125,6 +129,49 @@ static void whole_run(struct bucket *bucket) {
     TAKE(bucket, run);
     check(key_is(bucket, 0, "q/7"), "the marker that is left has the key");
     check(key_is(bucket, 1, "") && key_is(bucket, SIZE_MAX, ""), "a row that isn't used has none");
+}
+
+/* Takes a PUT twice: sent again, it has the same answer and changes no byte of the bucket. */
+static void take_twice(struct bucket *bucket, const struct step *put) {
+    take(bucket, put);
+    struct bucket once = *bucket;
+    take(bucket, put);
+    check(memcmp(&once, bucket, sizeof once) == 0, "a PUT that is sent again changes no byte of the bucket");
+}
+
+/* A modem that misses its reply sends the PUT again; what differs from the key's current version is a version of its own. */
+static void sent_again(struct bucket *bucket) {
+    static const struct step puts[] = {
+        {"2024-08-01T00:00:00Z|w|PUT|gauge/1|7|70|-|-|-", "ok|1"},
+        {"2024-08-01T00:00:00Z|wth|PUT|gauge/2|8|80|COMPLIANCE|2033-01-05T00:00:00Z|ON", "ok|2"},
+        {"2024-08-01T00:00:00Z|w|PUT|gauge/1|7|71|-|-|-", "ok|3"},
+        {"2024-08-01T00:00:00Z|w|PUT|gauge/1|7|70|-|-|-", "ok|4"},
+    };
+    static const struct step after[] = {
+        {"2024-08-02T00:00:00Z|wth|PUT|gauge/1|7|70|COMPLIANCE|2033-01-05T00:00:00Z|ON", "ok|4"},
+        {"2024-08-02T00:00:00Z|r|GET|gauge/1|-", "ok|4|7|70|-|-|OFF"},
+        {"2024-08-02T00:00:00Z|wt|PUT|gauge/1|7|70|COMPLIANCE|-|-", "no|4"},
+        {"2024-08-02T00:00:00Z|r|PUT|gauge/1|7|70|-|-|-", "no|5"},
+        {"2024-08-02T00:00:00Z|wt|PUT|gauge/1|7|70|COMPLIANCE|2024-08-02T00:00:00Z|-", "no|6"},
+        {"2024-08-02T00:00:00Z|rw|COPY|gauge/1|-|gauge/1|-|-|-", "ok|5"},
+        {"2024-08-02T00:00:00Z|d|DELETE|gauge/1|-|no", "ok|6|marker"},
+        {"2024-08-02T00:00:00Z|w|PUT|gauge/1|7|70|-|-|-", "ok|7"},
+    };
+    make_fresh(bucket);
+    for (size_t i = 0; i < sizeof puts / sizeof puts[0]; i++) {
+        take_twice(bucket, &puts[i]);
+    }
+    TAKE(bucket, after);
+}
+
+/* In a full table of one row it is accepted too, where whatever adds a row meets 12. */
+static void sent_again_full(struct bucket *bucket) {
+    lent = 1;
+    make_fresh(bucket);
+    take_twice(bucket, &(struct step){"2024-08-01T00:00:00Z|w|PUT|gauge/1|7|70|-|-|-", "ok|1"});
+    take(bucket, &(struct step){"2024-08-01T00:00:00Z|w|PUT|gauge/1|7|71|-|-|-", "no|12"});
+    take(bucket, &(struct step){"2024-08-01T00:00:00Z|rw|COPY|gauge/1|-|gauge/1|-|-|-", "no|12"});
+    lent = CAPACITY;
 }
 
 /* A file under COMPLIANCE stays through a reload and goes at its date. */
@@ -328,6 +375,8 @@ int main(int count, char **words) {
     for (form = AS_BYTES; form < FORMS; form++) {
         pages(bucket);
         whole_run(bucket);
+        sent_again(bucket);
+        sent_again_full(bucket);
         kept_through_reload(bucket, words[1]);
         wrong_lengths(bucket);
     }

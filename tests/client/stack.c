@@ -51,6 +51,7 @@ static const struct entry {
 static const char *const lines[] = {
     "2024-01-01T00:00:00Z\tw\tPUT\ta/1\t41\t300\t-\t-\t-",
     "2024-01-01T00:00:00Z\twth\tPUT\ta/2\t42\t300\tCOMPLIANCE\t2030-01-01T00:00:00Z\tON",
+    "2024-01-01T00:00:00Z\twth\tPUT\ta/2\t42\t300\tCOMPLIANCE\t2030-01-01T00:00:00Z\tON",
     "2024-01-02T00:00:00Z\twr\tCOPY\ta/1\t-\ta/3\t-\t-\t-",
     "2024-01-02T00:00:00Z\tt\tRETAIN\ta/1\t-\tGOVERNANCE\t2025-01-01T00:00:00Z\tno",
     "2024-01-02T00:00:00Z\th\tHOLD\ta/1\t-\tON",

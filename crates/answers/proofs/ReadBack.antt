@@ -1,8 +1,8 @@
--- A GET's answer read back: its fields, and the date among them.
+-- An answer of one line read back: its text, and a GET's fields with the date among them.
 use Prim.Native.Nat.{ℕ, _≤_}
 use mathlib.Core.Path.{_≡_, refl, _∙_, ap}
 use mathlib.Core.Bool.{true}
-use mathlib.Core.List.{List, _∷_, _++_, append-assoc}
+use mathlib.Core.List.{List, [], _∷_, _++_, append-assoc}
 use mathlib.Core.Option.{some}
 use lib.Dec.{eqb}
 use borrow.Author.Tests.{ne-eqb}
@@ -11,13 +11,15 @@ use Rattle.buffers.specs.Lists.{all}
 use Rattle.buffers.proofs.Choices.{pick-ways}
 use Rattle.text.specs.Fields.{fields, fieldOf, tabbed}
 use Rattle.text.specs.Lines.{firstLine}
+use Rattle.text.specs.Printing.{digits}
 use Rattle.text.proofs.Joined.{visible, digits-visible, fields-back, first-line}
 use Rattle.calendar.specs.Calendar.{latest}
 use Rattle.dates.specs.Reading.{readDate}
 use Rattle.dates.proofs.Printing.{date-visible}
 use Rattle.dates.proofs.RoundTrip.{round-trip}
 use Rattle.model.specs.Rows.{Row, governance}
-use Rattle.model.specs.Answers.{shown}
+use Rattle.model.specs.Requests.{Version, numbered}
+use Rattle.model.specs.Answers.{made, shown}
 use Rattle.answers.specs.Text.{fieldsText, okText, modeText, untilText, holdText, rowFields, answerText}
 
 pub mode-visible : (m : ℕ) → visible (modeText m) ≡ true
@@ -39,19 +41,32 @@ pub until-reads : (m d : ℕ) → (m ≡ 0 → ⊥) → d ≤ latest → readDat
 unfolding untilText
 until-reads m d h l = rw (ne-eqb m 0 h) (round-trip d l)
 
+-- ## A line of fields
+
+module _ (fs : List (List ℕ)) (room : List ℕ) (v : all visible fs ≡ true) where
+  -- The first line of a buffer that the answer begins is the answer without its line feed.
+  ok-line : firstLine (okText fs ++ room) ≡ bytes "ok" ++ tabbed fs
+  unfolding okText fieldsText
+  ok-line =
+      let t : okText fs ++ room ≡ (bytes "ok" ++ tabbed fs) ++ 10 ∷ room = simp append-assoc in
+      ap firstLine t ∙ first-line (bytes "ok") fs room refl v
+
+  ok-back : firstLine (okText fs ++ room) ++ 10 ∷ [] ≡ okText fs
+  unfolding okText fieldsText
+  ok-back = ap (λ (l : List ℕ). l ++ 10 ∷ []) ok-line ∙ append-assoc (bytes "ok") (tabbed fs) (10 ∷ [])
+
+-- The answer of a number.
+pub version-back : (v : Version) (room : List ℕ) → firstLine (answerText (made v) ++ room) ++ 10 ∷ [] ≡ answerText (made v)
+version-back (numbered n) room = ok-back (digits n ∷ []) room (simp digits-visible)
+
+-- ## A row
+
 module _ (x : Row) (room : List ℕ) where
   fields-visible : all visible (rowFields x) ≡ true
   fields-visible = simp (digits-visible, mode-visible, until-visible, hold-visible)
 
-  -- The first line of a buffer that the answer begins is the answer without its line feed.
-  row-line : firstLine (answerText (shown x) ++ room) ≡ bytes "ok" ++ tabbed (rowFields x)
-  unfolding okText fieldsText
-  row-line =
-      let t : answerText (shown x) ++ room ≡ (bytes "ok" ++ tabbed (rowFields x)) ++ 10 ∷ room = simp append-assoc in
-      ap firstLine t ∙ first-line (bytes "ok") (rowFields x) room refl fields-visible
-
   row-fields : fields (firstLine (answerText (shown x) ++ room)) ≡ bytes "ok" ∷ rowFields x
-  row-fields = ap fields row-line ∙ fields-back (bytes "ok") (rowFields x) refl fields-visible
+  row-fields = ap fields (ok-line (rowFields x) room fields-visible) ∙ fields-back (bytes "ok") (rowFields x) refl fields-visible
 
   -- The fifth field after `ok` reads as the row's date.
   pub until-back : (x .mode ≡ 0 → ⊥) → x .until ≤ latest → readDate (fieldOf (firstLine (answerText (shown x) ++ room)) 5) ≡ some (x .until)

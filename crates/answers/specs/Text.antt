@@ -10,7 +10,7 @@ use Rattle.text.specs.Fields.{tabbed}
 use Rattle.dates.specs.Printing.{printDate}
 use Rattle.model.specs.Rows.{Row, isData, governance}
 use Rattle.model.specs.Requests.{Version, numbered}
-use Rattle.model.specs.Answers.{Answer, done, made, marked, removed, removedMarker, sweptCounts, shown, listed}
+use Rattle.model.specs.Answers.{Answer, done, made, repeated, marked, removed, removedMarker, sweptCounts, shown, listed}
 
 -- no answer of one line is longer than this
 abbrev pub longestAnswer : ℕ
@@ -87,6 +87,7 @@ pageText xs = okText (digits (length xs) ∷ []) ++ rowTexts xs
 abbrev pub answerText : Answer → List ℕ
 answerText done = okText []
 answerText (made v) = okText (versionText v ∷ [])
+answerText (repeated v) = okText (versionText v ∷ [])
 answerText (marked v) = okText (versionText v ∷ bytes "marker" ∷ [])
 answerText (removed v) = okText (versionText v ∷ bytes "removed" ∷ [])
 answerText (removedMarker v) = okText (versionText v ∷ bytes "removed-marker" ∷ [])

@@ -1,12 +1,11 @@
 -- The change of a sweep.
 use Prim.Native.Nat.{ℕ, _+_, _-_, _≤_}
 use mathlib.Core.Path.{_≡_, refl, _∙_, ap}
-use mathlib.Core.List.{List, [], _∷_}
+use mathlib.Core.List.{List}
 use native.Mathlib.Omega.{arith}
-use lib.ListN.{length, take, length-append, length-take}
-use Rattle.model.specs.Rows.{Row}
-use Rattle.model.specs.Sweep.{Fate, inPlace, marks, removes, total, carriedOut}
-use Rattle.model.proofs.Room.{length-in-place}
+use lib.ListN.{length, take, length-take}
+use Rattle.model.specs.Sweep.{marks, removes, total, carriedOut}
+use Rattle.model.proofs.Room.{length-carried}
 use Rattle.table.specs.Layout.{rowsOf, capacity, Holds}
 use Rattle.table.proofs.Held.{rows-length}
 use Rattle.lifecycle.specs.Fates.{fatesIn}
@@ -18,17 +17,6 @@ use Rattle.judge.specs.Meaning.{Judged, Changeable}
 use Rattle.apply.specs.Applied.{judged, Applicable, Applied}
 use mir.Val.{Fits}
 use mir.Syntax.{w64}
-
--- The rows that fates leave: less those that go, plus the markers.
-length-carried : (made n : ℕ) (fs : List Fate) (xs : List Row) → length fs ≡ length xs → length (carriedOut made n fs xs) + total removes fs ≡ length xs + total marks fs
-length-carried made n [] [] e = refl
-length-carried made n [] (x ∷ xs) e = absurd (omega arith)
-length-carried made n (f ∷ fs) [] e = absurd (omega arith)
-length-carried made n (f ∷ fs) (x ∷ xs) e =
-    let here = length-in-place f made n x in
-    let rest = length-carried made (n + marks f) fs xs (omega arith) in
-    let joined = length-append (inPlace f made n x) (carriedOut made (n + marks f) fs xs) in
-    omega arith
 
 module _ (line : List ℕ) (next instant : ℕ) (fates n b : List ℕ) (u : ℕ) (v : Change) (h : Applicable (judged line next instant fates) n b u v) (gone new : ℕ) (q : v ≡ Sweep gone new) where
   abbrev j : Judged

@@ -1,17 +1,18 @@
 -- Laws of reading: what stands in the input before, between and after blocks.
-use Prim.Native.Nat.{ℕ, zero, suc, _+_, _-_, _≤_, _<_, min}
+use Prim.Native.Nat.{ℕ, _+_, _-_, _≤_, _<_, min}
 use mathlib.Core.Path.{_≡_, refl, sym, _∙_, ap, ap₂}
 use mathlib.Core.Bool.{Bool, true, false, not}
 use mathlib.Core.List.{List, [], _∷_, _++_}
 use native.Mathlib.Omega.{arith}
-use native.Mathlib.Numerals.{add-one, unary-clauses}
+use native.Mathlib.Numerals.{add-one}
 use lib.ListN.{length, take, drop, set, replicate, length-take, length-drop, length-replicate}
-use lib.Seq.{length-take-le, take-nil, take-add, take-suc-set, take-set-le}
+use lib.Seq.{length-take-le, take-add, take-suc-set, take-set-le}
 use borrow.Author.Tests.{not-false}
 use borrow.Rule.Slice.PartMut.{midOf, putMid, take-put, same-len-mid}
 use Rattle.buffers.specs.Ranges.{Within, Span}
 use Rattle.buffers.specs.Writes.{Wrote}
 use Rattle.buffers.proofs.Tests.{clash}
+use Rattle.buffers.proofs.Lists.{drop-take, take-least}
 use Rattle.buffers.proofs.Parts.{part-cut}
 use Rattle.buffers.proofs.Writes.{wrote-as}
 use Rattle.text.specs.Lines.{linesOf}
@@ -63,18 +64,6 @@ module _ (input : List ℕ) (kept : ℕ) (ys : List ℕ) (h : kept < length inpu
 
 pub ruleset read-cases = (came-more, came-none, came-end)
 
-drop-take : (f t : ℕ) (l : List ℕ) → drop f (take t l) ≡ take (t - f) (drop f l)
-drop-take zero t l = simp unary-clauses
-drop-take (suc f) zero l = let z : zero - suc f ≡ 0 = omega arith in rw z
-drop-take (suc f) (suc t) [] = sym (take-nil (suc t - suc f))
-drop-take (suc f) (suc t) (x ∷ l) = simp unary-clauses (drop-take f t l)
-
-take-least : (j k : ℕ) (l : List ℕ) → take (min j k) l ≡ take k (take j l)
-take-least zero k l = simp unary-clauses (sym (take-nil k))
-take-least (suc j) zero l = simp unary-clauses
-take-least (suc j) (suc k) [] = take-nil (min (suc j) (suc k))
-take-least (suc j) (suc k) (x ∷ l) = simp unary-clauses (ap (λ (t : List ℕ). x ∷ t) (take-least j k l))
-
 -- The start of a line goes to the front by way of another buffer.
 pub kept-start : (input : List ℕ) (from to len : ℕ) (line line′ : List ℕ) (k a : ℕ) (exit : List ℕ) (m r : ℕ) → Span from to (length input) → Within len (min (to - from) 513) 513
     → Wrote line 0 (take (from + len - from) (drop from input)) k line′ a → Wrote input 0 (take (len - 0) line′) m exit r → Wrote input 0 (take 513 (drop from (take to input))) 513 exit r
@@ -82,8 +71,9 @@ kept-start input from to len line line′ k a exit m r h c v w =
     let n = length-drop from input in
     let t : length (take (from + len - from) (drop from input)) ≡ len = ap length (part-cut input from len) ∙ length-take-le len (drop from input) (omega (arith, h .from, h .to, c .is)) in
     let z : len - 0 ≡ a = omega (arith, v .next) in
+    let q : len ≡ min 513 (to - from) = omega (arith, c .is) in
     wrote-as input 0 (take (len - 0) line′) (take 513 (drop from (take to input))) m 513 exit r w
-    (rw z (wrote-front line 0 _ k line′ a (omega arith) v) ∙ part-cut input from len ∙ ap (λ (n : ℕ). take n (drop from input)) (c .is) ∙ take-least (to - from) 513 (drop from input) ∙ ap (take 513) (sym (drop-take from to input)))
+    (rw z (wrote-front line 0 _ k line′ a (omega arith) v) ∙ part-cut input from len ∙ ap (λ (n : ℕ). take n (drop from input)) q ∙ take-least 513 (to - from) (drop from input) ∙ ap (take 513) (sym (drop-take from to input)))
     (rw length-take (omega arith))
 
 -- ## A block

@@ -12,7 +12,7 @@ use Rattle.buffers.proofs.Tests.{either, clash, or-l, or-r, or-none}
 use Rattle.text.specs.Fields.{onFirst}
 use Rattle.text.specs.Lines.{linesOf, feedAt}
 use Rattle.text.specs.Keys.{contains}
-use Rattle.text.proofs.Lines.{lines-next, lines-at}
+use Rattle.text.proofs.Lines.{feed-clear, lines-next, lines-at}
 use Rattle.bucketrun.specs.Program.{endedLength, endedLines, feedEnded}
 
 -- ## Texts without a line feed
@@ -24,13 +24,6 @@ none-feed (b ∷ s) e =
       | inl t ↦ let z : 0 ≡ suc (length s) = rw t at e in absurd (omega arith)
       | inr t ↦ let z : suc (feedAt s) ≡ suc (length s) = rw t at e in rw t (none-feed s (omega arith))
     ]
-
-feed-none : (s u : List ℕ) → contains s 10 ≡ false → feedAt (s ++ u) ≡ length s + feedAt u
-feed-none [] u e = omega arith
-feed-none (b ∷ s) u e =
-    let p = or-none (eqb b 10) (contains s 10) e in
-    let x = feed-none s u (p .1) in
-    rw (p .0) (omega arith)
 
 pub none-take : (n : ℕ) (s : List ℕ) → contains s 10 ≡ false → contains (take n s) 10 ≡ false
 none-take zero s e = refl
@@ -153,7 +146,7 @@ lines-first (b ∷ s) h =
 pub lines-begun : (s u : List ℕ) → contains s 10 ≡ false → 0 < length s → linesOf (s ++ u) ≡ (s ++ take (feedAt u) u) ∷ linesOf (drop (suc (feedAt u)) u)
 lines-begun s u e h =
     let q : 0 + (length s + feedAt u) + 1 ≡ length s + suc (feedAt u) = omega arith in
-    lines-at (s ++ u) 0 (length s + feedAt u) (rw length-append (omega arith)) (sym (feed-none s u e)) ∙ rw (q, take-append-add s u, drop-append-add s u)
+    lines-at (s ++ u) 0 (length s + feedAt u) (rw length-append (omega arith)) (sym (feed-clear s u e)) ∙ rw (q, take-append-add s u, drop-append-add s u)
 
 end-last : (s : List ℕ) → endedLength (s ++ 10 ∷ []) ≡ length (s ++ 10 ∷ [])
 end-last [] = refl

@@ -1,13 +1,15 @@
--- Laws of the lists of `specs/Lists.antt`.
-use Prim.Native.Nat.{ℕ, zero, suc, _<_}
+-- Laws of lists: of what `specs/Lists.antt` defines, and of parts of parts.
+use Prim.Native.Nat.{ℕ, zero, suc, _-_, _<_, min}
 use mathlib.Core.Path.{_≡_, refl, sym, _∙_, ap, ap₂}
 use mathlib.Core.Logic.{inl, inr}
 use mathlib.Core.Bool.{Bool, true, false, not, _&&_, false≢true, and-false, and-comm}
 use mathlib.Core.List.{List, [], _∷_, _++_, map}
 use mathlib.Core.Option.{Option, some, none}
 use native.Mathlib.Omega.{arith}
+use native.Mathlib.Numerals.{unary-clauses}
 use lib.Dec.{eqb}
 use lib.ListN.{length, getD, take, drop, set}
+use lib.Seq.{take-nil}
 use borrow.Author.Tests.{eqb-true, eq-eqb, not-true}
 use Rattle.buffers.specs.Choices.{pick}
 use Rattle.buffers.specs.Lists.{keep, first, change, all, any, same}
@@ -195,6 +197,21 @@ module _ {A : Type 0} where
   pub first-as : (p q : A → Bool) → ((x : A) → p x ≡ q x) → (xs : List A) → first p xs ≡ first q xs
   first-as p q f [] = refl
   first-as p q f (x ∷ xs) = rw (f x) (ap (λ (r : Option A). pick (q x) (some x) r) (first-as p q f xs))
+
+  -- ## Parts of parts
+
+  pub drop-take : (f t : ℕ) (l : List A) → drop f (take t l) ≡ take (t - f) (drop f l)
+  drop-take zero t l = simp unary-clauses
+  drop-take (suc f) zero l = let z : zero - suc f ≡ 0 = omega arith in rw z
+  drop-take (suc f) (suc t) [] = sym (take-nil (suc t - suc f))
+  drop-take (suc f) (suc t) (x ∷ l) = simp unary-clauses (drop-take f t l)
+
+  -- As many as two numbers allow.
+  pub take-least : (j k : ℕ) (l : List A) → take (min j k) l ≡ take j (take k l)
+  take-least zero k l = simp unary-clauses
+  take-least (suc j) zero l = simp unary-clauses
+  take-least (suc j) (suc k) [] = take-nil (min (suc j) (suc k))
+  take-least (suc j) (suc k) (x ∷ l) = simp unary-clauses (ap (λ (t : List A). x ∷ t) (take-least j k l))
 
 -- ## The images of the elements
 

@@ -6,7 +6,7 @@ use native.Mathlib.Omega.{arith}
 use native.Mathlib.Numerals.{add-one}
 use native.Mathlib.Nat.{pow-succ'}
 use lib.ListN.{length, take, drop, getD}
-use lib.Seq.{drop-cons}
+use lib.Seq.{drop-cons, getD-drop}
 use Rattle.buffers.specs.Ranges.{Within}
 use Rattle.buffers.specs.Words.{number, spelled, AllBytes}
 
@@ -30,6 +30,17 @@ spelled-number (b ∷ bs) h =
     let r : (b + 256 * number bs) % 256 ≡ b = omega arith in
     let q : (b + 256 * number bs) / 256 ≡ number bs = omega arith in
     rw (r, q, spelled-number bs (λ i. h (suc i)))
+
+-- ## Parts of bytes
+
+pub bytes-take : (n : ℕ) (bs : List ℕ) → AllBytes bs → AllBytes (take n bs)
+bytes-take zero bs h k = omega arith
+bytes-take (suc n) [] h k = omega arith
+bytes-take (suc n) (b ∷ bs) h zero = h 0
+bytes-take (suc n) (b ∷ bs) h (suc k) = bytes-take n bs (λ i. h (suc i)) k
+
+pub bytes-drop : (n : ℕ) (bs : List ℕ) → AllBytes bs → AllBytes (drop n bs)
+bytes-drop n bs h k = rw (getD-drop n bs k 0) (h (n + k))
 
 -- ## A word
 

@@ -10,10 +10,9 @@ use borrow.Author.Tests.{leb-true}
 use Rattle.buffers.proofs.Tests.{and-l, and-r}
 use Rattle.calendar.specs.declared.Now.{Now}
 use Rattle.calendar.specs.Calendar.{latest}
-use Rattle.model.specs.Settings.{soundDefault, soundRules, soundConfig}
+use Rattle.model.specs.Settings.{soundRules}
 use Rattle.model.specs.Requests.{inRange}
-use Rattle.model.proofs.Sound.{whole as sound-whole}
-use Rattle.settings.specs.declared.Settings.{Settings}
+use Rattle.model.proofs.Sound.{whole as sound-whole, config-default, config-rules}
 use Rattle.settings.specs.Meaning.{settingsMean}
 use Rattle.settings.specs.State.{stateOf}
 use Rattle.table.specs.Layout.{capacity}
@@ -27,10 +26,6 @@ use Rattle.judge.specs.State.{Ready}
 use Rattle.judge.specs.Premises.{Asked}
 use Rattle.engine.specs.Served.{Passing}
 
-config-parts : (s : Settings) → soundConfig (settingsMean s .config) ≡ true → (soundDefault (settingsMean s .config .default) ≡ true) × (soundRules (settingsMean s .config .rules) ≡ true)
-unfolding soundConfig
-config-parts s e = (and-l _ _ e, and-r (soundDefault (settingsMean s .config .default)) _ e)
-
 ready : (b : Lent) → whole b ≡ true → Ready (stateOf (b .settings)) (b .numbers) (b .keys)
 ready b e =
     let p = whole-parts b e in
@@ -41,14 +36,14 @@ ready b e =
       rows-sound = w .rows-sound;
       from-one = w .from-one;
       next-fits = w .next-fits;
-      default-sound = (config-parts (b .settings) (w .config-sound)) .0;
+      default-sound = config-default (settingsMean (b .settings) .config) (w .config-sound);
       used-fits = p .room;
       capacity-fits = p .most;
     }
 
 -- The rules of a whole bucket are sound.
 pub whole-rules : (b : Lent) → whole b ≡ true → soundRules (settingsMean (b .settings) .config .rules) ≡ true
-whole-rules b e = (config-parts (b .settings) ((sound-whole (capacity (b .keys)) (bucketOf b) ((whole-parts b e) .is-sound)) .config-sound)) .1
+whole-rules b e = config-rules (settingsMean (b .settings) .config) ((sound-whole (capacity (b .keys)) (bucketOf b) ((whole-parts b e) .is-sound)) .config-sound)
 
 -- A line that passes the screen is judged on such a bucket.
 module _ (b : Lent) (line a : List ℕ) (v : Verb) (when : Now) (p : Passing b line a v when) where

@@ -3,7 +3,7 @@ use Prim.Native.Nat.{ℕ, _+_, _≤_, max}
 use mathlib.Core.Path.{_≡_, refl, sym, _∙_, ap, subst⁻¹}
 use mathlib.Core.Bool.{Bool, true, false}
 use mathlib.Core.List.{List, []}
-use mathlib.Core.Option.{some}
+use mathlib.Core.Option.{some, none}
 use native.Mathlib.Omega.{arith}
 use lib.ListN.{length, replicate, length-replicate}
 use borrow.Author.Tests.{ltb-false}
@@ -14,9 +14,11 @@ use Rattle.fields.specs.Meaning.{Inside}
 use Rattle.model.specs.Requests as model
 use Rattle.model.specs.Requests.{page, Get, ListVersions, Set, Sweep, Ask, says, inRange}
 use Rattle.model.specs.Pages.{pageRows}
+use Rattle.model.specs.Retries.{meant}
 use Rattle.model.specs.Effects.{added, rowsAfter, configAfter}
 use Rattle.model.specs.Refusals.{fieldChecks, tableChecks, leastRoom, pageRoom, shortForPage}
 use Rattle.model.specs.Answers.{reply}
+use Rattle.model.proofs.Accepted.{meant-either}
 use Rattle.settings.specs.declared.Rule.{Rule}
 use Rattle.settings.specs.declared.Settings.{Settings}
 use Rattle.settings.specs.declared.State.{State}
@@ -51,6 +53,7 @@ use Rattle.judge.specs.declared.Plan.{Plan}
 use Rattle.judge.specs.declared.Verdict.{Verdict}
 use Rattle.judge.specs.declared.Verdict.the-variants as verdict
 use Rattle.judge.specs.Meaning.{planMeans, verdictMeans}
+use Rattle.judge.specs.State.{rowsIn}
 use Rattle.judge.specs.Premises.{both, Asked, Sweepable, JudgesBy, JudgesOn}
 use Rattle.judge.proofs.Deciding.{page-does}
 use Rattle.judge.proofs.Sweeping as judge
@@ -81,7 +84,7 @@ hears line a q e = rw e
 
 module _ (b : Lent) (line a : List ℕ) (w : whole b ≡ true) where
   said-is : (q : Said) → leastRoom ≤ length a → readLine line ≡ some q
-      → done b (max (b .settings .time) (q .clock)) (q .verb) a (decision (capacity (b .keys)) (bucketOf b) (asked (length a) q)) ≡ outcome b (call line a)
+      → done b (max (b .settings .time) (q .clock)) (meant (bucketOf b .rows) (q .verb)) a (decision (capacity (b .keys)) (bucketOf b) (asked (length a) q)) ≡ outcome b (call line a)
   said-is q l e = outcome-said b (call line a) (asked (length a) q) w l (hears line a q e) (read-in-range line q e)
 
   -- A line that its own fields refuse.
@@ -90,19 +93,21 @@ module _ (b : Lent) (line a : List ℕ) (w : whole b ≡ true) where
   said-stops k q l e h z =
       let c = bucketOf b in
       let now = max (b .settings .time) (q .clock) in
+      let v = meant (c .rows) (q .verb) in
       ap (λ (m : ℕ). refused m b a) h
-      ∙ sym (ap (λ (d : Decision). done b now (q .verb) a d) (decide-stop (fieldChecks (c .settings .config) (q .who) (length a) now (q .verb)) (tableChecks (capacity (b .keys)) c (both now) (q .verb)) (effect c (both now) (q .who) (q .verb)) (λ i. z (h ∙ i))))
+      ∙ sym (ap (λ (d : Decision). done b now v a d) (decide-stop (fieldChecks (c .settings .config) (q .who) (length a) now (q .verb)) (tableChecks (capacity (b .keys)) c (both now) v) (effect c (both now) (q .who) v) (λ i. z (h ∙ i))))
       ∙ said-is q l e
 
-  -- A line that they don't refuse is done as the table decides.
+  -- A line that they don't refuse is done as the table decides of what it means.
   said-passes : (q : Said) (now : ℕ) → leastRoom ≤ length a → readLine line ≡ some q → now ≡ max (b .settings .time) (q .clock) → 0 ≡ fieldRefusal (settingsMean (b .settings) .config) (q .who) (length a) now (q .verb)
-      → done b now (q .verb) a (tableDecision (capacity (b .keys)) (bucketOf b) (both now) (q .who) (q .verb)) ≡ outcome b (call line a)
+      → let v = meant (bucketOf b .rows) (q .verb) in done b now v a (tableDecision (capacity (b .keys)) (bucketOf b) (both now) (q .who) v) ≡ outcome b (call line a)
   unfolding fieldRefusal
   said-passes q now l e t h =
       let c = bucketOf b in
       let m = max (b .settings .time) (q .clock) in
-      rw t (sym (ap (λ (d : Decision). done b m (q .verb) a d)
-      (decide-go (fieldChecks (c .settings .config) (q .who) (length a) m (q .verb)) (tableChecks (capacity (b .keys)) c (both m) (q .verb)) (effect c (both m) (q .who) (q .verb)) refl (sym (rw t at h))))
+      let v = meant (c .rows) (q .verb) in
+      rw t (sym (ap (λ (d : Decision). done b m v a d)
+      (decide-go (fieldChecks (c .settings .config) (q .who) (length a) m (q .verb)) (tableChecks (capacity (b .keys)) c (both m) v) (effect c (both m) (q .who) v) refl (sym (rw t at h))))
       ∙ said-is q l e)
 
   stops : (k : ℕ) → screened.Refused k ≡ screenedLine (settingsMean (b .settings) .config) (b .settings .time) line (length a) → refused k b a ≡ outcome b (call line a)
@@ -120,7 +125,7 @@ line-stopped s n keys line a w st o k r i h e x y z = refused-is r k s n keys a 
 
 -- ## A line that passes
 
--- Who sends it, what judging it asks, and that what the table decides of it, done, is its outcome.
+-- Who sends it, what judging it asks, and that what the table decides of what it means, done, is its outcome.
 record Known (b : Lent) (line a : List ℕ) (v : Verb) (when : Now) : Type 0 where
   who : model.Rights
   prefixes : prefixesAre (b .settings .rules) ≡ true
@@ -128,7 +133,7 @@ record Known (b : Lent) (line a : List ℕ) (v : Verb) (when : Now) : Type 0 whe
   inside : VerbInside line v
   asked : Asked (stateOf (b .settings)) (b .numbers) (b .keys) (when .judge) (verbMeans line v)
   one-now : when .stamp ≡ when .judge
-  decided : (d : Decision) → d ≡ tableDecision (capacity (b .keys)) (bucketOf b) (both (when .judge)) who (verbMeans line v) → done b (when .judge) (verbMeans line v) a d ≡ outcome b (call line a)
+  decided : (d : Decision) → let w = meant (bucketOf b .rows) (verbMeans line v) in d ≡ tableDecision (capacity (b .keys)) (bucketOf b) (both (when .judge)) who w → done b (when .judge) w a d ≡ outcome b (call line a)
 
 known : {b : Lent} {line a : List ℕ} {v : Verb} {when : Now} → Passing b line a v when → Known b line a v when
 known {b} {line} {a} {v} {when} p =
@@ -140,7 +145,7 @@ known {b} {line} {a} {v} {when} p =
       inside = q .inside;
       asked = line-asked b line a v when p;
       one-now = line-stamp b line a v when p;
-      decided = λ d e. ap (λ (x : Decision). done b (when .judge) (verbMeans line v) a x) e
+      decided = λ d e. ap (λ (x : Decision). done b (when .judge) (meant (bucketOf b .rows) (verbMeans line v)) a x) e
           ∙ said-passes b line a (p .is-whole) _ (when .judge) (q .room-fits) (q .says) (line-judge b line a v when p)
           (q .passes ∙ ap (λ (t : ℕ). fieldRefusal (settingsMean (b .settings) .config) (q .who) (length a) t (verbMeans line v)) (line-stamp b line a v when p));
     }
@@ -167,7 +172,7 @@ module _ (s : State) (n keys line a : List ℕ) (x : Action) (when : Now) (h : A
   pub act-inside : ActionInside line x
   act-inside = h .inside
 
-  module _ (o : Verdict) (fates : List ℕ) (j : JudgesOn s n keys line (when .judge) (actionMeans line x) o) where
+  module _ (o : Verdict) (fates : List ℕ) (j : JudgesOn s n keys line (when .judge) (meant (rowsIn s n keys) (actionMeans line x)) o) where
     pub act-can : CanCarryOut s n keys line a o (when .stamp) fates
     act-can = rw (h .one-now) (record { ready = h .asked .ready; feasible = (j anyone [] fates) .feasible; room = h .room })
 
@@ -175,7 +180,7 @@ module _ (s : State) (n keys line a : List ℕ) (x : Action) (when : Now) (h : A
     act-done y n′ keys′ a′ g =
         record {
           is = λ t e p. let q = known p in
-              (rw (h .one-now) at g) .is t (actionMeans line x) e (q .prefixes) (action-unset line x) ∙ q .decided _ ((rw e at j (q .who) (rulesMean (t .rules)) fates) .is);
+              (rw (h .one-now) at g) .is t _ e (q .prefixes) (meant-either (rowsOf n keys (t .used)) (actionMeans line x) (λ w. model.settingOf w ≡ none) (action-unset line x) (λ _. refl)) ∙ q .decided _ ((rw e at j (q .who) (rulesMean (t .rules)) fates) .is);
         }
 
 pub ruleset actions = (act-asked, act-inside, act-can, act-done)

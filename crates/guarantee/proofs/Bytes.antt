@@ -26,8 +26,8 @@ use Rattle.knitpasture.proofs.Left.{Fitting, spelling-ways, reads-as, left-numb
 use Rattle.knitpasture.proofs.Hub.{HandsOn, hub-range, hub-refused, hub-hands-on}
 use Rattle.knitpasture.proofs.FreshBucket.{fresh-made, fresh-hands-on}
 use Rattle.guarantee.specs.Calls.{step, callEvent, callEvents}
-use Rattle.guarantee.specs.Bytes.{Sized, Demand1Bytes, Demand2Bytes, WrongLengths, freshBytes, FreshMade, byteStep, byteEvent, byteEvents, Demand3Bytes}
-use Rattle.guarantee.specs.Pages.{Exchange, exchange, exchanges, byteExchange, byteExchanges}
+use Rattle.guarantee.specs.Bytes.{Sized, outcomeInBytes, Demand1Bytes, Demand2Bytes, WrongLengths, freshBytes, FreshMade, byteStep, byteEvent, byteEvents, Demand3Bytes}
+use Rattle.guarantee.specs.Exchanges.{Exchange, exchange, exchanges, byteExchange, byteExchanges}
 use Rattle.guarantee.proofs.Demands.{demand-2}
 use Rattle.guarantee.proofs.Runs.{whole-after}
 use Rattle.guarantee.proofs.LockClause.{fresh-is-whole, demand-3}
@@ -72,8 +72,12 @@ module _ (c : ℕ) (b : Bytes) (g : Call) (z : Sized c b) where
       let m = z .most in
       reads-as b g (record { settings-long = z .settings-long; rows-most = omega arith; rows-even = omega arith })
 
-  same-number : (hubServed b g) .number ≡ core .number
+  pub same-number : (hubServed b g) .number ≡ core .number
   same-number = rw is-served (left-number _ core b (g .answer))
+
+  -- An accepted call leaves the bytes of what the call on the spelled bucket leaves.
+  pub accepted-bytes : core .number ≡ 0 → hubServed b g ≡ outcomeInBytes core
+  accepted-bytes n = is-served ∙ rw n
 
   -- What it leaves has the same lengths, and spells what the call on the spelled bucket leaves.
   record Spells : Type 0 where
@@ -105,7 +109,7 @@ module _ (c : ℕ) (b : Bytes) (g : Call) (z : Sized c b) where
     | inr t ↦ simp (is-served, t)
   ]
 
-  same-exchange : byteExchange b g ≡ exchange (lentOf b) g
+  pub same-exchange : byteExchange b g ≡ exchange (lentOf b) g
   same-exchange = elim (either (eqb (core .number) 0)) [
     | inl t ↦ simp (is-served, t) (rw (eqb-true (core .number) 0 t))
     | inr t ↦ simp (is-served, t) (rw (outcome-refused (lentOf b) g (eqb-false (core .number) 0 t)))
@@ -182,10 +186,10 @@ fresh-is-made b =
 -- ## A list of calls: demand 3 of the C entries
 
 module _ (c : ℕ) where
-  sized-after : (b : Bytes) (g : Call) → Sized c b → Sized c (byteStep b g)
+  pub sized-after : (b : Bytes) (g : Call) → Sized c b → Sized c (byteStep b g)
   sized-after b g z = (spells-after c b g z) .sized
 
-  spelled-after : (b : Bytes) (g : Call) → Sized c b → lentOf (byteStep b g) ≡ step (lentOf b) g
+  pub spelled-after : (b : Bytes) (g : Call) → Sized c b → lentOf (byteStep b g) ≡ step (lentOf b) g
   spelled-after b g z = (spells-after c b g z) .is
 
   spelled-left : (b : Bytes) (gs : List Call) → Sized c b → lentOf (left byteStep b gs) ≡ left step (lentOf b) gs

@@ -1,6 +1,7 @@
 -- The statements at work, computed: 01's starred examples as one table, its printed run, and a use of each demand on bytes and buffers.
 use Prim.Native.Nat.{ℕ}
 use mathlib.Core.Path.{_≡_, refl, ap}
+use mathlib.Core.Bool.{true}
 use mathlib.Core.List.{List, [], _∷_, _++_}
 use mathlib.Core.Option.{some}
 use native.Mathlib.Omega.{arith}
@@ -28,25 +29,29 @@ use Rattle.model.specs.Locks.{locked, admits}
 use Rattle.model.specs.Refusals.{halfGiven, needs, granted, lacksRight, shortForPage, pastDate, missing, namesMarker, barred, tooLate, spends, full}
 use Rattle.model.specs.Requests.{inRange}
 use Rattle.model.specs.Rows.{soundRow}
-use Rattle.model.specs.Settings.{soundRules, soundConfig, fits, sound}
+use Rattle.model.specs.Settings.{largestNumber, soundRules, soundConfig, fits, sound}
 use Rattle.model.specs.Time.{defaultEnd}
 use Rattle.blocks.specs.Blocks.{blockOf, isBlock}
 use Rattle.settings.specs.Bytes.{settingsLength, settingsOf, settingsBytes}
 use Rattle.settings.specs.Meaning.{settingsSound}
-use Rattle.bucket.specs.Whole.{Lent, bucketOf, freshLent, whole}
+use Rattle.settings.specs.Changes.{withProgress}
+use Rattle.bucket.specs.Whole.{Lent, lent, bucketOf, freshLent, whole}
 use Rattle.fields.specs.Fields.{rightsIn, readRights, readKey, readPrefix, readVersion, readMode, readUntil, readSwitch, readHold, readBypass, readPeriod}
 use Rattle.request.specs.Grammar.{nameAt, retentionAt, termsAt, putOf, copyOf, retainOf, setHoldOf, deleteOf, defaultOf, ruleOf, sweepOf, getOf, otherByWord, verbByWord, requestIn, readLine}
 use Rattle.answers.specs.Text.{fieldsText, okText, modeText, untilText, holdText, answerText}
 use Rattle.outcome.specs.Calls.{Call, call}
 use Rattle.outcome.specs.Outcome.{Outcome, written, refusalOf, outcome}
 use Rattle.outcome.specs.Printed.{printed}
-use Rattle.knitpasture.specs.Bytes.{Bytes, asBytes, lentOf, numbersFrom, numbersBytes, hubServed, fitRows, hubFresh}
+use Rattle.knitpasture.specs.Bytes.{Bytes, asBytes, lentOf, byteOutcome, numbersFrom, numbersBytes, hubServed, fitRows, hubFresh}
 use Rattle.guarantee.specs.Calls.{step}
 use Rattle.guarantee.specs.Lists.{ended, lineStep}
 use Rattle.guarantee.specs.Promise.{Hub, Demand1, Demand2}
 use Rattle.guarantee.specs.Bytes.{freshBytes, byteStep, byteEvents}
+use Rattle.guarantee.specs.Exchanges.{exchange}
+use Rattle.guarantee.specs.Retries.{answeredBy, atTime, isPut, lineIn, sameFile}
 use Rattle.guarantee.proofs.Demands.{only-hub}
 use Rattle.guarantee.proofs.Bytes.{demand-3-bytes}
+use Rattle.guarantee.proofs.Retries.{sent-twice, sent-twice-bytes, sent-later}
 
 -- A call of a line with an answer buffer of zeros.
 abbrev asks : List ℕ → Call
@@ -134,6 +139,46 @@ oneRow = asBytes (replicate settingsLength 90) (replicate 64 90) (replicate 64 9
 abbrev calls : List Call
 calls = lockedPut ∷ asks (bytes "2033-01-05T00:00:00.006Z\tdb\tDELETE\tq/7\t1\tyes") ∷ []
 
+-- ## Sent twice is sent once
+
+-- An empty bucket of one row with one version number left.
+abbrev oneLeft : Lent
+oneLeft = let f = freshLent 1 in lent (withProgress (f .settings) 0 0 largestNumber) (f .numbers) (f .keys)
+
+-- The same line in a longer answer buffer, full of line feeds, and the line of another file.
+abbrev lockedPutAgain : Call
+lockedPutAgain = record { sent = lockedPut .sent; answer = replicate 300 10 }
+
+abbrev otherPut : Call
+otherPut = asks (bytes "2026-01-05T08:00:00Z\tw\tPUT\tq/8\t41\t300\t-\t-\t-")
+
+-- A day later, with another lock and on hold.
+abbrev lockedPutLater : Call
+lockedPutLater = asks (bytes "2026-01-06T08:00:00Z\twth\tPUT\tq/7\t41\t300\tGOVERNANCE\t2030-01-05T00:00:00Z\tON")
+
+-- What a line returns on the bucket with the locked file.
+abbrev answeredWith : List ℕ → ℕ
+answeredWith l = (outcome withLocked (asks l)) .number
+
+-- The first PUT took the last row, and in the second bucket the last version number too, so that another file is refused; sent again it is accepted.
+pub record SentAgain : Type 0 where
+  pub is-put : isPut (exchange (freshLent 1) lockedPut) ≡ true
+  pub no-row-left : (outcome withLocked otherPut) .number ≡ 12
+  pub again : outcome withLocked lockedPutAgain ≡ answeredBy (lineIn ((outcome (freshLent 1) lockedPut) .answer)) withLocked (replicate 300 10)
+  pub no-number-left : (outcome (step oneLeft lockedPut) otherPut) .number ≡ 11
+  pub again-spent : outcome (step oneLeft lockedPut) lockedPutAgain ≡ answeredBy (lineIn ((outcome oneLeft lockedPut) .answer)) (step oneLeft lockedPut) (replicate 300 10)
+  -- With another clock and another lock: accepted too, and only the time has changed.
+  pub same-file : sameFile (lockedPut .sent) (lockedPutLater .sent) ≡ true
+  pub later : outcome withLocked lockedPutLater ≡ answeredBy (lineIn ((outcome (freshLent 1) lockedPut) .answer)) (atTime withLocked 1767686400000) (replicate 256 0)
+  -- Rights, half a lock and a past date are refused as before.
+  pub no-right : answeredWith (bytes "2026-01-06T08:00:00Z\tw\tPUT\tq/7\t41\t300\tCOMPLIANCE\t2033-01-05T00:00:00.007Z\t-") ≡ 5
+  pub half-lock : answeredWith (bytes "2026-01-06T08:00:00Z\twt\tPUT\tq/7\t41\t300\tCOMPLIANCE\t-\t-") ≡ 4
+  pub past-date : answeredWith (bytes "2033-01-05T00:00:00.007Z\twt\tPUT\tq/7\t41\t300\tCOMPLIANCE\t2033-01-05T00:00:00.007Z\t-") ≡ 6
+  -- Through the C entry.
+  pub no-row-left-in-bytes : (hubServed (byteStep (freshBytes oneRow) lockedPut) otherPut) .number ≡ 12
+  pub again-in-bytes : hubServed (byteStep (freshBytes oneRow) lockedPut) lockedPutAgain ≡ byteOutcome 0 (byteStep (freshBytes oneRow) lockedPut) (written (lineIn ((hubServed (freshBytes oneRow) lockedPut) .answer)) (replicate 300 10))
+  pub printed-in-bytes : lineIn ((hubServed (freshBytes oneRow) lockedPut) .answer) ≡ bytes "ok\t1\n"
+
 -- ## The examples, computed
 
 pub record Examples : Type 0 where
@@ -144,6 +189,7 @@ pub record Examples : Type 0 where
   pub date-read : readDate (fieldOf (firstLine ((outcome withLocked get) .answer)) 5) ≡ some 1988496000007
   pub refused-9 : (hubServed (byteStep (freshBytes oneRow) lockedPut) (asks (bytes "2033-01-05T00:00:00.006Z\tdb\tDELETE\tq/7\t1\tyes"))) .number ≡ 9
   pub held-in-bytes : Held (bucketOf (lentOf (left byteStep (freshBytes oneRow) calls))) (byteEvents (freshBytes oneRow) calls) 1 (InCompliance 1988496000007)
+  pub sent-again : SentAgain
   pub no-first-line-only : Demand1 (firstLineOnly (lockedPut ∷ [])) withLocked hold → Demand2 (firstLineOnly (lockedPut ∷ [])) withLocked hold → ⊥
 
 pub examples : Examples
@@ -160,5 +206,20 @@ examples =
       date-read = refl;
       refused-9 = refl;
       held-in-bytes = (demand-3-bytes 1 oneRow (record { some = lit≤ tt; most = lit≤ tt; settings-long = refl; rows-long = refl; keys-long = refl }) calls) .inCompliance [] [] _ 1 1988496000007 refl refl (lit< tt);
+      sent-again = record {
+        is-put = refl;
+        no-row-left = refl;
+        again = sent-twice (freshLent 1) lockedPut lockedPutAgain refl refl (lit≤ tt);
+        no-number-left = refl;
+        again-spent = sent-twice oneLeft lockedPut lockedPutAgain refl refl (lit≤ tt);
+        same-file = refl;
+        later = sent-later (freshLent 1) lockedPut lockedPutLater refl refl refl;
+        no-right = refl;
+        half-lock = refl;
+        past-date = refl;
+        no-row-left-in-bytes = refl;
+        again-in-bytes = sent-twice-bytes (freshBytes oneRow) lockedPut lockedPutAgain refl refl (lit≤ tt);
+        printed-in-bytes = refl;
+      };
       no-first-line-only = λ d e. let z : _≡_ {A = ℕ} 0 1 = ap (λ (o : Outcome). getD (o .bucket .numbers) 7 0) (only-hub (firstLineOnly (lockedPut ∷ [])) withLocked hold d e) in absurd (omega arith);
     }

@@ -1,4 +1,5 @@
 pub mod Demands
+pub mod Said
 pub mod Answering
 pub mod Runs
 pub mod LockClause
@@ -9,4 +10,5 @@ pub mod Listed
 pub mod Bytes
 pub mod Pages
 pub mod PagesFollowed
+pub mod Retries
 pub mod Examples

@@ -76,7 +76,7 @@ listed b g p q n h v =
     let c = capacity (b .keys) in
     let s = model.whole c (bucketOf b) ((whole-parts b w) .is-sound) in
     let does = accepted-request b g q h z in
-    let range = rw v at ((accepted-line c (bucketOf b) q (model-accepts b g q w h z)) .in-range) in
+    let range = rw v at ((accepted-line c (bucketOf b) q (model-accepts b g q w h z)) .fields .in-range) in
     let place = and-r (isPrefix (p .prefix)) _ range in
     let counted = and-r (isPlace (p .key) (p .version)) _ place in
     record {

@@ -9,7 +9,7 @@ use lib.Dec.{eqb, ltb}
 use lib.ListN.{length, take, drop, length-take, length-map, take-append-drop}
 use lib.Seq.{take-all}
 use borrow.Author.Tests.{eqb-true, ltb-true}
-use Rattle.buffers.specs.Choices.{thenSome, orZero}
+use Rattle.buffers.specs.Choices.{orZero}
 use Rattle.buffers.specs.Texts.{bytes}
 use Rattle.buffers.specs.Lists.{same}
 use Rattle.buffers.proofs.Tests.{and-l, and-r}
@@ -21,7 +21,7 @@ use Rattle.text.specs.Printing.{digits}
 use Rattle.text.proofs.RoundTrip.{number-back}
 use Rattle.model.specs.Rows.{Row, soundRow}
 use Rattle.model.specs.Settings.{largestNumber}
-use Rattle.model.specs.Requests.{unreadable, says, page, Request, largestCount}
+use Rattle.model.specs.Requests.{page, largestCount}
 use Rattle.model.specs.Pages.{matches, rowsAfterPlace}
 use Rattle.model.proofs.Pages.{rest-after, from-start}
 use Rattle.model.proofs.Order.{ordered-keep}
@@ -30,19 +30,20 @@ use Rattle.model.proofs.Sound as model
 use Rattle.table.specs.Layout.{capacity}
 use Rattle.bucket.specs.Whole.{Lent, bucketOf, whole}
 use Rattle.bucket.proofs.Whole.{whole-parts}
-use Rattle.request.specs.Grammar.{Said, readLine, asked}
+use Rattle.request.specs.Grammar.{asked}
 use Rattle.request.proofs.Pages.{asks-page}
 use Rattle.answers.specs.Text.{rowLine, pageText}
 use Rattle.answers.specs.Pages.{lastKey, lastVersion}
 use Rattle.answers.proofs.Pages.{last-key, last-version, lines-once, lines-rows}
-use Rattle.outcome.specs.Calls.{Sent, line, Call, heardOf, heard}
+use Rattle.outcome.specs.Calls.{Sent, Call}
 use Rattle.outcome.specs.Outcome.{outcome}
-use Rattle.outcome.proofs.Demands.{outcome-number, accepted-of-whole}
+use Rattle.outcome.proofs.Demands.{accepted-of-whole}
 use Rattle.knitpasture.specs.Bytes.{lentOf}
 use Rattle.guarantee.specs.Calls.{step}
 use Rattle.guarantee.specs.Bytes.{byteStep}
-use Rattle.guarantee.specs.Pages.{Exchange, exchange, exchanges, sentField, isPageFrom, countSent, shownBy, arePages, followPages, allShown, matchingRows, ShowsEachOnce, PagesShowAll, byteExchange, byteExchanges, PagesShowAllBytes}
-use Rattle.guarantee.proofs.Demands.{accepts}
+use Rattle.guarantee.specs.Exchanges.{Exchange, exchange, exchanges, sentField, byteExchange, byteExchanges}
+use Rattle.guarantee.specs.Pages.{isPageFrom, countSent, shownBy, arePages, followPages, allShown, matchingRows, ShowsEachOnce, PagesShowAll, PagesShowAllBytes}
+use Rattle.guarantee.proofs.Said.{accepted-read}
 use Rattle.guarantee.proofs.Bytes.{accepted-sized, spelled-exchanges}
 use Rattle.guarantee.proofs.Listed.{Listed, listed, page-sound, page-keys, page-few, shown-is}
 
@@ -73,33 +74,21 @@ module _ (prefix key version : List ℕ) (b : Lent) (g : Call) (e : isPageFrom p
   place-e : (same (field 4) key && same (field 5) version) ≡ true
   place-e = and-r (same (field 3) prefix) _ places-e
 
-  module _ (s : List ℕ) (t : g .sent ≡ line s) where
-    by-said : (o : Option Said) → readLine s ≡ o → (q : Request) → thenSome o (unreadable (length (g .answer))) (λ x. says (asked (length (g .answer)) x)) ≡ says q → ServedPage prefix key version b g
-    by-said none r q h = let z : _≡_ {A = ℕ} 0 1 = cc in absurd (omega arith)
-    by-said (some x) r q h =
-        let word : fieldOf s 2 ≡ bytes "LIST" = rw t at (same-path (field 2) (bytes "LIST") (and-l _ _ fields-e)) in
-        let a = asks-page s x word r in
-        let p : fieldOf s 3 ≡ prefix = rw t at (same-path (field 3) prefix (and-l _ _ places-e)) in
-        let k : fieldOf s 4 ≡ key = rw t at (same-path (field 4) key (and-l _ _ place-e)) in
-        let v : fieldOf s 5 ≡ version = rw t at (same-path (field 5) version (and-r (same (field 4) key) _ place-e)) in
-        let eq : asked (length (g .answer)) x ≡ q = cc in
-        let heard-is : heard g ≡ says q = ap (heardOf (length (g .answer))) t ∙ rw r h in
-        record {
-          number = a .version;
-          count = a .count;
-          version-is = rw v at (a .version-is);
-          count-is = ap (λ (x : Sent). orZero (numberOf largestCount (sentField x 6))) t ∙ ap orZero (a .count-is);
-          is-listed = listed b g (page prefix key (a .version) (a .count)) q accepted-0 heard-is (ap (λ (x : Request). x .verb) (sym eq) ∙ a .verb-is ∙ rw (p, k));
-        }
-
-    by-line : ServedPage prefix key version b g
-    by-line = let a = accepts b g (sym (outcome-number b g) ∙ accepted-0) in by-said (readLine s) refl (a .request) (sym (ap (heardOf (length (g .answer))) t) ∙ a .hears)
-
   served-page : ServedPage prefix key version b g
-  served-page = go (g .sent) refl
-    where
-      go : (t : Sent) → g .sent ≡ t → ServedPage prefix key version b g
-      go (line s) t = by-line s t
+  served-page =
+      let r = accepted-read b g accepted-0 in
+      let t = r .sent-is in
+      let a = asks-page (r .bytes) (r .said) (rw t at (same-path (field 2) (bytes "LIST") (and-l _ _ fields-e))) (r .reads) in
+      let p : fieldOf (r .bytes) 3 ≡ prefix = rw t at (same-path (field 3) prefix (and-l _ _ places-e)) in
+      let k : fieldOf (r .bytes) 4 ≡ key = rw t at (same-path (field 4) key (and-l _ _ place-e)) in
+      let v : fieldOf (r .bytes) 5 ≡ version = rw t at (same-path (field 5) version (and-r (same (field 4) key) _ place-e)) in
+      record {
+        number = a .version;
+        count = a .count;
+        version-is = rw v at (a .version-is);
+        count-is = ap (λ (x : Sent). orZero (numberOf largestCount (sentField x 6))) t ∙ ap orZero (a .count-is);
+        is-listed = listed b g (page prefix key (a .version) (a .count)) (asked (length (g .answer)) (r .said)) accepted-0 (r .hears) (a .verb-is ∙ rw (p, k));
+      }
 
 -- ## Pages
 

@@ -39,7 +39,8 @@ use Rattle.knitpasture.specs.Bytes.{numbersFrom, numbersBytes, hubServed, fitRo
 use Rattle.guarantee.proofs.Pages.{pages-show-all, pages-show-all-bytes}
 use Rattle.guarantee.specs.Bytes.{freshBytes, byteStep}
 use Rattle.guarantee.specs.Calls.{step}
-use Rattle.guarantee.specs.Pages.{exchanges, byteExchanges, followPages, allShown, ShowsEachOnce}
+use Rattle.guarantee.specs.Exchanges.{exchanges, byteExchanges}
+use Rattle.guarantee.specs.Pages.{followPages, allShown, ShowsEachOnce}
 
 -- A line in an answer buffer of this length, full of this byte.
 abbrev sent : String → ℕ → ℕ → Call

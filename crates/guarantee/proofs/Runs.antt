@@ -8,6 +8,7 @@ use lib.Dec.{eqb}
 use borrow.Author.Tests.{eqb-true, eqb-false, ne-eqb}
 use Rattle.buffers.proofs.Tests.{either}
 use Rattle.model.specs.Time.{nowOf}
+use Rattle.model.specs.Retries.{meaning}
 use Rattle.model.specs.Refusals.{refusal}
 use Rattle.model.specs.Run as model
 use Rattle.model.specs.Run.{left}
@@ -44,11 +45,12 @@ module _ (c : ℕ) (b : Lent) (g : Call) (w : Whole c b) where
   accepted-follows a z =
       let x = bucketOf b in
       let q = a .request in
+      let m = meaning x q in
       record {
         size = rw (step, a .does) (accepted-capacity (b .keys) _ ∙ w .size);
         bucket-is = rw (← same-refusal, z, step, a .does, a .hears) (accepted-bucket b g q (w .is-whole) (a .hears) z);
         event-is = rw (← same-refusal, z, a .does, a .hears)
-            (ap (λ (f : ℕ → Bool). record { before = x; request = q; answered = f } ∷ []) (fun-ext (answered-is x (nowOf x (q .context)) (q .context .who) (q .verb) (g .answer))));
+            (ap (λ (f : ℕ → Bool). record { before = x; request = m; answered = f } ∷ []) (fun-ext (answered-is x (nowOf x (q .context)) (q .context .who) (m .verb) (g .answer))));
       }
 
   refused-follows : (refusalOf b g ≡ 0 → ⊥) → Follows c b g

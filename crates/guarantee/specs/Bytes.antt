@@ -80,11 +80,11 @@ pub record FreshMade (b : Bytes) : Type 0 where
 abbrev pub byteStep : Bytes → Call → Bytes
 byteStep b g = (hubServed b g) .bytes
 
--- What an accepted call says, one that returns 0.
+-- What an accepted call means, one that returns 0.
 abbrev pub byteEvent : Bytes → Call → List Event
 byteEvent b g = pick (eqb ((hubServed b g) .number) 0) (eventHeard (bucketOf (lentOf b)) (heard g) ((hubServed b g) .answer)) []
 
--- What the accepted calls of a list say, in order.
+-- What the accepted calls of a list mean, in order.
 abbrev pub byteEvents : Bytes → List Call → List Event
 byteEvents b gs = gathered byteStep byteEvent b gs
 

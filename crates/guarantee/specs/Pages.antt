@@ -1,4 +1,4 @@
--- Pages of versions: what is sent and what comes back, call by call, and what pages that follow each other show.
+-- Pages of versions: what pages that follow each other show, by what a caller sees of them.
 use Prim.Native.Nat.{ℕ}
 use mathlib.Core.Path.{_≡_}
 use mathlib.Core.Bool.{Bool, true, false, _&&_}
@@ -15,43 +15,15 @@ use Rattle.dates.specs.Reading.{readDate}
 use Rattle.model.specs.Rows.{Row}
 use Rattle.model.specs.Requests.{Page, ListVersions, Ask, Request, says, largestCount}
 use Rattle.model.specs.Pages.{matches, pageRows}
-use Rattle.model.specs.Run.{gathered}
 use Rattle.bucket.specs.Whole.{Lent, bucketOf}
 use Rattle.answers.specs.Text.{lineFields, rowLine}
 use Rattle.answers.specs.Pages.{linesShown, lastKey, lastVersion}
-use Rattle.outcome.specs.Calls.{Sent, line, Call, heard}
+use Rattle.outcome.specs.Calls.{Call, heard}
 use Rattle.outcome.specs.Outcome.{outcome}
-use Rattle.knitpasture.specs.Bytes.{Bytes, lentOf, hubServed}
-use Rattle.guarantee.specs.Calls.{step}
-use Rattle.guarantee.specs.Bytes.{byteStep}
-
--- ## What a caller sees
-
--- What was sent, what the call returned, and the answer buffer after it.
-pub record Exchange : Type 0 where
-  pub sent : Sent
-  pub number : ℕ
-  pub answer : List ℕ
-
-abbrev pub exchange : Lent → Call → Exchange
-exchange b g = let o = outcome b g in record { sent = g .sent; number = o .number; answer = o .answer }
-
--- Each call is handed the bucket that the one before it left.
-abbrev pub exchanges : Lent → List Call → List Exchange
-exchanges b gs = gathered step (λ b g. exchange b g ∷ []) b gs
-
--- The same of `knitpasture_serve`.
-abbrev pub byteExchange : Bytes → Call → Exchange
-byteExchange b g = let o = hubServed b g in record { sent = g .sent; number = o .number; answer = o .answer }
-
-abbrev pub byteExchanges : Bytes → List Call → List Exchange
-byteExchanges b gs = gathered byteStep (λ b g. byteExchange b g ∷ []) b gs
+use Rattle.knitpasture.specs.Bytes.{Bytes, lentOf}
+use Rattle.guarantee.specs.Exchanges.{Exchange, exchanges, byteExchanges, sentField}
 
 -- ## Pages that follow each other
-
--- A field of a line that was sent.
-abbrev pub sentField : Sent → ℕ → List ℕ
-sentField (line s) i = fieldOf s i
 
 -- LIST was sent with this prefix, from this key and this version, byte for byte, and accepted.
 abbrev pub isPageFrom : List ℕ → List ℕ → List ℕ → Exchange → Bool

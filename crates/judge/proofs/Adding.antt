@@ -1,13 +1,13 @@
--- PUT, COPY and DELETE with `-`: a new row, on each way through the code.
-use Prim.Native.Nat.{ℕ, _≤_, _<_}
+-- PUT, COPY and DELETE with `-`: a new row, or a retry, on each way through the code.
+use Prim.Native.Nat.{ℕ, _+_, _*_, _≤_, _<_}
 use mathlib.Core.Path.{_≡_, refl, sym, ap, _∙_}
 use mathlib.Core.Logic.{inl, inr}
 use mathlib.Core.Bool.{Bool, true, false, true≢false, false≢true}
 use mathlib.Core.List.{List, []}
-use mathlib.Core.Option.{Option, some}
+use mathlib.Core.Option.{Option, some, none}
 use native.Mathlib.Omega.{arith}
 use lib.Dec.{eqb, leb, ltb}
-use lib.ListN.{length}
+use lib.ListN.{length, take, drop}
 use borrow.Author.Tests.{ne-eqb, eqb-true, eqb-false, ltb-true, ltb-false}
 use Rattle.buffers.specs.Choices.{thenSome, isSome}
 use Rattle.buffers.specs.Ranges.{Within}
@@ -18,28 +18,31 @@ use Rattle.text.specs.Keys.{isKey}
 use Rattle.text.proofs.Keys.{key-short}
 use Rattle.model.specs.Rows.{Row, largestSize, bodies}
 use Rattle.model.specs.Settings.{Rule, Config, spentNumber, fits}
-use Rattle.model.specs.Requests.{Rights, Name, Retention, Terms, Verb, Put, Copy, AddMarker, isRetention, isName, inRange}
+use Rattle.model.specs.Requests.{Rights, numbered, Name, name, Retention, Terms, Repeat, Verb, Put, Copy, AddMarker, Ask, isRetention, isName, inRange}
 use Rattle.model.specs.Time.{newMode, newUntil}
 use Rattle.model.specs.Sweep.{marker}
-use Rattle.model.specs.Effects.{insertByKey, newHold, newRow, added, rowsAfter}
+use Rattle.model.specs.Effects.{rowOf, insertByKey, newHold, newRow, added, rowsAfter}
+use Rattle.model.specs.Retries.{repeats, meant}
 use Rattle.model.specs.Refusals.{defaultTooLate, missing, namesMarker, barred, tooLate, spends, full}
 use Rattle.model.specs.Answers.{reply}
 use Rattle.model.proofs.Room.{length-insert}
 use Rattle.table.specs.declared.Numbers.{Numbers}
 use Rattle.table.specs.Layout.{capacity}
-use Rattle.table.specs.Places.{rowFrom}
+use Rattle.table.specs.Places.{rowFrom, numbersIn}
 use Rattle.table.proofs.Held.{rows-length}
 use Rattle.settings.specs.declared.State.{State}
 use Rattle.settings.specs.State.{configBy}
 use Rattle.fields.specs.Meaning.{Inside}
 use Rattle.search.specs.Places as places
-use Rattle.search.proofs.Named.{insert-place}
+use Rattle.search.specs.declared.Found.{Found}
+use Rattle.search.specs.declared.Found.the-variants as position
+use Rattle.search.proofs.Named.{current-row, insert-place, place-at, place-free}
 use Rattle.answers.specs.Text.{answerText}
 use Rattle.answers.specs.Meaning.{textOf}
 use Rattle.answers.specs.declared.Answer.the-variants.{Made, Marked}
 use Rattle.judge.specs.declared.Verdict.{Verdict}
 use Rattle.judge.specs.declared.Verdict.the-variants.{Refused, Accepted}
-use Rattle.judge.specs.declared.Change.the-variants.{Insert}
+use Rattle.judge.specs.declared.Change.the-variants.{Keep, Insert}
 use Rattle.judge.specs.declared.Plan.{Plan}
 use Rattle.locks.specs.declared.NewLock.{NewLock}
 use Rattle.locks.specs.declared.NewLock.the-variants.{TooLate, Lock}
@@ -48,11 +51,11 @@ use Rattle.judge.specs.declared.Named.the-variants as named
 use Rattle.outcome.specs.Decision.{tableDecision}
 use Rattle.judge.specs.State.{bucketBy, rowsIn, Ready}
 use Rattle.locks.specs.Locks.{Pair, newLock, lockMeans}
-use Rattle.judge.specs.Meaning.{Judged, changeMeans, changeTakes, Feasible, Judges}
-use Rattle.judge.proofs.Looking.{StandsData, stands-data}
-use Rattle.judge.specs.Premises.{both, Asked, rowRefusal, JudgesBy, JudgesOn}
+use Rattle.judge.specs.Meaning.{Judged, keyHere, changeMeans, changeTakes, Feasible, Judges}
+use Rattle.judge.proofs.Looking.{StandsData, stands, stands-data, ready-searchable, found-fits, found-row}
+use Rattle.judge.specs.Premises.{both, Asked, Placed, rowRefusal, JudgesBy, JudgesOn, JudgesNew}
 use Rattle.judge.specs.Named.{dataNamed}
-use Rattle.judge.proofs.Deciding.{Open, refuse-10, refuse-11, refuse-12, accept, data-sound}
+use Rattle.judge.proofs.Deciding.{Open, refuse-10, refuse-11, refuse-12, accept, stay-done, data-sound}
 use Rattle.judge.proofs.Leaves.{count-most}
 use Rattle.judge.proofs.Naming.{data-refused}
 
@@ -139,8 +142,8 @@ put-open : (s : State) (rules : List Rule) (xs : List Row) (now : ℕ) (k : List
 unfolding missing namesMarker barred tooLate
 put-open s rules xs now k body size t e = record { there = refl; no-marker = refl; unbarred = refl; in-time = e }
 
-module _ (s : State) (numbers keys line : List ℕ) (now : ℕ) (p : Place) (body size : ℕ) (t : Terms) (x : NewLock)
-    (asked : Asked s numbers keys now (Put (partOf line p) body size t))
+module _ (s : State) (numbers keys line : List ℕ) (now : ℕ) (p : Place) (at body size : ℕ) (t : Terms) (x : NewLock)
+    (placed : Placed s numbers keys line now p at body size t)
     (lock : (us : List Rule) → lockMeans x ≡ newLock (configBy s us) now (t .retention))
     (who : Rights) (rules : List Rule) (fates : List ℕ) where
   pub put-late : x ≡ TooLate
@@ -157,64 +160,110 @@ module _ (s : State) (numbers keys line : List ℕ) (now : ℕ) (p : Place) (bod
         add-refused _ (capacity keys) s rules (rowsIn s numbers keys) now who
         (Put (partOf line p) body size t) _
         (put-open s rules (rowsIn s numbers keys) now (partOf line p) body size t ((lock-is (configBy s rules) now (t .retention) x (lock rules) m d e) .in-time)) refl refl
-        (s .used) k (rows-length numbers keys (s .used)) (asked .ready .next-fits) refusal h
+        (s .used) k (rows-length numbers keys (s .used)) (placed .asked .ready .next-fits) refusal h
 
-    pub put-done : (key : List ℕ) (at h : ℕ) → k ≡ 0 → Inside line p
-        → key ≡ partOf line p → Within at (places.keyPlace key (rowsIn s numbers keys)) (s .used) → h ≡ newHold (t .hold)
+    pub put-done : (h : ℕ) → k ≡ 0 → h ≡ newHold (t .hold)
         → JudgesBy s numbers keys line now who rules fates (Put (partOf line p) body size t) (Accepted (record {
           change = Insert at (record { number = s .next; kind = 1; created = now; body = body; size = size; mode = m; until = d; hold = h }) p;
           answer = Made (s .next);
         }))
     unfolding added rowsAfter reply inRange
-    put-done key at h none-holds inside ek w eh =
+    put-done h none-holds eh =
+        let w = placed .place in
         let z = rows-length numbers keys (s .used) in
         let f = has-spare (capacity keys) (s .used) (s .next) k refusal none-holds in
         let left = f .unspent in
         let room = f .free in
         let l = lock-is (configBy s rules) now (t .retention) x (lock rules) m d e in
         let row = newRow (bucketBy s rules [] .settings) now (partOf line p) body size t in
-        let short = key-short (partOf line p) (and-l _ _ (asked .in-range)) in
+        let short = key-short (partOf line p) (and-l _ _ (placed .asked .in-range)) in
         add-done _ (capacity keys) s rules (rowsIn s numbers keys) now who
         (Put (partOf line p) body size t) row
         (put-open s rules (rowsIn s numbers keys) now (partOf line p) body size t (l .in-time)) refl refl
         (record { change = Insert at (record { number = s .next; kind = 1; created = now; body = body; size = size; mode = m; until = d; hold = h }) p; answer = Made (s .next) })
-        (omega (arith, asked .ready .next-fits)) (omega arith)
-        (rw (w .is, ek, l .mode, l .until, eh) (sym (insert-place row (rowsIn s numbers keys))))
+        (omega (arith, placed .asked .ready .next-fits)) (omega arith)
+        (rw (w .is, l .mode, l .until, eh) (sym (insert-place row (rowsIn s numbers keys))))
         refl refl
-        ((omega (arith, w .most), omega arith, short, inside .end), tt)
+        ((omega (arith, w .most), omega arith, short, placed .inside .end), tt)
 
-pub ruleset put-ways = (count-most, put-late, put-refused, put-done)
+pub ruleset new-ways = (put-late, put-refused, put-done)
+
+-- ## PUT, by what the search finds of its key
+
+module _ (s : State) (numbers keys line : List ℕ) (now : ℕ) (p : Place) (body size : ℕ) (t : Terms)
+    (asked : Asked s numbers keys now (Put (partOf line p) body size t)) (key : List ℕ) (ek : key ≡ partOf line p)
+    (r : Found) (found : r ≡ places.currentIn key (rowsIn s numbers keys)) (i : ℕ) where
+  abbrev rows : List Row
+  rows = rowsIn s numbers keys
+
+  abbrev put : Verb
+  put = Put (partOf line p) body size t
+
+  -- Where a new row is meant, its judgement is that of the line.
+  means-new : meant rows put ≡ put → Inside line p → Within i (places.keyPlace key rows) (s .used) → (u : Verdict)
+      → JudgesNew s keys now p i body size t u → JudgesOn s numbers keys line now (meant rows put) u
+  means-new e inside w u h = rw e (h numbers line (record { asked = asked; inside = inside; place = rw ek at w }))
+
+  -- The key has no row.
+  pub put-first : r ≡ position.Place i → Inside line p → (who : Rights) (rules : List Rule) (fates : List ℕ) (u : Verdict)
+      → JudgesNew s keys now p i body size t u → JudgesBy s numbers keys line now who rules fates (meant rows put) u
+  put-first e inside who rules fates u h =
+      means-new (rw (sym (current-row (partOf line p) rows (asked .ready .in-order)), sym ek, sym found, e)) inside (place-free numbers keys (s .used) key r i found e) u h who rules fates
+
+  pub row-fits : r ≡ position.At i → 8 * i + 8 ≤ length numbers
+  row-fits e = found-fits s numbers keys (asked .ready) key none r i found e
+
+  module _ (e : r ≡ position.At i) (n : Numbers) (en : n ≡ numbersIn (take 8 (drop (8 * i) numbers))) (again : Bool) (told : (k : List ℕ) → again ≡ repeats body size (rowFrom n k)) where
+    current : rowOf rows (name (partOf line p) none) ≡ some (rowFrom n (keyHere rows i))
+    current = (stands rows (name (partOf line p) none) (asked .ready .in-order) i n (sym (found-row s numbers keys (asked .ready) key none r i found e (partOf line p) n ek en))) .is-named
+
+    -- Its current row is another.
+    pub put-other : again ≡ false → Inside line p → (who : Rights) (rules : List Rule) (fates : List ℕ) (u : Verdict)
+        → JudgesNew s keys now p i body size t u → JudgesBy s numbers keys line now who rules fates (meant rows put) u
+    put-other f inside who rules fates u h =
+        means-new (simp (current, sym (told (keyHere rows i)) ∙ f)) inside (place-at numbers keys (s .used) key r i found e) u h who rules fates
+
+    -- Its current row is repeated.
+    pub put-again : again ≡ true → (who : Rights) (rules : List Rule) (fates : List ℕ) → JudgesBy s numbers keys line now who rules fates (meant rows put) (Accepted (record { change = Keep; answer = Made (n .number) }))
+    unfolding missing namesMarker barred tooLate added rowsAfter reply
+    put-again f who rules fates =
+        let is : meant rows put ≡ Ask (Repeat (numbered (n .number))) = simp (current, sym (told (keyHere rows i)) ∙ f) in
+        rw is (stay-done _ s numbers keys rules now who (Ask (Repeat (numbered (n .number)))) (record { change = Keep; answer = Made (n .number) }) (asked .ready)
+        (record { there = refl; no-marker = refl; unbarred = refl; in-time = refl }) refl refl refl refl (tt, tt))
+
+pub ruleset put-ways = (ready-searchable, count-most, row-fits, put-first, put-other, put-again)
 
 -- ## COPY
 
-module _ (s : State) (numbers keys line : List ℕ) (now : ℕ) (m : Name) (p : List ℕ) (t : Terms) (i : ℕ) (n : Numbers) (r : Named)
-    (there : r ≡ named.Row i n) (found : r ≡ dataNamed (rowsIn s numbers keys) m) (asked : Asked s numbers keys now (Copy m p t)) where
+module _ (s : State) (numbers keys line : List ℕ) (now : ℕ) (m : Name) (p : Place) (t : Terms) (i : ℕ) (n : Numbers) (r : Named)
+    (there : r ≡ named.Row i n) (found : r ≡ dataNamed (rowsIn s numbers keys) m) (asked : Asked s numbers keys now (Copy m (partOf line p) t)) where
   source : StandsData (rowsIn s numbers keys) m i n
   source = stands-data (rowsIn s numbers keys) m (asked .ready .in-order) i n (sym found ∙ there)
 
   -- What is asked of the PUT that a COPY becomes.
-  pub copy-asks : Asked s numbers keys now (Put p (n .body) (n .size) t)
+  copy-asks : Asked s numbers keys now (Put (partOf line p) (n .body) (n .size) t)
   unfolding inRange
   copy-asks =
       let d = data-sound s numbers keys m i n (asked .ready) source in
       let e = asked .in-range in
-      let a : isKey p ≡ true = and-l _ _ (and-r (isName m) _ e) in
+      let a : isKey (partOf line p) ≡ true = and-l _ _ (and-r (isName m) _ e) in
       let b : ltb (n .body) bodies ≡ true = and-l _ _ d in
       let g : leb (n .size) largestSize ≡ true = and-l _ _ (and-r (ltb (n .body) bodies) _ d) in
-      let h : isRetention (t .retention) ≡ true = and-r (isKey p) _ (and-r (isName m) _ e) in
+      let h : isRetention (t .retention) ≡ true = and-r (isKey (partOf line p)) _ (and-r (isName m) _ e) in
       record { ready = asked .ready; instant = asked .instant; since = asked .since; in-range = search and-i depth 6 }
 
-  -- A COPY is the PUT of its source's body and length.
-  pub copy-puts : (who : Rights) (rules : List Rule) (fates : List ℕ) (u : Verdict) → JudgesOn s numbers keys line now (Put p (n .body) (n .size) t) u
-      → JudgesBy s numbers keys line now who rules fates (Copy m p t) u
+  -- A COPY is a new row with its source's body and length.
+  pub copy-puts : (key : List ℕ) (at : ℕ) → key ≡ partOf line p → Within at (places.keyPlace key (rowsIn s numbers keys)) (s .used) → Inside line p → (who : Rights) (rules : List Rule) (fates : List ℕ) (u : Verdict)
+      → JudgesNew s keys now p at (n .body) (n .size) t u
+      → JudgesBy s numbers keys line now who rules fates (Copy m (partOf line p) t) u
   unfolding missing namesMarker barred tooLate spends full fits added rowsAfter reply
-  copy-puts who rules fates u h =
+  copy-puts key at ek w inside who rules fates u h =
       let e = source .at .is-named in
-      let g : tableDecision (capacity keys) (bucketBy s rules (rowsIn s numbers keys)) (both now) who (Copy m p t)
-      ≡ tableDecision (capacity keys) (bucketBy s rules (rowsIn s numbers keys)) (both now) who (Put p (n .body) (n .size) t) = simp (e, ne-eqb (n .kind) 2 (source .no-marker)) in
-      rw g (h who rules fates)
+      let g : tableDecision (capacity keys) (bucketBy s rules (rowsIn s numbers keys)) (both now) who (Copy m (partOf line p) t)
+      ≡ tableDecision (capacity keys) (bucketBy s rules (rowsIn s numbers keys)) (both now) who (Put (partOf line p) (n .body) (n .size) t) = simp (e, ne-eqb (n .kind) 2 (source .no-marker)) in
+      rw g (h numbers line (record { asked = copy-asks; inside = inside; place = rw ek at w }) who rules fates)
 
-pub ruleset copy-ways = (refl, data-refused, copy-asks, copy-puts)
+pub ruleset copy-ways = (refl, ready-searchable, count-most, data-refused, copy-puts)
 
 -- ## DELETE with `-`
 
@@ -250,4 +299,4 @@ module _ (s : State) (numbers keys line : List ℕ) (now : ℕ) (p : Place) (y :
       refl refl
       ((omega (arith, w .most), omega arith, key-short (partOf line p) is-key, inside .end), tt)
 
-pub ruleset marker-ways = (marker-refused, marker-done)
+pub ruleset marker-ways = (ready-searchable, marker-refused, marker-done)

@@ -1,6 +1,6 @@
 -- The six conditions on the table decide: the first that holds refuses, and where none does the plan is carried out.
 use Prim.Native.Nat.{ℕ, _+_, _≤_, _<_}
-use mathlib.Core.Path.{_≡_, sym, _∙_}
+use mathlib.Core.Path.{_≡_, refl, sym, _∙_}
 use mathlib.Core.Bool.{true, false}
 use mathlib.Core.List.{List}
 use mathlib.Core.Option.{some, none}
@@ -41,6 +41,13 @@ pub record Open (b : Bucket) (now : Now) (v : Verb) : Type 0 where
   pub unbarred : barred (b .rows) (now .judge) v ≡ false
   pub in-time : tooLate (b .settings .config) (now .stamp) v ≡ false
 
+-- Where 11 and 12 do not hold either, the line is carried out.
+does-effect : (c : ℕ) (b : Bucket) (now : Now) (who : Rights) (v : Verb) → Open b now v → b .settings .next + added b now v ≤ spentNumber → length (rowsAfter b now v) ≤ c
+    → tableDecision c b now who v ≡ does (effect b now who v)
+unfolding spends full fits
+does-effect c b now who v o unspent l =
+    simp (o .there, o .no-marker, o .unbarred, o .in-time, le-ltb spentNumber (b .settings .next + added b now v) unspent, le-leb (length (rowsAfter b now v)) c l)
+
 module _ (j : Judged) (c : ℕ) (b : Bucket) (now : Now) (who : Rights) (v : Verb) where
   pub refuse-7 : missing (b .rows) v ≡ true → Judges j c (b .rows) (Refused 7) (tableDecision c b now who v)
   refuse-7 e = record { is = rw e; feasible = (omega arith, omega arith) }
@@ -73,14 +80,10 @@ module _ (j : Judged) (c : ℕ) (b : Bucket) (now : Now) (who : Rights) (v : Ver
             feasible = (omega arith, omega arith);
           }
 
-      does-effect : length (rowsAfter b now v) ≤ c → tableDecision c b now who v ≡ does (effect b now who v)
-      unfolding spends full fits
-      does-effect l = simp (o .there, o .no-marker, o .unbarred, o .in-time, le-ltb spentNumber (b .settings .next + added b now v) unspent, le-leb (length (rowsAfter b now v)) c l)
-
       pub accept : (p : Plan) → length (rowsAfter b now v) ≤ c → changeMeans j (b .rows) (p .change) ≡ rowsAfter b now v
           → changeTakes (p .change) ≡ added b now v → textOf (p .answer) ≡ answerText (reply b now who v) → Feasible j c (b .rows) (Accepted p)
           → Judges j c (b .rows) (Accepted p) (tableDecision c b now who v)
-      accept p l er et ex f = record { is = rw (er, et, ex) (sym (does-effect l)); feasible = f }
+      accept p l er et ex f = record { is = rw (er, et, ex) (sym (does-effect c b now who v o unspent l)); feasible = f }
 
 -- ## A verb that adds no row
 
@@ -100,10 +103,10 @@ stay-done j s numbers keys rules now who v p ready o zero-added er et ex f =
 -- LIST meets no refusal on the table.
 pub page-does : (s : State) (numbers keys : List ℕ) (rules : List Rule) (now : ℕ) (who : Rights) (p : Page) → Ready s numbers keys
     → let b = bucketBy s rules (rowsIn s numbers keys) in tableDecision (capacity keys) b (both now) who (Ask (ListVersions p)) ≡ does (effect b (both now) who (Ask (ListVersions p)))
-unfolding missing namesMarker barred tooLate spends full fits added rowsAfter
+unfolding missing namesMarker barred tooLate added rowsAfter
 page-does s numbers keys rules now who p ready =
-    let next : s .next + 0 ≤ spentNumber = omega (arith, ready .next-fits) in
-    simp (le-ltb spentNumber (s .next + 0) next, le-leb (length (rowsIn s numbers keys)) (capacity keys) (omega (arith, rows-length numbers keys (s .used), ready .used-fits)))
+    does-effect (capacity keys) (bucketBy s rules (rowsIn s numbers keys)) (both now) who (Ask (ListVersions p)) (record { there = refl; no-marker = refl; unbarred = refl; in-time = refl })
+    (omega (arith, ready .next-fits)) (omega (arith, rows-length numbers keys (s .used), ready .used-fits))
 
 -- ## The row that a line names
 

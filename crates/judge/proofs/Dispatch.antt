@@ -8,6 +8,7 @@ use Rattle.text.specs.Fields.{partOf}
 use Rattle.text.specs.Keys.{isKey}
 use Rattle.model.specs.Settings.{Rule}
 use Rattle.model.specs.Requests as model
+use Rattle.model.specs.Retries.{meant}
 use Rattle.settings.specs.declared.State.{State}
 use Rattle.request.specs.declared.Name.{Name}
 use Rattle.request.specs.declared.Action.{Action}
@@ -17,6 +18,7 @@ use Rattle.fields.specs.declared.Terms.{Terms}
 use Rattle.fields.specs.Meaning.{Inside}
 use Rattle.request.specs.Meaning.{actionMeans, ActionInside}
 use Rattle.judge.specs.declared.Verdict.{Verdict}
+use Rattle.judge.specs.State.{rowsIn}
 use Rattle.judge.specs.Premises.{Asked, JudgesBy, JudgesOn}
 
 -- ## What is asked
@@ -55,14 +57,14 @@ module _ (line : List ℕ) (v : Action) (inside : ActionInside line v) where
 -- ## The verdict
 
 module _ (s : State) (numbers keys line : List ℕ) (now : ℕ) (who : model.Rights) (rules : List Rule) (fates : List ℕ) (v : Action) (r : Verdict) where
-  pub judged-as : (u : Action) → v ≡ u → JudgesOn s numbers keys line now (actionMeans line u) r → JudgesBy s numbers keys line now who rules fates (actionMeans line v) r
+  pub judged-as : (u : Action) → v ≡ u → JudgesOn s numbers keys line now (meant (rowsIn s numbers keys) (actionMeans line u)) r → JudgesBy s numbers keys line now who rules fates (meant (rowsIn s numbers keys) (actionMeans line v)) r
   judged-as u e h = rw e (h who rules fates)
 
-  pub judged-always : (u : Action) → v ≡ u → ((t : ℕ) → JudgesOn s numbers keys line t (actionMeans line u) r) → JudgesBy s numbers keys line now who rules fates (actionMeans line v) r
+  pub judged-always : (u : Action) → v ≡ u → ((t : ℕ) → JudgesOn s numbers keys line t (meant (rowsIn s numbers keys) (actionMeans line u)) r) → JudgesBy s numbers keys line now who rules fates (meant (rowsIn s numbers keys) (actionMeans line v)) r
   judged-always u e h = rw e (h now who rules fates)
 
   pub judged-either : (k : Place) (y : Bool) → v ≡ action.AddMarker k y → ((z : Bool) → JudgesOn s numbers keys line now (model.AddMarker (partOf line k) z) r)
-      → JudgesBy s numbers keys line now who rules fates (actionMeans line v) r
+      → JudgesBy s numbers keys line now who rules fates (meant (rowsIn s numbers keys) (actionMeans line v)) r
   judged-either k y e h = rw e (h y who rules fates)
 
 pub ruleset action-ways = (

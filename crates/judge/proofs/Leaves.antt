@@ -1,4 +1,4 @@
--- The parts that several verbs share: where a new row goes, the default's count, and rows with another lock.
+-- The parts that several verbs share: the default's count, and rows with another lock.
 use Prim.Native.Nat.{ℕ, _≤_}
 use mathlib.Core.Path.{_≡_}
 use mathlib.Core.Logic.{inl, inr}
@@ -16,9 +16,7 @@ use Rattle.model.specs.Requests.{Verb}
 use Rattle.model.specs.Effects.{setRetention, setHold, holdNumber}
 use Rattle.table.specs.declared.Numbers.{Numbers}
 use Rattle.table.specs.Places.{rowFrom}
-use Rattle.search.proofs.Named.{place-cases}
 use Rattle.settings.specs.declared.State.{State}
-use Rattle.judge.proofs.Looking.{ready-searchable}
 use Rattle.judge.specs.Premises.{Asked}
 
 -- ## The default's count
@@ -51,4 +49,4 @@ module _ (n : Numbers) (k : List ℕ) where
       ≡ setHold (holdNumber on) (rowFrom n k)
   held-off on e = rw e
 
-pub ruleset leaf-ways = (ready-searchable, place-cases, retained, held-on, held-off)
+pub ruleset leaf-ways = (retained, held-on, held-off)

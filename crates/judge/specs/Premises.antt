@@ -6,14 +6,19 @@ use mathlib.Core.List.{List}
 use lib.Dec.{eqb, ltb}
 use lib.ListN.{length}
 use Rattle.buffers.specs.Choices.{pick}
+use Rattle.buffers.specs.Ranges.{Within}
+use Rattle.text.specs.declared.Place.{Place}
+use Rattle.text.specs.Fields.{partOf}
 use Rattle.calendar.specs.declared.Now.{Now}
 use Rattle.calendar.specs.Calendar.{latest}
 use Rattle.model.specs.Settings.{Rule, spentNumber, soundRules}
-use Rattle.model.specs.Requests.{Rights, Verb, inRange}
+use Rattle.model.specs.Requests.{Rights, Terms, Verb, Put, inRange}
 use Rattle.settings.specs.declared.Rule as settings
 use Rattle.settings.specs.declared.State.{State}
 use Rattle.settings.specs.Meaning.{rulesMean, prefixesAre}
 use Rattle.table.specs.Layout.{capacity}
+use Rattle.search.specs.Places.{keyPlace}
+use Rattle.fields.specs.Meaning.{Inside}
 use Rattle.judge.specs.declared.Verdict.{Verdict}
 use Rattle.outcome.specs.Decision.{tableDecision}
 use Rattle.judge.specs.State.{bucketBy, rowsIn, Ready}
@@ -29,6 +34,12 @@ pub record Asked (s : State) (numbers keys : List ℕ) (now : ℕ) (v : Verb) : 
   pub instant : now ≤ latest
   pub since : s .time ≤ now
   pub in-range : inRange v ≡ true
+
+-- A PUT that can be judged as a new row: its key stands within the line, and this is the key's place in the table.
+pub record Placed (s : State) (numbers keys line : List ℕ) (now : ℕ) (key : Place) (at body size : ℕ) (t : Terms) : Type 0 where
+  pub asked : Asked s numbers keys now (Put (partOf line key) body size t)
+  pub inside : Inside line key
+  pub place : Within at (keyPlace (partOf line key) (rowsIn s numbers keys)) (s .used)
 
 -- The refusal of a line that adds a row: 11 where the version numbers are spent, 12 where no row is free, else 0.
 unfoldable pub rowRefusal : ℕ → ℕ → ℕ → ℕ
@@ -49,3 +60,8 @@ JudgesBy s numbers keys line now who rules fates v r =
 -- The same, whatever the rights, the rules and the fates.
 abbrev pub JudgesOn : State → List ℕ → List ℕ → List ℕ → ℕ → Verb → Verdict → Type 0
 JudgesOn s numbers keys line now v r = (who : Rights) (rules : List Rule) (fates : List ℕ) → JudgesBy s numbers keys line now who rules fates v r
+
+-- The verdict is that of a new row, on any rows and line that the place fits.
+abbrev pub JudgesNew : State → List ℕ → ℕ → Place → ℕ → ℕ → ℕ → Terms → Verdict → Type 0
+JudgesNew s keys now p at body size t r =
+    (numbers line : List ℕ) → Placed s numbers keys line now p at body size t → JudgesOn s numbers keys line now (Put (partOf line p) body size t) r

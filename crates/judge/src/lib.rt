@@ -18,23 +18,23 @@ use text::Place;
 ghost use mathlib.Core.Path.{_≡_};
 ghost use mathlib.Core.Bool.{Bool, true};
 ghost use mathlib.Core.List.{List};
-ghost use Prim.Native.Nat.{ℕ};
+ghost use Prim.Native.Nat.{ℕ, _≤_};
 ghost use Rattle.buffers.specs.Choices.{orZero};
-ghost use Rattle.buffers.specs.Ranges.{Within};
 ghost use Rattle.model.specs.Requests as model;
 ghost use Rattle.text.specs.Fields.{partOf};
 ghost use Rattle.text.specs.Keys.{isKey};
 ghost use Rattle.model.specs.Sweep.{marker};
 ghost use Rattle.model.specs.Effects.{newHold, holdNumber, setRetention, setHold};
+ghost use Rattle.model.specs.Retries.{repeats, meant};
+ghost use Rattle.calendar.specs.Calendar.{latest};
 ghost use Rattle.settings.specs.Meaning.{rulesMean};
 ghost use Rattle.table.specs.Layout.{capacity};
 ghost use Rattle.table.specs.Places.{rowFrom};
-ghost use Rattle.search.specs.Places.{keyPlace};
 ghost use Rattle.fields.specs.Meaning.{modeMeans, untilMeans, holdMeans, Inside, retentionMeans, termsMeans};
 ghost use Rattle.request.specs.Meaning.{nameMeans, actionMeans, ActionInside};
 ghost use Rattle.lifecycle.specs.Fates.{fatesAfter};
 ghost use Rattle.judge.specs.State.{rowsIn, Ready};
-ghost use Rattle.judge.specs.Premises.{Asked, rowRefusal, Sweepable, JudgesBy, JudgesOn};
+ghost use Rattle.judge.specs.Premises.{Asked, rowRefusal, Sweepable, JudgesBy, JudgesOn, JudgesNew};
 
 // How an accepted line changes the table.
 pub enum Change {
@@ -61,19 +61,6 @@ pub enum Verdict {
 enum Named {
     Refused(u64),
     Row(usize, Numbers),
-}
-
-// Where a new version of the key goes.
-fn place_for(rows: &[u64], keys: &[u8], s: State, key: &[u8]) -> usize
-    requires { ⌜ Ready s (now rows) (now keys) ⌝ }
-    ensures { λ r. ⌜ Within r (keyPlace (now (key .entry)) (rowsIn s (now (rows .entry)) (now (keys .entry)))) (s .used) ⌝ }
-{
-    let used = s.used;
-    let found = search::find_current(rows, keys, used, key);
-    match found {
-        Found::At(i) => i,
-        Found::Place(i) => i,
-    }
 }
 
 // The refusal of a line that adds a row: 11 where the version numbers are spent, 12 where no row is free, else 0.
@@ -141,21 +128,26 @@ fn marker_numbers(number: u64, instant: u64) -> Numbers
     }
 }
 
-// PUT, and COPY once its source is found: a new data row with this body and length.
+// The row is data with this body and length, so that a PUT of them is a retry.
+fn is_repeated(n: Numbers, body: u64, size: u64) -> bool
+    ensures { λ r. ⌜ ((k : List ℕ) → r ≡ repeats body size (rowFrom n k)) ⌝ }
+{
+    (n.kind == model::DATA) & ((n.body == body) & (n.size == size))
+}
+
+// A new data row at the place that was found. It reads neither rows nor line, so its contract is for any that the place fits.
 fn judge_new(
-    rows: &[u64],
     keys: &[u8],
-    line: &[u8],
     s: State,
     key: Place,
+    at: usize,
     body: u64,
     size: u64,
     terms: Terms,
     instant: u64,
 ) -> Verdict
-    requires { ⌜ Asked s (now rows) (now keys) instant (model.Put (partOf (now line) key) body size (termsMeans terms)) ⌝ }
-    requires { ⌜ Inside (now line) key ⌝ }
-    ensures { λ r. ⌜ JudgesOn s (now (rows .entry)) (now (keys .entry)) (now (line .entry)) instant (model.Put (partOf (now (line .entry)) key) body size (termsMeans terms)) r ⌝ }
+    requires { ⌜ (s .count ≤ 36500) × (instant ≤ latest) ⌝ }
+    ensures { λ r. ⌜ JudgesNew s (now (keys .entry)) instant key at body size (termsMeans terms) r ⌝ }
 {
     let retention = terms.retention;
     let hold = terms.hold;
@@ -166,7 +158,6 @@ fn judge_new(
     if refusal != 0 {
         return Verdict::Refused(refusal);
     }
-    let at = place_for(rows, keys, s, text::part(line, key));
     let n = Numbers {
         number: s.next,
         kind: model::DATA,
@@ -183,7 +174,40 @@ fn judge_new(
     })
 }
 
-// COPY: its source is found, then it is a PUT.
+// PUT: a retry answers its row's number and changes no row; one search finds that row or the place of a new one.
+fn judge_put(
+    rows: &[u64],
+    keys: &[u8],
+    line: &[u8],
+    s: State,
+    key: Place,
+    body: u64,
+    size: u64,
+    terms: Terms,
+    instant: u64,
+) -> Verdict
+    requires { ⌜ Asked s (now rows) (now keys) instant (model.Put (partOf (now line) key) body size (termsMeans terms)) ⌝ }
+    requires { ⌜ Inside (now line) key ⌝ }
+    ensures { λ r. ⌜ JudgesOn s (now (rows .entry)) (now (keys .entry)) (now (line .entry)) instant (meant (rowsIn s (now (rows .entry)) (now (keys .entry))) (model.Put (partOf (now (line .entry)) key) body size (termsMeans terms))) r ⌝ }
+{
+    let used = s.used;
+    let found = search::find_current(rows, keys, used, text::part(line, key));
+    match found {
+        Found::At(i) => {
+            let n = table::numbers_at(rows, i);
+            if is_repeated(n, body, size) {
+                return Verdict::Accepted(Plan {
+                    change: Change::Keep,
+                    answer: Answer::Made(n.number),
+                });
+            }
+            judge_new(keys, s, key, i, body, size, terms, instant)
+        }
+        Found::Place(i) => judge_new(keys, s, key, i, body, size, terms, instant),
+    }
+}
+
+// COPY: a new row with its source's body and length, never a retry: onto its own key it would mostly be one.
 fn judge_copy(
     rows: &[u64],
     keys: &[u8],
@@ -201,7 +225,11 @@ fn judge_copy(
 {
     match lookup::data_named(rows, keys, line, s, source) {
         Named::Refused(refusal) => Verdict::Refused(refusal),
-        Named::Row(_, n) => judge_new(rows, keys, line, s, key, n.body, n.size, terms, instant),
+        Named::Row(_, n) => {
+            let used = s.used;
+            let at = search::key_place(rows, keys, used, text::part(line, key));
+            judge_new(keys, s, key, at, n.body, n.size, terms, instant)
+        }
     }
 }
 
@@ -282,7 +310,8 @@ fn judge_marker(
     if refusal != 0 {
         return Verdict::Refused(refusal);
     }
-    let at = place_for(rows, keys, s, text::part(line, key));
+    let used = s.used;
+    let at = search::key_place(rows, keys, used, text::part(line, key));
     let n = marker_numbers(s.next, instant);
     Verdict::Accepted(Plan {
         change: Change::Insert(at, n, key),
@@ -360,7 +389,7 @@ pub fn judge_sweep(
     })
 }
 
-// Refusals 7 to 12, or the plan, of an action.
+// Refusals 7 to 12, or the plan, of what an action means.
 pub fn judge(
     rows: &[u64],
     keys: &[u8],
@@ -371,11 +400,11 @@ pub fn judge(
 ) -> Verdict
     requires { ⌜ Asked s (now rows) (now keys) instant (actionMeans (now line) action) ⌝ }
     requires { ⌜ ActionInside (now line) action ⌝ }
-    ensures { λ r. ⌜ JudgesOn s (now (rows .entry)) (now (keys .entry)) (now (line .entry)) instant (actionMeans (now (line .entry)) action) r ⌝ }
+    ensures { λ r. ⌜ JudgesOn s (now (rows .entry)) (now (keys .entry)) (now (line .entry)) instant (meant (rowsIn s (now (rows .entry)) (now (keys .entry))) (actionMeans (now (line .entry)) action)) r ⌝ }
 {
     match action {
         Action::Put(key, body, size, terms) => {
-            judge_new(rows, keys, line, s, key, body, size, terms, instant)
+            judge_put(rows, keys, line, s, key, body, size, terms, instant)
         }
         Action::Copy(source, key, terms) => {
             judge_copy(rows, keys, line, s, source, key, terms, instant)

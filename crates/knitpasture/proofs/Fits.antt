@@ -17,14 +17,15 @@ use Rattle.blocks.proofs.Blocks.{block-long}
 use Rattle.calendar.specs.Calendar.{latest}
 use Rattle.model.specs.Rows.{Row, isMode, isData, isMarker, soundRetention, soundData, soundMarker, soundRow}
 use Rattle.model.specs.Settings as model
-use Rattle.model.specs.Settings.{spentNumber, soundDefault, isDays, isSet, soundRule, soundRules, soundConfig, soundSettings}
+use Rattle.model.specs.Settings.{spentNumber, soundDefault, isDays, isSet, soundRule, soundRules}
 use Rattle.model.proofs.SoundRows.{date-most}
+use Rattle.model.proofs.Sound.{whole as sound-whole, config-default, config-rules}
 use Rattle.settings.specs.declared.Rule.{Rule}
 use Rattle.settings.specs.Bytes.{isWord, ruleFits, settingsFit}
 use Rattle.settings.specs.Meaning.{ruleMeans, rulesMean, settingsMean, prefixesAre}
 use Rattle.table.specs.Layout.{numbersOf, capacity}
 use Rattle.bucket.specs.Whole.{Lent, usedRows, bucketOf, whole}
-use Rattle.bucket.proofs.Whole.{whole-parts, sound-parts}
+use Rattle.bucket.proofs.Whole.{whole-parts}
 
 word : (n k : ℕ) → n ≤ k → k < 18446744073709551616 → isWord n ≡ true
 word n k h l = lt-ltb n 18446744073709551616 (omega arith)
@@ -79,39 +80,25 @@ rules-many : (us : List Rule) → length (rulesMean us) ≡ length us
 rules-many [] = refl
 rules-many (u ∷ us) = ap suc (rules-many us)
 
--- what sound settings have
-record SettingsMost (s : model.Settings) : Type 0 where
-  pub time : s .time ≤ latest
-  pub next : s .next ≤ spentNumber
-  pub default : soundDefault (s .config .default) ≡ true
-  pub rules : soundRules (s .config .rules) ≡ true
-
-settings-most : (s : model.Settings) → soundSettings s ≡ true → SettingsMost s
-unfolding soundConfig
-settings-most s e =
-    let f = and-r (leb (s .time) latest) _ e in
-    let g = and-r (leb 1 (s .next)) _ f in
-    let h = and-r (leb (s .next) spentNumber) _ g in
-    record { time = leb-true (s .time) latest (and-l _ _ e); next = leb-true (s .next) spentNumber (and-l _ _ g); default = and-l _ _ h; rules = and-r (soundDefault (s .config .default)) _ h }
-
 -- Settings that are whole fit their 688 bytes.
 pub whole-fits : (b : Lent) → whole b ≡ true → settingsFit (b .settings) ≡ true
 unfolding settingsFit soundRules
 whole-fits b w =
     let s = b .settings in
     let p = whole-parts b w in
-    let m = settings-most (settingsMean s) ((sound-parts (capacity (b .keys)) (bucketOf b) (p .is-sound)) .settings-sound) in
-    let d = default-most (record { mode = s .mode; count = s .count; unit = s .unit }) (m .default) in
+    let m = sound-whole (capacity (b .keys)) (bucketOf b) (p .is-sound) in
+    let d = default-most (settingsMean s .config .default) (config-default (settingsMean s .config) (m .config-sound)) in
+    let r = config-rules (settingsMean s .config) (m .config-sound) in
     let u : s .used ≤ 1024 = omega (arith, p .room, p .most) in
-    let many : length (s .rules) ≡ 8 = sym (rules-many (s .rules)) ∙ eqb-true (length (rulesMean (s .rules))) 8 (and-l _ _ (m .rules)) in
-    and-i _ _ (word (s .time) latest (m .time) (omega arith))
+    let many : length (s .rules) ≡ 8 = sym (rules-many (s .rules)) ∙ eqb-true (length (rulesMean (s .rules))) 8 (and-l _ _ r) in
+    and-i _ _ (word (s .time) latest (leb-true (s .time) latest (m .time-fits)) (omega arith))
     (and-i _ _ (word (s .used) 1024 u (omega arith))
-    (and-i _ _ (word (s .next) spentNumber (m .next) (omega arith))
+    (and-i _ _ (word (s .next) spentNumber (m .next-fits) (omega arith))
     (and-i _ _ (word (s .mode) 2 (d .mode) (omega arith))
     (and-i _ _ (word (s .count) 36500 (d .count) (omega arith))
     (and-i _ _ (word (s .unit) 2 (d .unit) (omega arith))
     (and-i _ _ (eq-eqb (length (s .rules)) 8 many)
-    (rules-fit (s .rules) (p .prefixes) (and-r (eqb (length (rulesMean (s .rules))) 8) _ (m .rules)))))))))
+    (rules-fit (s .rules) (p .prefixes) (and-r (eqb (length (rulesMean (s .rules))) 8) _ r))))))))
 
 -- ## The rows
 
@@ -195,6 +182,5 @@ pub whole-words : (b : Lent) → whole b ≡ true → all isWord (b .numbers) �
 whole-words b w =
     let c = capacity (b .keys) in
     let p = whole-parts b w in
-    let q = sound-parts c (bucketOf b) (p .is-sound) in
-    let m = settings-most (settingsMean (b .settings)) (q .settings-sound) in
-    ap (all isWord) (p .holds .numbers-are) ∙ rows-words (b .settings .next) (b .settings .time) c (usedRows b) (m .next) (m .time) (q .rows-sound)
+    let m = sound-whole c (bucketOf b) (p .is-sound) in
+    ap (all isWord) (p .holds .numbers-are) ∙ rows-words (b .settings .next) (b .settings .time) c (usedRows b) (m .next-fits) (leb-true (b .settings .time) latest (m .time-fits)) (m .rows-sound)

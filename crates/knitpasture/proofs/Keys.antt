@@ -8,6 +8,7 @@ use lib.Dec.{ltb}
 use lib.ListN.{length, getD, take, drop}
 use lib.Seq.{drop-drop}
 use Rattle.buffers.proofs.Tests.{either}
+use Rattle.buffers.proofs.Lists.{drop-take}
 use Rattle.bucket.specs.Whole.{Lent, whole, keyOf}
 use Rattle.knitpasture.specs.Bytes.{Bytes, lentOf, hubKey}
 use Rattle.knitpasture.proofs.Left.{spelling-ways}
@@ -18,17 +19,12 @@ take-within (suc m) zero l = refl
 take-within (suc m) (suc n) [] = refl
 take-within (suc m) (suc n) (x ∷ l) = ap (λ (t : List ℕ). x ∷ t) (take-within m n l)
 
-drop-first : (n : ℕ) (l : List ℕ) → drop 1 (take (suc n) l) ≡ take n (drop 1 l)
-drop-first zero [] = refl
-drop-first (suc n) [] = refl
-drop-first n (x ∷ l) = refl
-
 key-within : (b : Lent) (i : ℕ) → keyOf b i ≡ take (length (keyOf b i)) (drop (64 * i + 1) (b .keys))
 unfolding keyOf
 key-within b i =
     let block = drop (64 * i) (b .keys) in
     elim (either (whole b && ltb i (b .settings .used))) [
-      | inl t ↦ rw (t, drop-first 63 block, drop-drop 1 (64 * i) (b .keys)) (take-within (getD (take 64 block) 0 0) 63 (drop (64 * i + 1) (b .keys)))
+      | inl t ↦ rw (t, drop-take 1 64 block, drop-drop 1 (64 * i) (b .keys)) (take-within (getD (take 64 block) 0 0) 63 (drop (64 * i + 1) (b .keys)))
       | inr t ↦ rw t
     ]
 

@@ -3,13 +3,14 @@ use Prim.Native.Nat.{ℕ, suc, _+_, _-_, _≤_, _<_}
 use mathlib.Core.Path.{_≡_, refl, sym, ap, _∙_}
 use mathlib.Core.Logic.{inl, inr}
 use mathlib.Core.List.{List, [], _∷_, _++_}
-use mathlib.Core.Option.{Option, some, none}
+use mathlib.Core.Option.{none}
 use native.Mathlib.Omega.{arith}
 use lib.Dec.{eqb}
 use borrow.Author.Tests.{ne-eqb}
 use Rattle.buffers.proofs.Tests.{either}
 use Rattle.model.specs.Rows.{Row}
 use Rattle.model.specs.Settings.{Rule}
+use Rattle.model.proofs.Room.{each-fate}
 use Rattle.model.specs.Sweep.{Fate, stays, goes, gains, marks, removes, fates, total}
 use Rattle.lifecycle.specs.Fates.{fateByte, fateBytes, fatesAfter, fateOf, fatesIn}
 use native.Mathlib.Numerals.{add-one}
@@ -43,13 +44,9 @@ bytes-length [] = refl
 bytes-length (f ∷ fs) = ap suc (bytes-length fs)
 
 module _ (us : List Rule) (t : ℕ) where
-  each-fate : (y : Option Row) (xs : List Row) → length (fates us t y xs) ≡ length xs
-  each-fate y [] = refl
-  each-fate y (x ∷ xs) = ap suc (each-fate (some x) xs)
-
   module _ (xs : List Row) (entry : List ℕ) where
     all-bytes : length (fateBytes (fates us t none xs)) ≡ length xs
-    all-bytes = bytes-length (fates us t none xs) ∙ each-fate none xs
+    all-bytes = bytes-length (fates us t none xs) ∙ each-fate us t none xs
 
     -- The bytes after a judgement stand for the rows' fates.
     pub fates-after : fatesIn (take (length xs) (fatesAfter us t xs entry)) ≡ fates us t none xs

@@ -1,28 +1,22 @@
 -- Two blocks compared by words up to the key's end.
-use Prim.Native.Nat.{ℕ, zero, suc, _+_, _%_, _≤_, _<_}
+use Prim.Native.Nat.{ℕ, _+_, _%_, _≤_, _<_}
 use mathlib.Core.Path.{_≡_, refl, sym, ap, ap₂, _∙_}
 use mathlib.Core.Logic.{inl, inr}
 use mathlib.Core.Bool.{true, false}
-use mathlib.Core.List.{List, [], _∷_}
+use mathlib.Core.List.{List}
 use native.Mathlib.Omega.{arith}
 use mir.Val.{Fits}
 use mir.Syntax.{w8, w64}
 use lib.ListN.{length, getD, take, drop, length-take, length-drop, take-append-drop}
-use lib.Seq.{take-add, length-take-le, getD-take, getD-drop}
+use lib.Seq.{take-add, length-take-le, getD-take}
 use Rattle.buffers.specs.Lists.{same}
 use Rattle.buffers.specs.Words.{number, spelled, AllBytes}
-use Rattle.buffers.proofs.Words.{spelled-number}
+use Rattle.buffers.proofs.Words.{spelled-number, bytes-take, bytes-drop}
 use Rattle.buffers.proofs.Tests.{either}
 use Rattle.buffers.proofs.Lists.{same-path, same-refl}
 use Rattle.buffers.proofs.Parts.{head-part}
 use Rattle.blocks.specs.Blocks.{blockOf, keyIn, isBlock}
 use Rattle.blocks.proofs.Blocks.{block-path, block-long, block-short}
-
-bytes-take : (n : ℕ) (b : List ℕ) → AllBytes b → AllBytes (take n b)
-bytes-take zero b h k = omega arith
-bytes-take (suc n) [] h k = omega arith
-bytes-take (suc n) (x ∷ b) h zero = h 0
-bytes-take (suc n) (x ∷ b) h (suc k) = bytes-take n b (λ i. h (suc i)) k
 
 -- Equal words are spelled by equal bytes.
 word-same : (a b : List ℕ) (i : ℕ) → AllBytes a → AllBytes b → i + 8 ≤ length a → i + 8 ≤ length b
@@ -30,9 +24,9 @@ word-same : (a b : List ℕ) (i : ℕ) → AllBytes a → AllBytes b → i + 8 �
 word-same a b i ha hb la lb e =
     let m : length (take 8 (drop i a)) ≡ 8 = simp (length-take, length-drop) (omega arith) in
     let n : length (take 8 (drop i b)) ≡ 8 = simp (length-take, length-drop) (omega arith) in
-    sym (spelled-number (take 8 (drop i a)) (bytes-take 8 (drop i a) (λ k. rw getD-drop (ha (i + k)))))
+    sym (spelled-number (take 8 (drop i a)) (bytes-take 8 (drop i a) (bytes-drop i a ha)))
     ∙ ap₂ spelled (m ∙ sym n) e
-    ∙ spelled-number (take 8 (drop i b)) (bytes-take 8 (drop i b) (λ k. rw getD-drop (hb (i + k))))
+    ∙ spelled-number (take 8 (drop i b)) (bytes-take 8 (drop i b) (bytes-drop i b hb))
 
 -- what holds at each turn: the first i bytes are the same
 pub record Alike (a b : List ℕ) (n i : ℕ) : Type 0 where

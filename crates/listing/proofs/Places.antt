@@ -1,5 +1,5 @@
 -- Laws by case of finding a page's start and end.
-use Prim.Native.Nat.{ℕ, suc, _+_, _*_, _≤_, _<_, min}
+use Prim.Native.Nat.{ℕ, suc, _+_, _≤_, _<_, min}
 use mathlib.Core.Path.{_≡_, refl, sym, _∙_, ap}
 use mathlib.Core.Logic.{inl, inr}
 use mathlib.Core.Bool.{Bool, true, false, not}
@@ -9,7 +9,6 @@ use mir.Syntax.{w64}
 use mir.Val.{Fits}
 use native.Mathlib.Numerals.{add-one}
 use lib.Dec.{eqb, leb, ltb}
-use lib.ListN.{getD}
 use borrow.Author.Tests.{eqb-true, eqb-false, ne-eqb, leb-true, ltb-false, lt-ltb}
 use Rattle.buffers.specs.Choices.{thenSome}
 use Rattle.buffers.specs.Lists.{same, begins, all}
@@ -28,7 +27,7 @@ use Rattle.search.specs.Searching.{Searchable}
 use Rattle.search.specs.declared.Found.{Found}
 use Rattle.search.specs.declared.Found.the-variants.{At, Place}
 use Rattle.search.proofs.Positions.{rows-row, leading-most, leading-as, none-lead, version-used, version-free}
-use Rattle.search.proofs.Halving.{leading-stops, leading-passes, key-ahead, middle, hasVersion}
+use Rattle.search.proofs.Halving.{leading-stops, leading-passes, key-ahead, Between, middle, middle-length, hasVersion}
 use Rattle.listing.specs.Places.{placeAfter, pageStart, upTo, prefixEnd, pageEnd, Ends}
 use Rattle.listing.proofs.Order.{before-first, up-to-falls}
 
@@ -124,12 +123,9 @@ pub ruleset start-cases = (start-after, start-first)
 
 -- what holds at each turn: the page's end is from low to high
 pub record Ending (n b p : List ℕ) (u start count low high : ℕ) : Type 0 where
-  pub searchable : Searchable n b u
+  pub between : Between n b u (pageEnd p start count (rowsOf n b u)) low high
   pub begun : Span (keyPlace p (rowsOf n b u)) start low
-  pub top : high ≤ u
   pub few : high ≤ start + count
-  pub from : low ≤ pageEnd p start count (rowsOf n b u)
-  pub to : pageEnd p start count (rowsOf n b u) ≤ high
 
 module _ (n b p : List ℕ) (u start count : ℕ) where
   pub ending-start : (h : ℕ) → Searchable n b u → Span (keyPlace p (rowsOf n b u)) start u → Within h (min (start + count) u) u → Ending n b p u start count start h
@@ -138,39 +134,32 @@ module _ (n b p : List ℕ) (u start count : ℕ) where
       let most = leading-most (upTo p) (rowsOf n b u) in
       let long = rows-length n b u in
       record {
-        searchable = s;
+        between = record { searchable = s; top = w .most; from = omega arith; to = omega (arith, w .is, f .to) };
         begun = record { from = f .from; to = omega arith };
-        top = w .most;
         few = omega (arith, w .is);
-        from = omega arith;
-        to = omega (arith, w .is, f .to);
       }
 
   module _ (low high : ℕ) (w : Ending n b p u start count low high) where
     pub ending-is : high ≤ low → Ends start count low (pageEnd p start count (rowsOf n b u)) u
-    ending-is h = record { is = omega (arith, w .from, w .to); from = w .begun .to; few = omega (arith, w .few, w .from, w .to); to = omega (arith, w .top, w .from, w .to) }
+    ending-is h =
+        let m = w .between in
+        record { is = omega (arith, m .from, m .to); from = w .begun .to; few = omega (arith, w .few, m .from, m .to); to = omega (arith, m .top, m .from, m .to) }
 
     module _ (h : low < high) where
       below : middle low high < u
-      below = omega (arith, w .top)
-
-      pub middle-length : getD b (64 * middle low high) 0 ≤ 63
-      middle-length = w .searchable .lengths (middle low high) below
+      below = omega (arith, w .between .top)
 
       module _ (r : Bool) (key : List ℕ) (e : r ≡ begins p key) (f : key ≡ keyAt b (middle low high)) where
         pub ending-passed : r ≡ true → Ending n b p u start count (middle low high + 1) high
         unfolding pageEnd prefixEnd
         ending-passed t =
             let m : begins p (keyAt b (middle low high)) ≡ true = rw f at (sym e ∙ t) in
-            let past = leading-passes (upTo p) (up-to-falls p) (rowsOf n b u) (middle low high) (rowAt n b (middle low high)) (w .searchable .in-order)
+            let past = leading-passes (upTo p) (up-to-falls p) (rowsOf n b u) (middle low high) (rowAt n b (middle low high)) (w .between .searchable .in-order)
             (rows-row n b u (middle low high) below) (or-r (before (keyAt b (middle low high)) p) _ m) in
             record {
-              searchable = w .searchable;
+              between = record { searchable = w .between .searchable; top = w .between .top; from = omega (arith, w .few, w .begun .to); to = w .between .to };
               begun = record { from = w .begun .from; to = omega (arith, w .begun .to) };
-              top = w .top;
               few = w .few;
-              from = omega (arith, w .few, w .begun .to);
-              to = w .to;
             }
 
         -- A row from the prefix's place on has no key before the prefix.
@@ -180,7 +169,7 @@ module _ (n b p : List ℕ) (u start count : ℕ) where
             elim (either (before (keyAt b (middle low high)) p)) [
               | inr t ↦ t
               | inl t ↦
-                  let past = leading-passes (λ x. before (x .key) p) (key-ahead p) (rowsOf n b u) (middle low high) (rowAt n b (middle low high)) (w .searchable .in-order)
+                  let past = leading-passes (λ x. before (x .key) p) (key-ahead p) (rowsOf n b u) (middle low high) (rowAt n b (middle low high)) (w .between .searchable .in-order)
                   (rows-row n b u (middle low high) below) t in
                   absurd (omega (arith, w .begun .from, w .begun .to))
             ]
@@ -191,12 +180,9 @@ module _ (n b p : List ℕ) (u start count : ℕ) where
             let m : begins p (keyAt b (middle low high)) ≡ false = rw f at (sym e ∙ t) in
             let stop = leading-stops (upTo p) (rowsOf n b u) (middle low high) (rowAt n b (middle low high)) (rows-row n b u (middle low high) below) (rw (not-before, m)) in
             record {
-              searchable = w .searchable;
+              between = record { searchable = w .between .searchable; top = omega (arith, below); from = w .between .from; to = omega (arith, w .begun .to) };
               begun = w .begun;
-              top = omega (arith, below);
               few = omega (arith, w .few);
-              from = w .from;
-              to = omega (arith, w .begun .to);
             }
 
 pub ruleset ending-cases = (ending-start, ending-is, middle-length, ending-passed, ending-stopped)

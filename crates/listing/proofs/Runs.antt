@@ -5,13 +5,11 @@ use mathlib.Core.Logic.{inl, inr}
 use mathlib.Core.Bool.{Bool, true, false, not, _&&_}
 use mathlib.Core.List.{List, [], _∷_}
 use native.Mathlib.Omega.{arith}
-use lib.Dec.{leb}
-use lib.ListN.{take, drop, length-take}
-use lib.Seq.{take-take, take-all, drop-drop}
-use borrow.Author.Tests.{leb-true, leb-false}
+use lib.ListN.{take, drop}
+use lib.Seq.{drop-drop}
 use Rattle.buffers.specs.Lists.{keep, all}
 use Rattle.buffers.proofs.Tests.{either, clash, and-l, and-r}
-use Rattle.buffers.proofs.Lists.{keep-every, keep-nothing, keep-as, keep-both, all-as}
+use Rattle.buffers.proofs.Lists.{keep-every, keep-nothing, keep-as, keep-both, all-as, take-least}
 use Rattle.model.specs.Rows.{Row, before, ahead, ordered}
 use Rattle.model.specs.Requests.{page}
 use Rattle.model.specs.Pages.{matches, comesAfter, rowsAfterPlace, pageRows}
@@ -21,16 +19,6 @@ use Rattle.search.proofs.Positions.{none-lead}
 use Rattle.search.proofs.Halving.{key-ahead}
 use Rattle.listing.specs.Places.{placeAfter, pageStart, upTo, prefixEnd, pageEnd}
 use Rattle.listing.proofs.Order.{after-falls, matches-up-to, up-to-falls}
-
--- As many as two numbers allow.
-take-least : {A : Type 0} (j k : ℕ) (l : List A) → take (min j k) l ≡ take j (take k l)
-take-least j k l =
-    elim (either (leb j k)) [
-      | inl t ↦ let q : min j k ≡ j = omega (arith, leb-true j k t) in rw q (sym (take-take j k l (leb-true j k t)))
-      | inr t ↦
-          let q : min j k ≡ k = omega (arith, leb-false j k t) in
-          rw q (sym (take-all j (take k l) (omega (arith, length-take k l, leb-false j k t))))
-    ]
 
 -- ## A test that each row passes that is ahead of one that passes
 

@@ -14,25 +14,13 @@ ghost use Rattle.search.specs.Searching.{Searchable};
 ghost use Rattle.listing.specs.Places.{placeAfter, pageStart, pageEnd, Ends};
 ghost use Rattle.listing.specs.Ready.{Listable};
 
-// Where a key's rows start or would start.
-fn key_place(rows: &[u64], keys: &[u8], used: usize, key: &[u8]) -> usize
-    requires { ⌜ Searchable (now rows) (now keys) used ⌝ }
-    ensures { λ r. ⌜ Within r (keyPlace (now (key .entry)) (rowsOf (now (rows .entry)) (now (keys .entry)) used)) used ⌝ }
-{
-    let found = search::find_current(rows, keys, used, key);
-    match found {
-        Found::At(i) => i,
-        Found::Place(i) => i,
-    }
-}
-
 // The place after a key and a version.
 fn place_after(rows: &[u64], keys: &[u8], used: usize, key: &[u8], version: u64) -> usize
     requires { ⌜ Searchable (now rows) (now keys) used ⌝ }
     ensures { λ r. ⌜ Within r (placeAfter (now (key .entry)) version (rowsOf (now (rows .entry)) (now (keys .entry)) used)) used ⌝ }
 {
     if version == 0 {
-        return key_place(rows, keys, used, key);
+        return search::key_place(rows, keys, used, key);
     }
     let found = search::find_version(rows, keys, used, key, version);
     match found {
@@ -53,7 +41,7 @@ fn page_start(
     requires { ⌜ Searchable (now rows) (now keys) used ⌝ }
     ensures { λ r. ⌜ Within r (pageStart (now (prefix .entry)) (now (key .entry)) version (rowsOf (now (rows .entry)) (now (keys .entry)) used)) used ⌝ }
 {
-    let first = key_place(rows, keys, used, prefix);
+    let first = search::key_place(rows, keys, used, prefix);
     let after = place_after(rows, keys, used, key, version);
     if first < after {
         return after;

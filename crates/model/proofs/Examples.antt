@@ -1,5 +1,5 @@
 -- 01's whole printed run, its starred lock examples, and uses of the lock clause, computed.
-use Prim.Native.Nat.{ℕ, _+_, _-_, _<_}
+use Prim.Native.Nat.{ℕ, _+_, _-_}
 use mathlib.Core.Path.{_≡_, refl}
 use mathlib.Core.Bool.{Bool, true, false}
 use mathlib.Core.List.{List, [], _∷_}
@@ -11,12 +11,12 @@ use Rattle.text.specs.Keys.{isKeyByte, isKey, isPrefix}
 use Rattle.calendar.specs.Periods.{periodEnd, expiresAt}
 use Rattle.model.specs.Rows.{governance, compliance, soundRow}
 use Rattle.model.specs.Settings.{fresh, days, soundRules, soundConfig, fits, sound}
-use Rattle.model.specs.Requests.{Rights, Version, numbered, name, noRetention, Terms, DefaultRetention, LifecycleRule, Get, Verb, Put, Retain, AddMarker, DeleteVersion, Set, Sweep, Ask, Heard, says, inRange}
+use Rattle.model.specs.Requests.{Rights, Version, numbered, name, noRetention, Terms, DefaultRetention, LifecycleRule, Get, Verb, Put, Copy, Retain, AddMarker, DeleteVersion, Set, Sweep, Ask, Heard, says, inRange}
 use Rattle.model.specs.Time.{defaultEnd}
 use Rattle.model.specs.Locks.{locked, admits}
 use Rattle.model.specs.Effects.{added, removed as rowsRemoved, rowsAfter, setConfig, configAfter}
 use Rattle.model.specs.Refusals.{halfGiven, needs, granted, lacksRight, shortForPage, pastDate, missing, namesMarker, barred, tooLate, spends, full, refusal}
-use Rattle.model.specs.Answers.{done, made, marked, removed, sweptCounts, shown, reply}
+use Rattle.model.specs.Answers.{done, made, repeated, marked, removed, sweptCounts, shown, reply}
 use Rattle.model.specs.Run.{Reply, no, ok, replies, run, lineEvents}
 use Rattle.model.specs.LockClause.{Held, InCompliance, InGovernance, OnHold}
 use Rattle.model.proofs.LockClause.{lock-clause}
@@ -93,6 +93,16 @@ sweptAt t =
     ∷ line t Sweep
     ∷ [])
 
+-- ## A retry
+
+-- What a PUT of this body and length on hold is answered, in a table of one row that a PUT of 41 and 300 filled.
+abbrev repliesAgain : ℕ → ℕ → List Reply
+repliesAgain body size = replies 1 fresh (line 1 (Put key 41 300 plain) ∷ line 2 (Put key body size (record { retention = noRetention; hold = some true })) ∷ [])
+
+-- What a PUT is answered, then a line of this verb, then the PUT again.
+abbrev sentAfter : Verb → List Reply
+sentAfter v = replies 4 fresh (line 1 (Put key 41 300 plain) ∷ line 2 v ∷ line 3 (Put key 41 300 plain) ∷ [])
+
 -- ## The lock clause at lists of lines
 
 -- After a DELETE that is refused and a marker, version 1, under COMPLIANCE by the default, is still held.
@@ -129,6 +139,12 @@ pub record Examples : Type 0 where
   pub starred : Starred
   pub sweep-marks : sweptAt 86400001 ≡ ok done ∷ ok (made (numbered 1)) ∷ ok (sweptCounts 0 1) ∷ []
   pub sweep-waits : sweptAt 86400000 ≡ ok done ∷ ok (made (numbered 1)) ∷ ok (sweptCounts 0 0) ∷ []
+  pub resent : repliesAgain 41 300 ≡ ok (made (numbered 1)) ∷ ok (repeated (numbered 1)) ∷ []
+  pub another-body : repliesAgain 42 300 ≡ ok (made (numbered 1)) ∷ no 12 ∷ []
+  pub another-length : repliesAgain 41 301 ≡ ok (made (numbered 1)) ∷ no 12 ∷ []
+  pub marker-on-top : sentAfter (AddMarker key false) ≡ ok (made (numbered 1)) ∷ ok (marked (numbered 2)) ∷ ok (made (numbered 3)) ∷ []
+  pub other-on-top : sentAfter (Put key 42 300 plain) ≡ ok (made (numbered 1)) ∷ ok (made (numbered 2)) ∷ ok (made (numbered 3)) ∷ []
+  pub copied-on-top : sentAfter (Copy (name key none) key plain) ≡ ok (made (numbered 1)) ∷ ok (made (numbered 2)) ∷ ok (repeated (numbered 2)) ∷ []
   pub compliance-held : Held (run 1024 fresh four) (lineEvents 1024 fresh four) 1 (InCompliance 1709337600000)
   pub governance-held : Held (run 1 fresh governed) (lineEvents 1 fresh governed) 1 (InGovernance D)
   pub hold-held : Held (run 1 fresh on-hold) (lineEvents 1 fresh on-hold) 1 OnHold
@@ -141,6 +157,12 @@ examples =
       starred = record { before-date = refl; at-date = refl; same-date = refl; earlier-date = refl; no-later-now = refl };
       sweep-marks = refl;
       sweep-waits = refl;
+      resent = refl;
+      another-body = refl;
+      another-length = refl;
+      marker-on-top = refl;
+      other-on-top = refl;
+      copied-on-top = refl;
       compliance-held = (lock-clause 1024 four) .inCompliance (_ ∷ []) (_ ∷ []) _ 1 1709337600000 refl refl (lit< tt);
       governance-held = (lock-clause 1 governed) .inGovernance [] (_ ∷ []) _ 1 D refl refl refl (lit< tt);
       hold-held = (lock-clause 1 on-hold) .onHold [] [] _ 1 refl refl refl;

@@ -13,7 +13,7 @@ use Rattle.buffers.proofs.Tests.{either}
 use Rattle.calendar.specs.declared.Now.{Now}
 use Rattle.model.specs.Rows.{Row, isMarker}
 use Rattle.model.specs.Settings.{Bucket, fresh}
-use Rattle.model.specs.Requests.{Version, Name, name, Terms, Get, ListVersions, Verb, Put, Copy, Retain, Hold, AddMarker, DeleteVersion, Set, Sweep, Ask, Context, Request}
+use Rattle.model.specs.Requests.{Version, Name, name, Terms, Get, ListVersions, Repeat, Verb, Put, Copy, Retain, Hold, AddMarker, DeleteVersion, Set, Sweep, Ask, Context, Request}
 use Rattle.model.specs.Time.{nowOf}
 use Rattle.model.specs.Effects.{rowOf, setRetention, setHold, holdNumber, newRow, added, rowsAfter, after}
 use Rattle.model.specs.Refusals.{missing, namesMarker}
@@ -173,7 +173,7 @@ none-after b now (Set s) v l e = e
 none-after b now Sweep v l e = swept-none (b .settings .config .rules) now (b .settings .next) none (b .rows) v l e
 none-after b now (Ask q) v l e = e
 
--- The answer to a DELETE, a GET or a LIST makes no version.
+-- The answer to a DELETE or a GET makes no version.
 pub removal-answers : (a : Bool) (u : Version) (v : ℕ) → givesNumber v (pick a (removedMarker u) (removed u)) ≡ false
 removal-answers true u v = refl
 removal-answers false u v = refl
@@ -195,6 +195,7 @@ not-made b g (Set s) v l = refl
 not-made b g Sweep v l = refl
 not-made b g (Ask (Get n)) v l = shown-answers (rowOf (b .rows) n) v
 not-made b g (Ask (ListVersions p)) v l = refl
+not-made b g (Ask (Repeat u)) v l = refl
 
 -- What a line leaves of a known row is known.
 known-after : (b : Bucket) (es : List Event) (g : Context) (w : Verb) (v : ℕ) (x y : Row) → y .kind ≡ x .kind → makingOf y ≡ makingOf x → Known es v x → Known (with es b g w) v y

@@ -11,6 +11,7 @@ pub mod LockClause
 pub mod SoundRows
 pub mod Pages
 pub mod Sound
+pub mod Retries
 pub mod Room
 pub mod Facts
 pub mod Examples

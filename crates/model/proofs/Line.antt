@@ -61,7 +61,7 @@ retained : (c : ℕ) (b : Bucket) (g : Context) (now : Now) (n : Name) (r : Rete
 unfolding rowsAfter barred inRange
 retained c b g now n r y p v x e =
     let moved = change-version v (isNamed (b .rows) n) (setRetention (orZero (r .mode)) (orZero (r .date))) (λ _. refl) (b .rows) x e in
-    let ranges : isRetention r ≡ true = and-r (isName n) _ (p .in-range) in
+    let ranges : isRetention r ≡ true = and-r (isName n) _ (p .fields .in-range) in
     elim (either (isNamed (b .rows) n x)) [
       | inl t ↦
           let f = named-row v (b .rows) n x e t in

@@ -13,6 +13,7 @@ use Rattle.model.specs.Settings.{Bucket, fresh}
 use Rattle.model.specs.Requests.{Verb, Context, Heard, unreadable, says}
 use Rattle.model.specs.Time.{nowOf}
 use Rattle.model.specs.Effects.{after}
+use Rattle.model.specs.Retries.{meant}
 use Rattle.model.specs.Refusals.{refusal}
 use Rattle.model.specs.Run.{Event, serve, run, lineEvent, lineEvents}
 use Rattle.model.specs.LockClause.{timeAfter, putsUnder, putsOnHold, bypasses, takesOffHold, noneOf, Held, InCompliance, InGovernance, OnHold, Kept, LockClause}
@@ -85,8 +86,8 @@ good-line c b es (says q) k =
       | inl e ↦
           let p = accepted-line c b q (eqb-true (refusal c b (says q)) 0 e) in
           rw e (record {
-            invariant = invariant-after c b es (q .context) (q .verb) p (k .invariant);
-            kept = kept-after c b es (q .context) (q .verb) p (k .invariant) (k .kept);
+            invariant = invariant-after c b es (q .context) (meant (b .rows) (q .verb)) p (k .invariant);
+            kept = kept-after c b es (q .context) (meant (b .rows) (q .verb)) p (k .invariant) (k .kept);
           })
       | inr e ↦ rw (e, append-nil) k
     ]

@@ -38,6 +38,14 @@ pub before-irrefl : (k : List ℕ) → before k k ≡ false
 before-irrefl [] = refl
 before-irrefl (x ∷ xs) = simp (le-ltb x x (omega arith), eq-eqb x x refl) (before-irrefl xs)
 
+-- A key before another is not the same.
+pub before-other : (j k : List ℕ) → before j k ≡ true → same j k ≡ false
+before-other j k e =
+    elim (either (same j k)) [
+      | inl s ↦ absurd (clash (before k k) (rw (same-path j k s) at e) (before-irrefl k))
+      | inr s ↦ s
+    ]
+
 -- Of two keys, one is before the other or they are the same.
 pub before-or : (j k : List ℕ) → before j k ≡ false → (before k j ≡ true) ⊎ (same k j ≡ true)
 before-or [] [] e = inr refl

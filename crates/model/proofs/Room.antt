@@ -1,6 +1,6 @@
 -- How many rows a line leaves: the used ones, less those removed, plus those added.
-use Prim.Native.Nat.{ℕ, _+_}
-use mathlib.Core.Path.{_≡_, refl}
+use Prim.Native.Nat.{ℕ, suc, _+_}
+use mathlib.Core.Path.{_≡_, refl, ap}
 use mathlib.Core.Logic.{inl, inr}
 use mathlib.Core.Bool.{Bool, true, false, not, true≢false}
 use mathlib.Core.List.{List, [], _∷_}
@@ -14,7 +14,7 @@ use Rattle.calendar.specs.declared.Now.{Now}
 use Rattle.model.specs.Rows.{Row, before, ahead, ordered}
 use Rattle.model.specs.Settings.{Rule, Bucket}
 use Rattle.model.specs.Requests.{name, Verb, Put, Copy, Retain, Hold, AddMarker, DeleteVersion, Set, Sweep, Ask}
-use Rattle.model.specs.Sweep.{Fate, stays, goes, gains, fate, inPlace, marks, removes, swept, counted}
+use Rattle.model.specs.Sweep.{Fate, stays, goes, gains, inPlace, marks, removes, fates, total, carriedOut, swept, counted}
 use Rattle.model.specs.Effects.{rowOf, sameVersion, isNamed, insertByKey, added, removed, rowsAfter}
 use Rattle.model.specs.Refusals.{missing}
 use Rattle.model.proofs.SoundRows.{version-refl, apart, others}
@@ -47,18 +47,28 @@ length-remove p (y ∷ ys) x o f =
           simp ((apart y x d) .1) (omega (arith, length-remove p ys x (and-r (all (ahead y) ys) _ o) g))
     ]
 
-pub length-in-place : (f : Fate) (made n : ℕ) (x : Row) → length (inPlace f made n x) + removes f ≡ 1 + marks f
+length-in-place : (f : Fate) (made n : ℕ) (x : Row) → length (inPlace f made n x) + removes f ≡ 1 + marks f
 length-in-place stays made n x = refl
 length-in-place goes made n x = refl
 length-in-place gains made n x = refl
 
-pub length-swept : (rules : List Rule) (now : Now) (n : ℕ) (y : Option Row) (xs : List Row) → length (swept rules now n y xs) + counted removes rules (now .judge) y xs ≡ length xs + counted marks rules (now .judge) y xs
-length-swept rules now n y [] = refl
-length-swept rules now n y (x ∷ xs) =
-    let here = length-in-place (fate rules (now .judge) y x) (now .stamp) n x in
-    let rest = length-swept rules now (n + marks (fate rules (now .judge) y x)) (some x) xs in
-    let joined = length-append (inPlace (fate rules (now .judge) y x) (now .stamp) n x) (swept rules now (n + marks (fate rules (now .judge) y x)) (some x) xs) in
+-- The rows that fates leave: less those that go, plus the markers.
+pub length-carried : (made n : ℕ) (fs : List Fate) (xs : List Row) → length fs ≡ length xs → length (carriedOut made n fs xs) + total removes fs ≡ length xs + total marks fs
+length-carried made n [] [] e = refl
+length-carried made n [] (x ∷ xs) e = absurd (omega arith)
+length-carried made n (f ∷ fs) [] e = absurd (omega arith)
+length-carried made n (f ∷ fs) (x ∷ xs) e =
+    let here = length-in-place f made n x in
+    let rest = length-carried made (n + marks f) fs xs (omega arith) in
+    let joined = length-append (inPlace f made n x) (carriedOut made (n + marks f) fs xs) in
     omega arith
+
+pub each-fate : (rules : List Rule) (now : ℕ) (y : Option Row) (xs : List Row) → length (fates rules now y xs) ≡ length xs
+each-fate rules now y [] = refl
+each-fate rules now y (x ∷ xs) = ap suc (each-fate rules now (some x) xs)
+
+pub length-swept : (rules : List Rule) (now : Now) (n : ℕ) (y : Option Row) (xs : List Row) → length (swept rules now n y xs) + counted removes rules (now .judge) y xs ≡ length xs + counted marks rules (now .judge) y xs
+length-swept rules now n y xs = length-carried (now .stamp) n (fates rules (now .judge) y xs) xs (each-fate rules (now .judge) y xs)
 
 -- Refusal 12 in 01's words.
 pub rows-left : (b : Bucket) (now : Now) (w : Verb) → ordered (b .rows) ≡ true → missing (b .rows) w ≡ false → length (rowsAfter b now w) + removed b now w ≡ length (b .rows) + added b now w

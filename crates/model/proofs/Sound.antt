@@ -22,6 +22,7 @@ use Rattle.model.specs.Requests.{Name, Retention, Terms, Period, Setting
 use Rattle.model.specs.Time.{nowOf}
 use Rattle.model.specs.Sweep.{marks, counted}
 use Rattle.model.specs.Effects.{rowOf, isNamed, setRetention, setHold, holdNumber, added, rowsAfter, defaultFrom, setConfig, configAfter, after}
+use Rattle.model.specs.Retries.{meant, meaning}
 use Rattle.model.specs.Refusals.{oneOf, settingHalf, halfGiven, pastDate, missing, namesMarker, tooLate, spends, full, refusal}
 use Rattle.model.proofs.Order.{all-insert, ordered-insert, ordered-keep, ordered-change}
 use Rattle.model.proofs.Sweeping.{all-swept, ordered-swept}
@@ -50,6 +51,14 @@ whole c b e =
       rows-sound = search (and-l, and-r);
     }
 
+pub config-default : (s : Config) → soundConfig s ≡ true → soundDefault (s .default) ≡ true
+unfolding soundConfig
+config-default s e = and-l _ _ e
+
+pub config-rules : (s : Config) → soundConfig s ≡ true → soundRules (s .rules) ≡ true
+unfolding soundConfig
+config-rules s e = and-r (soundDefault (s .default)) _ e
+
 -- ## The order of the table after a line
 
 -- Every number is below the next.
@@ -75,10 +84,6 @@ ordered-after c b now (Ask q) s = s .in-order
 later-rows : (c : ℕ) (b : Bucket) (n t : ℕ) → Whole c b → b .settings .next ≤ n → b .settings .time ≤ t → all (soundRow n t) (b .rows) ≡ true
 later-rows c b n t s l m = all-as (soundRow (b .settings .next) (b .settings .time)) (soundRow n t) (λ x e. row-later _ _ n t x l m e) (b .rows) (s .rows-sound)
 
-config-default : (s : Config) → soundConfig s ≡ true → soundDefault (s .default) ≡ true
-unfolding soundConfig
-config-default s e = and-l _ _ e
-
 on-or-off : (on : Bool) → leb (holdNumber on) 1 ≡ true
 on-or-off true = refl
 on-or-off false = refl
@@ -87,9 +92,9 @@ module _ (c : ℕ) (b : Bucket) (g : Context) (now : Now) (s : Whole c b) (l : b
   rows-put : (k : List ℕ) (body size : ℕ) (t : Terms) → Accepted c b g now (Put k body size t) → all (soundRow (b .settings .next + 1) (now .stamp)) (rowsAfter b now (Put k body size t)) ≡ true
   unfolding rowsAfter inRange halfGiven pastDate tooLate
   rows-put k body size t p =
-      let r : (isKey k && (ltb body bodies && (leb size largestSize && isRetention (t .retention)))) ≡ true = p .in-range in
+      let r : (isKey k && (ltb body bodies && (leb size largestSize && isRetention (t .retention)))) ≡ true = p .fields .in-range in
       all-insert _ _ (b .rows)
-      (new-sound (b .settings) (now .stamp) k body size t (s .from-one) (and-l _ _ r) (search (and-l, and-r)) (search (and-l, and-r)) (config-default (b .settings .config) (s .config-sound)) (search (and-l, and-r)) (p .not-half) (p .future) (p .in-time))
+      (new-sound (b .settings) (now .stamp) k body size t (s .from-one) (and-l _ _ r) (search (and-l, and-r)) (search (and-l, and-r)) (config-default (b .settings .config) (s .config-sound)) (search (and-l, and-r)) (p .fields .not-half) (p .fields .future) (p .in-time))
       (later-rows c b _ (now .stamp) s (omega arith) l)
 
   rows-copy : (n : Name) (k : List ℕ) (t : Terms) → Accepted c b g now (Copy n k t) → all (soundRow (b .settings .next + 1) (now .stamp)) (rowsAfter b now (Copy n k t)) ≡ true
@@ -100,16 +105,16 @@ module _ (c : ℕ) (b : Bucket) (g : Context) (now : Now) (s : Whole c b) (l : b
       go none q = absurd (true≢false (rw q at (p .present)))
       go (some x) q =
           let d : soundData x ≡ true = (row-data _ _ x (all-first (soundRow (b .settings .next) (b .settings .time)) _ (b .rows) x (s .rows-sound) q) (rw q at (p .no-marker))) .1 in
-          let r : (isName n && (isKey k && isRetention (t .retention))) ≡ true = p .in-range in
+          let r : (isName n && (isKey k && isRetention (t .retention))) ≡ true = p .fields .in-range in
           all-insert _ _ (b .rows)
-          (new-sound (b .settings) (now .stamp) k _ _ t (s .from-one) (search (and-l, and-r)) (rw q (search and-l)) (rw q (search (and-l, and-r))) (config-default (b .settings .config) (s .config-sound)) (search (and-l, and-r)) (p .not-half) (p .future) (p .in-time))
+          (new-sound (b .settings) (now .stamp) k _ _ t (s .from-one) (search (and-l, and-r)) (rw q (search and-l)) (rw q (search (and-l, and-r))) (config-default (b .settings .config) (s .config-sound)) (search (and-l, and-r)) (p .fields .not-half) (p .fields .future) (p .in-time))
           (later-rows c b _ (now .stamp) s (omega arith) l)
 
   rows-retain : (n : Name) (r : Retention) (y : Bool) → Accepted c b g now (Retain n r y) → (m : ℕ) → b .settings .next ≤ m → all (soundRow m (now .stamp)) (rowsAfter b now (Retain n r y)) ≡ true
   unfolding rowsAfter inRange halfGiven pastDate missing namesMarker
   rows-retain n r y p m h =
-      let ranges : isRetention r ≡ true = and-r (isName n) _ (p .in-range) in
-      let f = given-sound (now .stamp) (r .mode) (r .date) (and-l _ _ ranges) (and-r (isModeField (r .mode)) _ ranges) (p .not-half) (p .future) in
+      let ranges : isRetention r ≡ true = and-r (isName n) _ (p .fields .in-range) in
+      let f = given-sound (now .stamp) (r .mode) (r .date) (and-l _ _ ranges) (and-r (isModeField (r .mode)) _ ranges) (p .fields .not-half) (p .fields .future) in
       named-sound m (now .stamp) n _ (λ x e k. retention-sound m (now .stamp) (orZero (r .mode)) (orZero (r .date)) x e k f) (b .rows) (s .in-order) (p .present) (p .no-marker) (later-rows c b m (now .stamp) s h l)
 
   rows-hold : (n : Name) (on : Bool) → Accepted c b g now (Hold n on) → (m : ℕ) → b .settings .next ≤ m → all (soundRow m (now .stamp)) (rowsAfter b now (Hold n on)) ≡ true
@@ -124,7 +129,7 @@ module _ (c : ℕ) (b : Bucket) (g : Context) (now : Now) (s : Whole c b) (l : b
   rows-after (Retain n r y) p = rows-retain n r y p _ (omega arith)
   rows-after (Hold n on) p = rows-hold n on p _ (omega arith)
   rows-after (AddMarker k y) p =
-      all-insert _ _ (b .rows) (marker-sound (now .stamp) _ (b .settings .next) k (s .from-one) (omega arith) (p .in-range)) (later-rows c b _ (now .stamp) s (omega arith) l)
+      all-insert _ _ (b .rows) (marker-sound (now .stamp) _ (b .settings .next) k (s .from-one) (omega arith) (p .fields .in-range)) (later-rows c b _ (now .stamp) s (omega arith) l)
   rows-after (DeleteVersion k v y) p = all-keep _ _ (b .rows) (later-rows c b _ (now .stamp) s (omega arith) l)
   rows-after (Set a) p = later-rows c b _ (now .stamp) s (omega arith) l
   rows-after Sweep p =
@@ -157,10 +162,10 @@ rules-set us i u e s =
 config-set : (a : Setting) (s : Config) → isSetting a ≡ true → settingHalf a ≡ false → soundConfig s ≡ true → soundConfig (setConfig a s) ≡ true
 unfolding setConfig soundConfig
 config-set (DefaultRetention m p) s r h d =
-    and-i (soundDefault (defaultFrom m p)) _ (default-set m p (and-l _ _ r) (and-r (isModeField m) _ r) h) (and-r (soundDefault (s .default)) _ d)
+    and-i (soundDefault (defaultFrom m p)) _ (default-set m p (and-l _ _ r) (and-r (isModeField m) _ r) h) (config-rules s d)
 config-set (LifecycleRule i u) s r h d =
     let f = rule-set u (search (and-l, and-r)) (search (and-l, and-r)) (search (and-l, and-r)) in
-    and-i (soundDefault (s .default)) _ (and-l _ _ d) (rules-set (s .rules) i (pick (isSet u) u absentRule) f (and-r (soundDefault (s .default)) _ d))
+    and-i (soundDefault (s .default)) _ (config-default s d) (rules-set (s .rules) i (pick (isSet u) u absentRule) f (config-rules s d))
 
 config-after : (s : Config) (w : Verb) → inRange w ≡ true → halfGiven w ≡ false → soundConfig s ≡ true → soundConfig (configAfter s w) ≡ true
 unfolding configAfter inRange halfGiven
@@ -186,19 +191,20 @@ unfolding spends
 next-after b now w p = ltb-false spentNumber (b .settings .next + added b now w) p
 
 -- An accepted line leaves a sound bucket sound.
-pub sound-after : (c : ℕ) (b : Bucket) (q : Request) → refusal c b (says q) ≡ 0 → sound c (after b q) ≡ true
+pub sound-after : (c : ℕ) (b : Bucket) (q : Request) → refusal c b (says q) ≡ 0 → sound c (after b (meaning b q)) ≡ true
 unfolding sound
 sound-after c b q e =
     let p = accepted-line c b q e in
-    let w = whole c b (p .whole) in
+    let w = whole c b (p .fields .whole) in
     let g = q .context in
-    let clock-fits = leb-true (g .clock) latest (p .instant) in
+    let v = meant (b .rows) (q .verb) in
+    let clock-fits = leb-true (g .clock) latest (p .fields .instant) in
     let old-fits = leb-true (b .settings .time) latest (w .time-fits) in
-    let s₁ = fits-after c b (nowOf b g) (q .verb) (p .fitting) in
+    let s₁ = fits-after c b (nowOf b g) v (p .fitting) in
     let s₂ : leb ((nowOf b g) .stamp) latest ≡ true = le-leb ((nowOf b g) .stamp) latest (omega arith) in
-    let s₃ : leb 1 (b .settings .next + added b (nowOf b g) (q .verb)) ≡ true = le-leb 1 (b .settings .next + added b (nowOf b g) (q .verb)) (omega (arith, w .from-one)) in
-    let s₄ : leb (b .settings .next + added b (nowOf b g) (q .verb)) spentNumber ≡ true = le-leb (b .settings .next + added b (nowOf b g) (q .verb)) spentNumber (next-after b (nowOf b g) (q .verb) (p .unspent)) in
-    let s₅ = config-after (b .settings .config) (q .verb) (p .in-range) (p .not-half) (w .config-sound) in
-    let s₆ = ordered-after c b (nowOf b g) (q .verb) w in
-    let s₇ = rows-after c b g (nowOf b g) w (omega arith) (q .verb) p in
+    let s₃ : leb 1 (b .settings .next + added b (nowOf b g) v) ≡ true = le-leb 1 (b .settings .next + added b (nowOf b g) v) (omega (arith, w .from-one)) in
+    let s₄ : leb (b .settings .next + added b (nowOf b g) v) spentNumber ≡ true = le-leb (b .settings .next + added b (nowOf b g) v) spentNumber (next-after b (nowOf b g) v (p .unspent)) in
+    let s₅ = config-after (b .settings .config) v (p .fields .in-range) (p .fields .not-half) (w .config-sound) in
+    let s₆ = ordered-after c b (nowOf b g) v w in
+    let s₇ = rows-after c b g (nowOf b g) w (omega arith) v p in
     search and-i depth 12

@@ -8,7 +8,7 @@ use Rattle.buffers.specs.Choices.{pick, thenSome}
 use Rattle.calendar.specs.declared.Now.{Now}
 use Rattle.model.specs.Rows.{Row, isMarker}
 use Rattle.model.specs.Settings.{Bucket}
-use Rattle.model.specs.Requests.{Rights, Version, numbered, name, Get, ListVersions, Verb, Put, Copy, Retain, Hold, AddMarker, DeleteVersion, Set, Sweep, Ask, Request}
+use Rattle.model.specs.Requests.{Rights, Version, numbered, name, Get, ListVersions, Repeat, Verb, Put, Copy, Retain, Hold, AddMarker, DeleteVersion, Set, Sweep, Ask, Request}
 use Rattle.model.specs.Time.{nowOf}
 use Rattle.model.specs.Pages.{pageRows}
 use Rattle.model.specs.Effects.{rowOf, added}
@@ -17,8 +17,10 @@ use Rattle.model.specs.Effects.{removed as rowsRemoved}
 pub data Answer : Type 0 where
   -- nothing after `ok`
   done : Answer
-  -- PUT and COPY: the number
+  -- PUT and COPY that make a version: its number
   made : Version → Answer
+  -- a PUT that is a retry: the number of the row that is there
+  repeated : Version → Answer
   -- DELETE: the number and `marker`, `removed` or `removed-marker`
   marked : Version → Answer
   removed : Version → Answer
@@ -46,14 +48,16 @@ reply b now who (Set s) = done
 reply b now who Sweep = sweptCounts (rowsRemoved b now Sweep) (added b now Sweep)
 reply b now who (Ask (Get n)) = thenSome (rowOf (b .rows) n) done (λ x. shown x)
 reply b now who (Ask (ListVersions p)) = listed (pageRows p (b .rows))
+reply b now who (Ask (Repeat v)) = repeated v
 
 abbrev pub answerTo : Bucket → Request → Answer
 answerTo b q = reply b (nowOf b (q .context)) (q .context .who) (q .verb)
 
--- The answer is that of a PUT or COPY, and gives this number.
+-- The answer is that of a PUT or COPY that makes a version, and gives this number.
 abbrev pub givesNumber : ℕ → Answer → Bool
 givesNumber v done = false
 givesNumber v (made (numbered n)) = eqb n v
+givesNumber v (repeated n) = false
 givesNumber v (marked n) = false
 givesNumber v (removed n) = false
 givesNumber v (removedMarker n) = false

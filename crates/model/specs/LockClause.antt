@@ -1,4 +1,4 @@
--- 01, "The lock clause": its words over the accepted lines of a list, and the claim.
+-- 01, "The lock clause": its words over the accepted lines of a list, each by what it means, and the claim.
 use Prim.Native.Nat.{ℕ, _≤_, _<_, max}
 use mathlib.Core.Path.{_≡_}
 use mathlib.Core.Logic.{_⊎_}
@@ -45,7 +45,7 @@ pub record Making : Type 0 where
   pub size : ℕ
   pub created : ℕ
 
--- The line is a PUT or COPY and answers this number.
+-- The line is a PUT or COPY, no retry, and answers this number.
 abbrev pub answers : ℕ → Event → Bool
 answers v e = e .answered v
 

@@ -1,4 +1,4 @@
--- 01, "The twelve refusals", and 13 for LIST: the conditions, and the list of them in their order.
+-- 01, "The twelve refusals", and 13 for LIST: the conditions, and the list of them in their order. 1 to 6 and 13 look at the verb as it is written, 7 to 12 at what it means.
 use Prim.Native.Nat.{ℕ, _+_, _*_}
 use mathlib.Core.Path.{_≡_}
 use mathlib.Core.Bool.{Bool, true, false, not, _&&_}
@@ -11,10 +11,11 @@ use Rattle.calendar.specs.declared.Now.{Now}
 use Rattle.calendar.specs.Calendar.{latest}
 use Rattle.model.specs.Rows.{Row, isMarker}
 use Rattle.model.specs.Settings.{Config, Bucket, hasDefault, spentNumber, fits, sound}
-use Rattle.model.specs.Requests.{Letter, reading, writing, deleting, retaining, holding, bypassing, configuring, Rights, has, Retention, Terms, Setting, DefaultRetention, LifecycleRule, Get, ListVersions, Verb, Put, Copy, Retain, Hold, AddMarker, DeleteVersion, Set, Sweep, Ask, Context, Heard, unreadable, says, roomOf, nameOf, pageOf, termsOf, retentionOf, settingOf, inRange}
+use Rattle.model.specs.Requests.{Letter, reading, writing, deleting, retaining, holding, bypassing, configuring, Rights, has, Retention, Terms, Setting, DefaultRetention, LifecycleRule, Get, ListVersions, Repeat, Verb, Put, Copy, Retain, Hold, AddMarker, DeleteVersion, Set, Sweep, Ask, Context, Heard, unreadable, says, roomOf, nameOf, pageOf, termsOf, retentionOf, settingOf, inRange}
 use Rattle.model.specs.Time.{nowOf, defaultEnd}
 use Rattle.model.specs.Locks.{locked, admits}
 use Rattle.model.specs.Effects.{rowOf, added, rowsAfter}
+use Rattle.model.specs.Retries.{meant}
 
 -- ## 2. The answer buffer is too short
 
@@ -61,7 +62,7 @@ needIf given l k ns = pick given (need l k ∷ ns) ns
 abbrev pub putNeeds : List ℕ → Terms → List Need
 putNeeds k t = need writing k ∷ needIf (isSome (t .retention .mode)) retaining k (needIf (isSome (t .hold)) holding k [])
 
--- Bypass yes always needs right b.
+-- Bypass yes always needs right b. No line says `Repeat`: a retry's rights are asked of the PUT as it is written.
 unfoldable pub needs : Verb → List Need
 needs (Put k body size t) = putNeeds k t
 needs (Copy n k t) = need reading (n .key) ∷ putNeeds k t
@@ -73,6 +74,7 @@ needs (Set s) = need configuring [] ∷ []
 needs Sweep = need configuring [] ∷ []
 needs (Ask (Get n)) = need reading (n .key) ∷ []
 needs (Ask (ListVersions p)) = need reading [] ∷ []
+needs (Ask (Repeat v)) = []
 
 -- The letter is held for the key.
 unfoldable pub granted : Config → Rights → Letter → List ℕ → Bool
@@ -205,9 +207,9 @@ tableChecks c b now v =
     ∷ check 12 (full c b now v)
     ∷ []
 
--- The conditions on a verb whose fields are in their ranges.
+-- The conditions on a verb whose fields are in their ranges: on the verb as it is written, then on what it means.
 abbrev pub verbChecks : ℕ → Bucket → Now → Context → Verb → List Check
-verbChecks c b now g v = fieldChecks (b .settings .config) (g .who) (g .room) (now .stamp) v ++ tableChecks c b now v
+verbChecks c b now g v = fieldChecks (b .settings .config) (g .who) (g .room) (now .stamp) v ++ tableChecks c b now (meant (b .rows) v)
 
 -- The conditions on what the line says.
 abbrev pub requestChecks : ℕ → Bucket → Heard → List Check

@@ -87,6 +87,8 @@ largestCount = 1000
 pub data Query : Type 0 where
   Get : Name → Query
   ListVersions : Page → Query
+  -- for a version's number once more: no line says it, but a PUT that is a retry means it
+  Repeat : Version → Query
 
 -- A verb with its fields. DELETE is two: with `-` it adds a marker, with a number it removes that version.
 pub data Verb : Type 0 where
@@ -138,6 +140,7 @@ nameOf (Set s) = none
 nameOf Sweep = none
 nameOf (Ask (Get n)) = some n
 nameOf (Ask (ListVersions p)) = none
+nameOf (Ask (Repeat v)) = none
 
 -- The page that LIST asks for.
 abbrev pub pageOf : Verb → Option Page
@@ -151,6 +154,7 @@ pageOf (Set s) = none
 pageOf Sweep = none
 pageOf (Ask (Get n)) = none
 pageOf (Ask (ListVersions p)) = some p
+pageOf (Ask (Repeat v)) = none
 
 -- The lock fields of a PUT or COPY.
 abbrev pub termsOf : Verb → Option Terms
@@ -247,3 +251,4 @@ inRange (Set s) = isSetting s
 inRange Sweep = true
 inRange (Ask (Get n)) = isName n
 inRange (Ask (ListVersions p)) = isPage p
+inRange (Ask (Repeat v)) = true

@@ -7,6 +7,7 @@ use Rattle.buffers.specs.Choices.{pick}
 use Rattle.model.specs.Settings.{Bucket}
 use Rattle.model.specs.Requests.{Request, Heard, unreadable, says}
 use Rattle.model.specs.Effects.{after}
+use Rattle.model.specs.Retries.{meaning}
 use Rattle.model.specs.Refusals.{refusal}
 use Rattle.model.specs.Answers.{Answer, answerTo, givesNumber}
 
@@ -25,10 +26,10 @@ module _ {S C : Type 0} (step : S → C → S) where
 
 -- ## Lines on a bucket
 
--- The bucket after an accepted line.
+-- The bucket after an accepted line, by what it means.
 abbrev pub accept : Bucket → Heard → Bucket
 accept b (unreadable room) = b
-accept b (says q) = after b q
+accept b (says q) = after b (meaning b q)
 
 -- The bucket after a line: nothing changes where it is refused.
 abbrev pub serve : ℕ → Bucket → Heard → Bucket
@@ -38,16 +39,16 @@ serve c b l = pick (eqb (refusal c b l) 0) (accept b l) b
 abbrev pub run : ℕ → Bucket → List Heard → Bucket
 run c b ls = left (serve c) b ls
 
--- An accepted line: the bucket that the lines before it left, what it says, and whether its answer is that of a PUT or COPY with this number.
+-- An accepted line: the bucket that the lines before it left, what the line means on it, and whether its answer is that of a PUT or COPY that makes the version of this number.
 pub record Event : Type 0 where
   pub before : Bucket
   pub request : Request
   pub answered : ℕ → Bool
 
--- What a line says, if it can be read.
+-- What a line means, if it can be read.
 abbrev pub event : Bucket → Heard → List Event
 event b (unreadable room) = []
-event b (says q) = record { before = b; request = q; answered = λ v. givesNumber v (answerTo b q) } ∷ []
+event b (says q) = let m = meaning b q in record { before = b; request = m; answered = λ v. givesNumber v (answerTo b m) } ∷ []
 
 -- The same, if the line is accepted.
 abbrev pub lineEvent : ℕ → Bucket → Heard → List Event
@@ -64,7 +65,7 @@ pub data Reply : Type 0 where
 
 abbrev pub replyTo : ℕ → Bucket → Heard → Reply
 replyTo c b (unreadable room) = no (refusal c b (unreadable room))
-replyTo c b (says q) = pick (eqb (refusal c b (says q)) 0) (ok (answerTo b q)) (no (refusal c b (says q)))
+replyTo c b (says q) = pick (eqb (refusal c b (says q)) 0) (ok (answerTo b (meaning b q))) (no (refusal c b (says q)))
 
 abbrev pub replies : ℕ → Bucket → List Heard → List Reply
 replies c b ls = gathered (serve c) (λ b l. replyTo c b l ∷ []) b ls

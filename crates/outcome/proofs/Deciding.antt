@@ -15,6 +15,7 @@ use Rattle.buffers.proofs.Tests.{either, clash, and-l, and-r}
 use Rattle.calendar.specs.Calendar.{latest}
 use Rattle.model.specs.Requests.{Verb, Request, unreadable, says, roomOf, inRange}
 use Rattle.model.specs.Time.{nowOf}
+use Rattle.model.specs.Retries.{meant}
 use Rattle.model.specs.Refusals.{Check, firstOf, verbChecks}
 use Rattle.table.specs.Layout.{capacity}
 use Rattle.bucket.specs.Whole.{Lent, bucketOf, whole}
@@ -91,13 +92,14 @@ module _ (b : Lent) (g : Call) where
   unfolding outcome refusalOf
   outcome-3 room w l e = simp (w, e, le-ltb _ _ l)
 
-  -- A request that the reader keeps within its ranges is done as it is decided.
+  -- A request that the reader keeps within its ranges is done as it is decided, by what it means.
   pub outcome-said : (q : Request) → whole b ≡ true → 256 ≤ q .context .room → heard g ≡ says q → (leb (q .context .clock) latest && inRange (q .verb)) ≡ true
-      → done b ((nowOf (bucketOf b) (q .context)) .stamp) (q .verb) (g .answer) (decision (capacity (b .keys)) (bucketOf b) q) ≡ outcome b g
+      → done b ((nowOf (bucketOf b) (q .context)) .stamp) (meant (bucketOf b .rows) (q .verb)) (g .answer) (decision (capacity (b .keys)) (bucketOf b) q) ≡ outcome b g
   unfolding outcome refusalOf
   outcome-said q w l e r =
       let x = bucketOf b in
       let now = nowOf x (q .context) in
       let who = q .context .who in
+      let v = meant (x .rows) (q .verb) in
       simp (w, e, le-ltb _ _ l, r)
-      (sym (done-decide (now .stamp) (q .verb) (verbChecks (capacity (b .keys)) x now (q .context) (q .verb)) (effect x now who (q .verb)) refl))
+      (sym (done-decide (now .stamp) v (verbChecks (capacity (b .keys)) x now (q .context) (q .verb)) (effect x now who v) refl))

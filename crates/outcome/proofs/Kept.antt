@@ -18,8 +18,9 @@ use Rattle.model.specs.Settings as model
 use Rattle.model.specs.Settings.{soundRule, soundRules, soundConfig}
 use Rattle.model.specs.Requests.{Request, Heard, unreadable, says}
 use Rattle.model.specs.Effects.{after}
+use Rattle.model.specs.Retries.{meaning}
 use Rattle.model.specs.Refusals.{refusal}
-use Rattle.model.proofs.Sound.{whole as sound-whole, sound-after}
+use Rattle.model.proofs.Sound.{whole as sound-whole, config-rules, sound-after}
 use Rattle.settings.specs.Meaning.{rulesMean, settingsMean, rulesFrom, settingsFrom, prefixesAre}
 use Rattle.table.specs.Layout.{keysOf, capacity}
 use Rattle.bucket.specs.Whole.{Lent, bucketOf, whole}
@@ -47,10 +48,6 @@ rules-of : (us : List model.Rule) → soundRules us ≡ true → all soundRule u
 unfolding soundRules
 rules-of us e = and-r (eqb (length us) 8) _ e
 
-config-rules : (s : model.Config) → soundConfig s ≡ true → soundRules (s .rules) ≡ true
-unfolding soundConfig
-config-rules s e = and-r (model.soundDefault (s .default)) _ e
-
 -- Settings made from the model's mean these.
 settings-mean : (s : model.Settings) (used : ℕ) → soundConfig (s .config) ≡ true → settingsMean (settingsFrom s used) ≡ s
 settings-mean s used e = rw (rules-mean (s .config .rules) (rules-of (s .config .rules) (config-rules (s .config) e)))
@@ -68,7 +65,7 @@ module _ (b : Lent) (g : Call) where
   pub accepted-whole : (q : Request) → whole b ≡ true → heard g ≡ says q → refusalOf b g ≡ 0 → whole ((accepted b q (g .answer)) .bucket) ≡ true
   accepted-whole q w e z =
       let c = capacity (b .keys) in
-      let x = after (bucketOf b) q in
+      let x = after (bucketOf b) (meaning (bucketOf b) q) in
       let p = whole-parts b w in
       let m = sound-after c (bucketOf b) q (model-accepts q w e z) in
       let f = (sound-whole c x m) .config-sound in
@@ -77,10 +74,10 @@ module _ (b : Lent) (g : Call) where
       (rw (settings-mean (x .settings) (length (x .rows)) f) m)
 
   -- It is the model's bucket.
-  pub accepted-bucket : (q : Request) → whole b ≡ true → heard g ≡ says q → refusalOf b g ≡ 0 → bucketOf ((accepted b q (g .answer)) .bucket) ≡ after (bucketOf b) q
+  pub accepted-bucket : (q : Request) → whole b ≡ true → heard g ≡ says q → refusalOf b g ≡ 0 → bucketOf ((accepted b q (g .answer)) .bucket) ≡ after (bucketOf b) (meaning (bucketOf b) q)
   accepted-bucket q w e z =
       let c = capacity (b .keys) in
-      let x = after (bucketOf b) q in
+      let x = after (bucketOf b) (meaning (bucketOf b) q) in
       let m = sound-after c (bucketOf b) q (model-accepts q w e z) in
       let f = (sound-whole c x m) .config-sound in
       let p = sound-parts c x m in

@@ -8,6 +8,7 @@ use Rattle.model.specs.Settings.{Bucket}
 use Rattle.model.specs.Requests.{Rights, Verb, Request}
 use Rattle.model.specs.Time.{nowOf}
 use Rattle.model.specs.Effects.{added, rowsAfter}
+use Rattle.model.specs.Retries.{meant}
 use Rattle.model.specs.Refusals.{Check, tableChecks, verbChecks}
 use Rattle.model.specs.Answers.{reply}
 use Rattle.answers.specs.Text.{answerText}
@@ -34,8 +35,8 @@ effect b now who v = record { rows = rowsAfter b now v; taken = added b now v; t
 abbrev pub tableDecision : ℕ → Bucket → Now → Rights → Verb → Decision
 tableDecision c b now who v = decide (tableChecks c b now v) (effect b now who v)
 
--- By refusals 4 to 13.
+-- By refusals 4, 5, 13 and 6 of the verb as it is written, then 7 to 12 of what it means.
 abbrev pub decision : ℕ → Bucket → Request → Decision
 decision c b q =
     let now = nowOf b (q .context) in
-    decide (verbChecks c b now (q .context) (q .verb)) (effect b now (q .context .who) (q .verb))
+    decide (verbChecks c b now (q .context) (q .verb)) (effect b now (q .context .who) (meant (b .rows) (q .verb)))

@@ -6,6 +6,7 @@ use lib.ListN.{length, drop}
 use Rattle.buffers.specs.Choices.{pick}
 use Rattle.model.specs.Requests.{Request, Heard, unreadable, says}
 use Rattle.model.specs.Effects.{after}
+use Rattle.model.specs.Retries.{meaning}
 use Rattle.model.specs.Refusals.{Check, firstOf, checks}
 use Rattle.model.specs.Answers.{answerTo}
 use Rattle.table.specs.Layout.{capacity}
@@ -28,11 +29,12 @@ refused n b answer = record { number = n; len = 0; bucket = b; answer = answer }
 abbrev pub written : List ℕ → List ℕ → List ℕ
 written text room = text ++ drop (length text) room
 
--- An accepted request leaves the bucket after it, and its answer.
+-- An accepted request leaves the bucket after it, and its answer, by what it means.
 abbrev pub accepted : Lent → Request → List ℕ → Outcome
 accepted b q answer =
-    let text = answerText (answerTo (bucketOf b) q) in
-    record { number = 0; len = length text; bucket = laidOut (capacity (b .keys)) (after (bucketOf b) q); answer = written text answer }
+    let m = meaning (bucketOf b) q in
+    let text = answerText (answerTo (bucketOf b) m) in
+    record { number = 0; len = length text; bucket = laidOut (capacity (b .keys)) (after (bucketOf b) m); answer = written text answer }
 
 -- The conditions of a call, in 01's order.
 abbrev pub conditions : Lent → Call → List Check

@@ -1,4 +1,5 @@
 pub mod Answers
 pub mod Actions
 pub mod Ranges
+pub mod Words
 pub mod Pages

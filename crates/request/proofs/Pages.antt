@@ -1,6 +1,6 @@
 -- What a readable line with the word LIST asks for, by its fields.
 use Prim.Native.Nat.{ℕ}
-use mathlib.Core.Path.{_≡_, sym, _∙_}
+use mathlib.Core.Path.{_≡_}
 use mathlib.Core.List.{List}
 use mathlib.Core.Option.{some, none}
 use lib.Dec.{eqb}
@@ -8,9 +8,8 @@ use Rattle.buffers.specs.Choices.{pick, thenSome}
 use Rattle.buffers.specs.Texts.{bytes}
 use Rattle.text.specs.declared.Place.{Place}
 use Rattle.text.specs.Numbers.{numberOf, positiveOf}
-use Rattle.text.specs.Fields.{fieldOf, placeOf, partOf}
+use Rattle.text.specs.Fields.{fieldOf, partOf}
 use Rattle.text.specs.Keys.{isPrefix}
-use Rattle.text.proofs.Fields.{place-field}
 use Rattle.model.specs.Settings.{largestNumber}
 use Rattle.model.specs.Requests as model
 use Rattle.model.specs.Requests.{page, largestCount}
@@ -18,10 +17,10 @@ use Rattle.fields.specs.Fields.{readPrefix}
 use Rattle.request.specs.declared.Verb.{Verb}
 use Rattle.request.specs.declared.Verb.the-variants.{Ask}
 use Rattle.request.specs.declared.Query.the-variants.{ListVersions}
-use Rattle.request.specs.declared.Request.{Request}
 use Rattle.request.specs.Meaning.{verbMeans}
-use Rattle.request.specs.Grammar.{listOf, otherByWord, verbByWord, requestIn, Said, readLine}
+use Rattle.request.specs.Grammar.{listOf, otherByWord, verbByWord, Said, readLine}
 use Rattle.request.proofs.Ranges.{Passes, ways}
+use Rattle.request.proofs.Words.{line-asks, field-bytes}
 
 -- A whole number from 1 on is a whole number.
 positive-number : (k : ℕ) (s : List ℕ) (n : ℕ) → positiveOf k s ≡ some n → numberOf k s ≡ some n
@@ -45,10 +44,7 @@ module _ (s : List ℕ) where
 
   prefix-place : (i : ℕ) (p : Place) → readPrefix s i ≡ some p → partOf s p ≡ fieldOf s i
   unfolding readPrefix
-  prefix-place i p e = there .holds p e
-    where
-      there : Passes Place (λ p. partOf s p ≡ fieldOf s i) (pick (isPrefix (fieldOf s i)) (some (placeOf s i)) none)
-      there = search (ways, place-field) depth 9
+  prefix-place i = (field-bytes s i isPrefix) .holds
 
   list-asks : Passes Verb (λ v. AsksPage (verbMeans s v)) (listOf s)
   unfolding listOf
@@ -65,17 +61,4 @@ module _ (s : List ℕ) where
 
   -- A readable line with the word LIST asks for a page.
   pub asks-page : (q : Said) → fieldOf s 2 ≡ bytes "LIST" → readLine s ≡ some q → AsksPage (q .verb)
-  unfolding readLine requestIn
-  asks-page q e = line .holds q
-    where
-      by-word : (v : Verb) → verbByWord (fieldOf s 2) s ≡ some v → AsksPage (verbMeans s v)
-      by-word v h = list-asks .holds v (sym (list-word e) ∙ h)
-
-      request : Passes Request (λ q. AsksPage (verbMeans s (q .verb))) (requestIn s)
-      request = search (ways, by-word) depth 16
-
-      request-asks : (q : Request) → requestIn s ≡ some q → AsksPage (verbMeans s (q .verb))
-      request-asks = request .holds
-
-      line : Passes Said (λ q. AsksPage (q .verb)) (readLine s)
-      line = search (ways, request-asks) depth 16
+  asks-page q e = line-asks s AsksPage (listOf s) (list-word e) list-asks q

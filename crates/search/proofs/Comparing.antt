@@ -10,16 +10,17 @@ use mir.Syntax.{w8}
 use native.Mathlib.Nat.{mul-le-mul-right, suc-mul, pow-succ'}
 use lib.Dec.{eqb, ltb}
 use lib.ListN.{length, getD, take, drop, length-drop, drop-of-length-le}
-use lib.Seq.{take-take, take-add, getD-drop}
+use lib.Seq.{take-take, take-add}
 use borrow.Author.Tests.{eq-eqb, eqb-true, eqb-false, lt-ltb, le-ltb, ltb-true, ltb-false}
 use Rattle.buffers.specs.Ranges.{Within}
 use Rattle.buffers.specs.Words.{AllBytes}
 use Rattle.buffers.specs.Lists.{same}
 use Rattle.buffers.proofs.Tests.{either, clash, or-l, or-r, and-i}
 use Rattle.buffers.proofs.Lists.{same-path, same-sym}
+use Rattle.buffers.proofs.Words.{bytes-drop}
 use Rattle.text.proofs.Scans.{next}
 use Rattle.model.specs.Rows.{before}
-use Rattle.model.proofs.Order.{before-trans, before-irrefl}
+use Rattle.model.proofs.Order.{before-trans, before-irrefl, before-other}
 use Rattle.search.specs.Keys.{isOrder, rank, Shorter, LastEight}
 use Rattle.search.specs.declared.Order.{Order}
 use Rattle.search.specs.declared.Order.the-variants.{Before, Same, After}
@@ -143,19 +144,16 @@ alike-take (suc i) (x ∷ a) (y ∷ b) h g e =
     let r : take i a ≡ take i b = cc in
     record { alike = λ o. same-head o x y a b z ∙ alike-take i a b (omega arith) (omega arith) r .alike o }
 
-pub bytes-from : (i : ℕ) (s : List ℕ) → AllBytes s → AllBytes (drop i s)
-bytes-from i s h k = rw (getD-drop i s k 0) (h (i + k))
-
 pub all-bytes : (s : List ℕ) → ((j : ℕ) → Fits w8 (getD s j 0)) → AllBytes s
 all-bytes s h j = omega (arith, h j)
 
 module _ (a b : List ℕ) (i x y : ℕ) (p : (j : ℕ) → Fits w8 (getD a j 0)) (q : (j : ℕ) → Fits w8 (getD b j 0))
     (h : i + 8 ≤ length a) (g : i + 8 ≤ length b) (e : take i a ≡ take i b) (ex : x ≡ rank 8 (drop i a)) (ey : y ≡ rank 8 (drop i b)) where
   left-bytes : AllBytes (drop i a)
-  left-bytes = bytes-from i a (all-bytes a p)
+  left-bytes = bytes-drop i a (all-bytes a p)
 
   right-bytes : AllBytes (drop i b)
-  right-bytes = bytes-from i b (all-bytes b q)
+  right-bytes = bytes-drop i b (all-bytes b q)
 
   pub eight-less : x < y → isOrder Before a b ≡ true
   eight-less d = alike-take i a b (omega arith) (omega arith) e .alike Before ∙ rank-less 8 (drop i a) (drop i b) left-bytes right-bytes (omega arith)
@@ -241,13 +239,6 @@ pub ruleset word-cases = (words-start, words-left, words-right, words-less, word
 pub order-of : (o : Order) (a s b : List ℕ) → isOrder o s b ≡ true → s ≡ a → isOrder o a b ≡ true
 order-of o a s b e q = rw q at e
 
-pub before-one : (a b : List ℕ) → before a b ≡ true → same a b ≡ false
-before-one a b e =
-    elim (either (same a b)) [
-      | inl s ↦ absurd (clash (before b b) (rw (same-path a b s) at e) (before-irrefl b))
-      | inr s ↦ s
-    ]
-
 pub same-one : (a b : List ℕ) → same a b ≡ true → before a b ≡ false
 same-one a b e = rw (same-path a b e) (before-irrefl b)
 
@@ -259,4 +250,4 @@ after-one a b e =
     ]
 
 pub after-other : (a b : List ℕ) → before b a ≡ true → same a b ≡ false
-after-other a b e = same-sym a b ∙ before-one b a e
+after-other a b e = same-sym a b ∙ before-other b a e

@@ -17,14 +17,13 @@ use Rattle.buffers.proofs.Lists.{keep-every, all-as, first-none, first-as, same
 use Rattle.model.specs.Rows.{Row, before, ahead, ordered}
 use Rattle.model.specs.Requests.{Name, name, numbered}
 use Rattle.model.specs.Effects.{rowOf, sameVersion, isNamed, insertByKey}
-use Rattle.model.proofs.Order.{versionRow}
+use Rattle.model.proofs.Order.{before-other, versionRow}
 use Rattle.model.proofs.SoundRows.{version-refl, apart, others}
 use Rattle.table.specs.Changes.{insertAt, removeAt}
 use Rattle.table.specs.Layout.{rowsOf}
 use Rattle.search.specs.Places.{leading, nthRow, foundIf, keyPlace, currentIn, versionPlace, versionIn, rowFound, placeFound}
 use Rattle.search.specs.declared.Found.{Found}
 use Rattle.search.specs.declared.Found.the-variants.{At, Place}
-use Rattle.search.proofs.Comparing.{before-one}
 use Rattle.search.proofs.Positions.{all-row, place-if, current-used, current-free}
 
 -- ## The row that is found
@@ -56,7 +55,7 @@ module _ (p q : Row → Bool) (not-both : (x : Row) → q x ≡ true → p x ≡
 pub current-row : (k : List ℕ) (xs : List Row) → ordered xs ≡ true → rowFound xs (currentIn k xs) ≡ rowOf xs (name k none)
 unfolding currentIn keyPlace
 current-row k xs o =
-    found-first (λ x. same (x .key) k) (λ x. before (x .key) k) (λ x. before-one (x .key) k) none-behind xs o
+    found-first (λ x. same (x .key) k) (λ x. before (x .key) k) (λ x. before-other (x .key) k) none-behind xs o
     ∙ first-as (λ x. same (x .key) k) (λ x. same k (x .key) && true) (λ x. same-sym (x .key) k ∙ sym (and-true (same k (x .key)))) xs
   where
     none-behind : (x y : Row) → ahead x y ≡ true → before (x .key) k ≡ false → same (x .key) k ≡ false → same (y .key) k ≡ false

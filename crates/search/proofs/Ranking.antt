@@ -1,23 +1,21 @@
 -- A stored key and a key by their first eight bytes.
 use Prim.Native.Nat.{ℕ, zero, suc, _+_, _*_, _^_, _≤_, _<_}
 use mathlib.Core.Path.{_≡_, refl, sym, ap, _∙_}
-use mathlib.Core.Logic.{inl, inr}
 use mathlib.Core.Bool.{true}
 use mathlib.Core.List.{List, [], _∷_, _++_}
 use native.Mathlib.Omega.{arith}
 use mir.Val.{Fits}
 use mir.Syntax.{w8}
-use lib.Dec.{ltb}
-use lib.ListN.{length, getD, take, drop, replicate, length-take, List·getD-eq-default}
-use lib.Seq.{take-nil, drop-drop, getD-take, getD-drop}
-use borrow.Author.Tests.{ltb-true, ltb-false}
+use lib.ListN.{length, getD, take, drop, replicate}
+use lib.Seq.{drop-drop, getD-take, getD-drop}
 use Rattle.buffers.specs.Words.{AllBytes}
 use Rattle.buffers.specs.Writes.{Wrote}
-use Rattle.buffers.proofs.Tests.{either}
+use Rattle.buffers.proofs.Lists.{drop-take}
+use Rattle.buffers.proofs.Words.{bytes-take, bytes-drop}
 use Rattle.table.specs.Places.{keyAt}
 use Rattle.search.specs.Keys.{isOrder, rank}
 use Rattle.search.specs.declared.Order.the-variants.{Before, After}
-use Rattle.search.proofs.Comparing.{rank-less, bytes-from, all-bytes}
+use Rattle.search.proofs.Comparing.{rank-less, all-bytes}
 
 zeros-rank : (k m c : ℕ) → rank k (drop m (replicate c 0)) ≡ 0
 unfolding rank
@@ -44,30 +42,19 @@ rank-take (suc k) zero s h = absurd (omega arith)
 rank-take (suc k) (suc n) [] h = refl
 rank-take (suc k) (suc n) (x ∷ s) h = ap (λ (r : ℕ). x * 256 ^ k + r) (rank-take k n s (omega arith))
 
-drop-take : (n : ℕ) (s : List ℕ) → drop 1 (take (suc n) s) ≡ take n (drop 1 s)
-drop-take n [] = sym (take-nil n)
-drop-take n (x ∷ s) = refl
-
-bytes-to : (n : ℕ) (s : List ℕ) → AllBytes s → AllBytes (take n s)
-bytes-to n s h k =
-    elim (either (ltb k n)) [
-      | inl e ↦ rw (getD-take n s k 0 (ltb-true k n e)) (h k)
-      | inr e ↦ rw (List·getD-eq-default (take n s) 0 {n = k} (rw length-take (omega (arith, ltb-false k n e)))) (omega arith)
-    ]
-
 -- The key in a row's block, where it has eight bytes or more.
 module _ (b k : List ℕ) (i x y : ℕ) (ex : x ≡ rank 8 (drop (64 * i + 1) b)) (ey : y ≡ rank 8 k) (h : 8 ≤ getD b (64 * i) 0) (p : (j : ℕ) → Fits w8 (getD b j 0)) (q : (j : ℕ) → Fits w8 (getD k j 0)) where
   stored-bytes : AllBytes (keyAt b i)
   stored-bytes =
       let block = take 64 (drop (64 * i) b) in
-      bytes-to (getD block 0 0) (drop 1 block) (bytes-from 1 block (bytes-to 64 (drop (64 * i) b) (bytes-from (64 * i) b (all-bytes b p))))
+      bytes-take (getD block 0 0) (drop 1 block) (bytes-drop 1 block (bytes-take 64 (drop (64 * i) b) (bytes-drop (64 * i) b (all-bytes b p))))
 
   stored-rank : x ≡ rank 8 (keyAt b i)
   stored-rank =
       let z : 64 * i + 0 ≡ 64 * i = omega arith in
       let f : getD (take 64 (drop (64 * i) b)) 0 0 ≡ getD b (64 * i) 0 = getD-take 64 (drop (64 * i) b) 0 0 (omega arith) ∙ getD-drop (64 * i) b 0 0 ∙ rw z in
       ex ∙ ap (rank 8) (sym (drop-drop 1 (64 * i) b)) ∙ sym (rank-take 8 63 (drop 1 (drop (64 * i) b)) (omega arith))
-      ∙ ap (rank 8) (sym (drop-take 63 (drop (64 * i) b)))
+      ∙ ap (rank 8) (sym (drop-take 1 64 (drop (64 * i) b)))
       ∙ sym (rank-take 8 (getD (take 64 (drop (64 * i) b)) 0 0) (drop 1 (take 64 (drop (64 * i) b))) (omega arith))
 
   pub first-less : x < y → isOrder Before (keyAt b i) k ≡ true

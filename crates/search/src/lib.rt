@@ -3,10 +3,11 @@ ghost use mathlib.Core.Path.{_≡_};
 ghost use mathlib.Core.Bool.{true};
 ghost use Prim.Native.Nat.{_+_, _*_, _≤_};
 ghost use lib.ListN.{length, getD, drop};
+ghost use Rattle.buffers.specs.Ranges.{Within};
 ghost use Rattle.table.specs.Layout.{rowsOf};
 ghost use Rattle.table.specs.Places.{keyAt};
 ghost use Rattle.search.specs.Keys.{isOrder, rank, Shorter, LastEight};
-ghost use Rattle.search.specs.Places.{currentIn, versionIn};
+ghost use Rattle.search.specs.Places.{keyPlace, currentIn, versionIn};
 ghost use Rattle.search.specs.Searching.{Searchable};
 
 // How one key stands to another.
@@ -184,6 +185,18 @@ pub fn find_current(rows: &[u64], keys: &[u8], used: usize, key: &[u8]) -> Found
         return Found::At(low);
     }
     Found::Place(low)
+}
+
+// Where a key's rows start or would start.
+pub fn key_place(rows: &[u64], keys: &[u8], used: usize, key: &[u8]) -> usize
+    requires { ⌜ Searchable (now rows) (now keys) used ⌝ }
+    ensures { λ r. ⌜ Within r (keyPlace (now (key .entry)) (rowsOf (now (rows .entry)) (now (keys .entry)) used)) used ⌝ }
+{
+    let found = find_current(rows, keys, used, key);
+    match found {
+        Found::At(i) => i,
+        Found::Place(i) => i,
+    }
 }
 
 // A key's version, or the place where it belongs.

@@ -1,16 +1,16 @@
 -- Laws of lines: where the first one ends, and what is left behind it.
-use Prim.Native.Nat.{ℕ, zero, suc, _+_, _-_, _≤_, _<_}
+use Prim.Native.Nat.{ℕ, suc, _+_, _-_, _≤_, _<_}
 use mathlib.Core.Path.{_≡_, refl, sym, _∙_, subst}
 use mathlib.Core.Logic.{inl, inr}
-use mathlib.Core.Bool.{Bool, false, _||_, or-assoc, or-false, false≢true}
-use mathlib.Core.List.{List, [], _∷_}
+use mathlib.Core.Bool.{Bool, false, _||_, or-assoc, or-false}
+use mathlib.Core.List.{List, [], _∷_, _++_}
 use native.Mathlib.Omega.{arith}
 use lib.Dec.{eqb}
-use lib.ListN.{length, getD, take, drop, length-drop, drop-of-length-le}
+use lib.ListN.{length, getD, take, drop, length-drop, take-append-drop, drop-of-length-le}
 use lib.Seq.{drop-drop, length-take-le}
 use borrow.Author.Tests.{eq-eqb, ne-eqb}
 use Rattle.buffers.specs.Ranges.{Within}
-use Rattle.buffers.proofs.Tests.{either}
+use Rattle.buffers.proofs.Tests.{either, or-none}
 use Rattle.buffers.proofs.Parts.{part-cut}
 use Rattle.text.specs.Fields.{onFirst}
 use Rattle.text.specs.Keys.{contains}
@@ -31,17 +31,12 @@ found-start s = refl
 
 pub ruleset found-cases = (found-start, found-step, found-end)
 
-feed-clear : (k : ℕ) (s : List ℕ) → k ≤ length s → contains (take k s) 10 ≡ false → feedAt s ≡ k + feedAt (drop k s)
-feed-clear zero s h e = omega arith
-feed-clear (suc k) [] h e = absurd (omega arith)
-feed-clear (suc k) (b ∷ s) h e =
-    elim (either (eqb b 10)) [
-      | inl t ↦ absurd (false≢true (sym (rw t at e)))
-      | inr t ↦
-          let c : contains (take k s) 10 ≡ false = rw t at e in
-          let x = feed-clear k s (omega arith) c in
-          rw t (omega arith)
-    ]
+pub feed-clear : (s u : List ℕ) → contains s 10 ≡ false → feedAt (s ++ u) ≡ length s + feedAt u
+feed-clear [] u e = omega arith
+feed-clear (b ∷ s) u e =
+    let p = or-none (eqb b 10) (contains s 10) e in
+    let x = feed-clear s u (p .1) in
+    rw (p .0) (omega arith)
 
 module _ (s : List ℕ) (i : ℕ) (h : 16 ≤ length s - i) where
   pub block-long : length (take (i + 16 - i) (drop i s)) ≡ 16
@@ -54,7 +49,8 @@ module _ (s : List ℕ) (i : ℕ) (h : 16 ≤ length s - i) where
       let z : i + 16 - i ≡ 16 = omega arith in
       let d = length-drop i s in
       let c : contains (take 16 (drop i s)) 10 ≡ false = rw z at (sym e ∙ t) in
-      let x = feed-clear 16 (drop i s) (omega arith) c in
+      let l = length-take-le 16 (drop i s) (omega arith) in
+      let x = rw (take-append-drop 16 (drop i s)) at (feed-clear (take 16 (drop i s)) (drop 16 (drop i s)) c) in
       rw (← drop-drop 16 i s) (omega arith)
 
 pub ruleset skip-cases = (block-long, skip-step)

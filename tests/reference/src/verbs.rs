@@ -1,22 +1,34 @@
 //! What each verb does: refusals 7 to 12 in their order, and then the change.
 use crate::answers::Answer;
-use crate::bucket::{block, Bucket, Row, BODY, DATA, HOLD, KIND, LENGTH, MARKER, MODE, UNTIL, VERSION};
+use crate::bucket::{
+    block, Block, Bucket, Row, BODY, DATA, HOLD, KIND, LENGTH, MARKER, MODE, UNTIL, VERSION,
+};
 use crate::dates;
 use crate::locks::{admits, locked};
 use crate::refusals::{refuse, DATE_TOO_FAR, FULL, IS_MARKER, LOCKED, NO_ROW, NUMBERS_SPENT};
 use crate::requests::{Name, Period, Retention, Verb};
 use crate::settings::{DefaultRetention, Rule, SPENT};
 
+/// A key, and the place where its current version stands or its first row would.
+struct Top {
+    key: Block,
+    at: usize,
+}
+
 impl Bucket {
     /// Judges a screened verb and, if nothing refuses it, carries it out.
     pub fn carry_out(&mut self, verb: &Verb, now: u64) -> Result<Answer, u64> {
         match *verb {
             Verb::Put { key, body, length, retention, hold } => {
-                self.put(key, [body, length], retention, hold, now)
+                let top = self.top(key);
+                match self.retried(&top, body, length) {
+                    Some(number) => Ok(Answer::Added(number)),
+                    None => self.put(top, [body, length], retention, hold, now),
+                }
             }
             Verb::Copy { source, target, retention, hold } => {
                 let row = self.rows[self.named_data(source)?];
-                self.put(target, [row[BODY], row[LENGTH]], retention, hold, now)
+                self.put(self.top(target), [row[BODY], row[LENGTH]], retention, hold, now)
             }
             Verb::Retain { name, retention, bypass } => self.retain(name, retention, bypass, now),
             Verb::Hold { name, on } => {
@@ -51,6 +63,20 @@ impl Bucket {
         Ok(at)
     }
 
+    fn top(&self, key: &[u8]) -> Top {
+        let key = block(key);
+        Top { at: self.first_place(&key), key }
+    }
+
+    /// The number of the key's current row, if it is data with the same body and length: then a PUT is a retry.
+    fn retried(&self, top: &Top, body: u64, length: u64) -> Option<u64> {
+        if self.keys.get(top.at) != Some(&top.key) {
+            return None;
+        }
+        let row = &self.rows[top.at];
+        (row[KIND] == DATA && row[BODY] == body && row[LENGTH] == length).then_some(row[VERSION])
+    }
+
     /// Refusals 11 and 12.
     pub fn fits(&self, removed: usize, added: usize) -> Result<(), u64> {
         refuse(added as u64 > SPENT - self.settings.next, NUMBERS_SPENT)?;
@@ -58,12 +84,11 @@ impl Bucket {
     }
 
     /// Adds a row with the next number before the key's other rows.
-    fn add(&mut self, key: &[u8], mut row: Row) -> Result<u64, u64> {
+    fn add(&mut self, top: Top, mut row: Row) -> Result<u64, u64> {
         self.fits(0, 1)?;
-        let key = block(key);
         let number = self.settings.next;
         row[VERSION] = number;
-        self.insert(self.first_place(&key), row, &key);
+        self.insert(top.at, row, &top.key);
         self.settings.next += 1;
         Ok(number)
     }
@@ -84,7 +109,7 @@ impl Bucket {
 
     fn put(
         &mut self,
-        key: &[u8],
+        top: Top,
         [body, length]: [u64; 2],
         retention: Retention,
         hold: Option<bool>,
@@ -92,11 +117,11 @@ impl Bucket {
     ) -> Result<Answer, u64> {
         let [mode, until] = self.new_retention(retention, now)?;
         let hold = u64::from(hold == Some(true));
-        self.add(key, [0, DATA, now, body, length, mode, until, hold]).map(Answer::Added)
+        self.add(top, [0, DATA, now, body, length, mode, until, hold]).map(Answer::Added)
     }
 
     fn mark(&mut self, key: &[u8], now: u64) -> Result<Answer, u64> {
-        self.add(key, [0, MARKER, now, 0, 0, 0, 0, 0]).map(Answer::Marked)
+        self.add(self.top(key), [0, MARKER, now, 0, 0, 0, 0, 0]).map(Answer::Marked)
     }
 
     fn retain(&mut self, name: Name, wish: Retention, bypass: bool, now: u64) -> Result<Answer, u64> {

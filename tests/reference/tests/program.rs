@@ -46,12 +46,13 @@ fn a_long_line_gets_one_answer() {
 
 #[test]
 fn pages_up_to_the_answer_buffer() {
-    let put = "2024-01-01T00:00:00Z\tw\tPUT\ta\t5\t6\t-\t-\t-";
+    let put = |body: usize| format!("2024-01-01T00:00:00Z\tw\tPUT\ta\t{body}\t6\t-\t-\t-\n");
     let list = |count: usize| format!("2024-01-01T00:00:00Z\tr\tLIST\t\t\t0\t{count}");
-    let row = |number: usize| format!("a\t{number}\tdata\t2024-01-01T00:00:00.000Z\t5\t6\t-\t-\tOFF\n");
+    let row =
+        |number: usize| format!("a\t{number}\tdata\t2024-01-01T00:00:00.000Z\t{number}\t6\t-\t-\tOFF\n");
     let page =
         |count: usize| format!("ok\t{count}\n") + &(301 - count..=300).rev().map(row).collect::<String>();
-    let puts: String = (1..=300).map(|_| format!("{put}\n")).collect();
+    let puts: String = (1..=300).map(put).collect();
     let added: String = (1..=300).map(|number| format!("ok\t{number}\n")).collect();
     let input = format!("{puts}{}\n{}\n{}\n{}", list(255), list(256), list(1000), list(2));
     assert_eq!(said(input.as_bytes()), format!("{added}{}no\t13\nno\t13\n{}", page(255), page(2)));

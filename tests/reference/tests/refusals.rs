@@ -197,12 +197,12 @@ fn refusal_10_at_the_last_instant() {
     let mut hub = hub_with(&["c|DEFAULT|GOVERNANCE|1d"]);
     hub.run(&[
         ("9999-12-30T23:59:59.999Z|w|PUT|a|1|1|-|-|-", "ok|1"),
-        ("9999-12-31T00:00:00Z|w|PUT|a|1|1|-|-|-", "no|10"),
+        ("9999-12-31T00:00:00Z|w|PUT|a|2|1|-|-|-", "no|10"),
         ("9999-12-31T00:00:00Z|rw|COPY|a|-|b|-|-|-", "no|10"),
         ("9999-12-31T00:00:00Z|rw|COPY|b|-|b|-|-|-", "no|7"),
     ]);
     hub.bucket.settings.next = SPENT;
-    assert_eq!(hub.say("9999-12-31T00:00:00Z|w|PUT|a|1|1|-|-|-"), "no|10");
+    assert_eq!(hub.say("9999-12-31T00:00:00Z|w|PUT|a|2|1|-|-|-"), "no|10");
 }
 
 #[test]
@@ -211,7 +211,7 @@ fn refusal_11_before_12() {
     hub.bucket.settings.next = SPENT - 1;
     hub.run(&[
         ("2024-01-01T00:00:00Z|w|PUT|a|1|1|-|-|-", "ok|4294967295"),
-        ("2024-01-01T00:00:00Z|w|PUT|a|1|1|-|-|-", "no|11"),
+        ("2024-01-01T00:00:00Z|w|PUT|a|2|1|-|-|-", "no|11"),
         ("2024-01-01T00:00:00Z|d|DELETE|a|-|no", "no|11"),
         ("2024-01-01T00:00:00Z|rw|COPY|a|-|b|-|-|-", "no|11"),
         ("2024-01-01T00:00:00Z|c|RULE|0||1|0", "ok"),

@@ -108,8 +108,8 @@ fn keys_and_order() {
 #[test]
 fn the_order_of_keys() {
     let mut hub = Hub::new(8);
-    for key in ["b", "a", "ab", "a!", "~", "!", "a"] {
-        hub.say(&format!("2024-01-01T00:00:00Z|w|PUT|{key}|1|1|-|-|-"));
+    for (body, key) in ["b", "a", "ab", "a!", "~", "!", "a"].into_iter().enumerate() {
+        hub.say(&format!("2024-01-01T00:00:00Z|w|PUT|{key}|{body}|1|-|-|-"));
     }
     let order = [("!", 6), ("a", 7), ("a", 2), ("a!", 4), ("ab", 3), ("b", 1), ("~", 5)];
     assert_eq!(hub.names(), names(&order));

@@ -12,5 +12,7 @@ judge-copy-spec =
     (λ c. search needs)
     (λ c. search needs)
     (λ c κs. search (needs, copy-ways))
+    (λ c κs. search (needs, copy-ways))
+    (λ c κs. search (needs, copy-ways))
     (λ c who us fs. search (needs, copy-ways))
     (λ c who us fs. search (needs, copy-ways)))

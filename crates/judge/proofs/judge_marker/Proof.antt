@@ -11,6 +11,6 @@ judge-marker-spec =
     (λ c κs. search needs)
     (λ c y who us fs. search (needs, marker-ways))
     (λ c κs. search needs)
-    (λ c κs. search needs)
+    (λ c κs. search (needs, marker-ways))
     (λ c κs. search needs)
     (λ c y who us fs. search (needs, marker-ways)))

@@ -1,5 +1,5 @@
 -- `judge_new` meets its contract.
-use Rattle.judge.proofs.Adding.{put-ways}
+use Rattle.judge.proofs.Adding.{new-ways}
 use borrow.Author.Needs.{needs}
 use Rattle.judge.proofs.judge_new.Statement.{statement}
 use Rattle.judge.proofs.judge_new.Tie as tie
@@ -8,13 +8,11 @@ pub judge-new-spec : {M : Type 1} → statement M
 judge-new-spec =
     tie.close
     (tie.spec
-    (λ c κs. search (needs, put-ways))
+    (λ c κs. search needs)
     (λ c. search needs)
     (λ c. search needs)
-    (λ c who us fs. search (needs, put-ways))
+    (λ c n l placed who us fs. search (needs, new-ways))
     (λ c κs. search needs)
-    (λ c who us fs. search (needs, put-ways))
+    (λ c n l placed who us fs. search (needs, new-ways))
     (λ c κs. search needs)
-    (λ c κs. search needs)
-    (λ c κs. search needs)
-    (λ c who us fs. search (needs, put-ways)))
+    (λ c n l placed who us fs. search (needs, new-ways)))

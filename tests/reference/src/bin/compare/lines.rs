@@ -262,9 +262,35 @@ impl Maker<'_> {
         }
     }
 
-    pub fn line(&mut self) -> Vec<u8> {
+    pub fn line(&mut self) -> String {
         let instant = self.clock();
         let clock = self.date(instant);
-        format!("{clock}\t{}\t{}", self.rights(), self.verb()).into_bytes()
+        format!("{clock}\t{}\t{}", self.rights(), self.verb())
+    }
+
+    /// A PUT sent again: as it was, at another clock, with another lock, or with another body, length or key.
+    pub fn again(&mut self, put: &str) -> String {
+        let mut fields: Vec<String> = put.split('\t').map(str::to_string).collect();
+        match self.random.below(10) {
+            0..=2 => {
+                let instant = self.clock();
+                fields[0] = self.date(instant);
+            }
+            3 | 4 => {
+                fields.truncate(6);
+                fields.push(self.new_row());
+            }
+            5 => self.nudge(&mut fields[4]),
+            6 => self.nudge(&mut fields[5]),
+            7 => fields[3] = self.key(),
+            _ => {}
+        }
+        fields.join("\t")
+    }
+
+    /// Makes a number greater or less by one, or greater by what only its upper half shows.
+    fn nudge(&mut self, field: &mut String) {
+        let value: u64 = field.parse().expect("a body or a length");
+        *field = value.wrapping_add(self.random.pick(&[1, 1, u64::MAX, u64::MAX, 1 << 32])).to_string();
     }
 }

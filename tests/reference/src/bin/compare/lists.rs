@@ -3,10 +3,13 @@ use crate::damage;
 use crate::lines::{Maker, START};
 use crate::mutate::mutated;
 use crate::random::Random;
-use crate::sides::{asks_for, Fault, Side, Sides};
+use crate::sides::{asks_for, put_in, Fault, Put, Side, Sides};
 use crate::tally::Tally;
 use crate::{pages, plain};
 use reference::answers::{page_buffer, LEAST_BUFFER};
+use reference::bucket::{block, HOLD, MODE, UNTIL};
+use reference::dates::LAST;
+use reference::settings::SPENT;
 use reference::Bucket;
 
 /// How one list is served.
@@ -14,6 +17,8 @@ struct List<'a> {
     sides: Sides,
     random: Random,
     keys: usize,
+    /// The PUTs that have added rows, to be sent again.
+    puts: Vec<String>,
     tally: &'a mut Tally,
 }
 
@@ -26,19 +31,21 @@ fn some_capacity(random: &mut Random) -> usize {
     }
 }
 
-/// A bucket that the reference has filled to some height.
-fn filled(capacity: usize, random: &mut Random) -> Side {
+/// A bucket that the reference has filled to some height, and the PUTs that filled it.
+fn filled(capacity: usize, random: &mut Random) -> (Side, Vec<String>) {
     let mut bucket = Bucket::fresh(capacity);
     let mut answer = [0; 256];
+    let mut puts = Vec::new();
     for number in 0..capacity - random.below(capacity.min(4)) {
         let day = 1 + number * 27 / capacity;
         let key = random.below(capacity);
         let line = format!("2024-01-{day:02}T00:00:00Z\tw\tPUT\ta/{key}\t{number}\t1\t-\t-\t-");
         bucket.serve(line.as_bytes(), &mut answer).expect("the table has room");
+        puts.push(line);
     }
     let mut side = Side::new(capacity);
     bucket.to_bytes(side.settings.bytes(), side.rows.bytes(), side.keys.bytes());
-    side
+    (side, puts)
 }
 
 /// What to print of a line in which the sides differ.
@@ -46,17 +53,47 @@ fn shown(line: &[u8]) -> String {
     format!("line \"{}\" ({} bytes)", line.escape_ascii(), line.len())
 }
 
+/// Which of refusals 10, 11 and 12 a retry that left this bucket would have met as another PUT.
+fn spared(bucket: &Bucket, put: &Put) -> [bool; 3] {
+    let settings = &bucket.settings;
+    let takes_default = settings.default.mode != 0 && put.retention.mode.is_none();
+    [
+        takes_default && settings.time + settings.default.period() > LAST,
+        settings.next == SPENT,
+        bucket.used() == bucket.capacity(),
+    ]
+}
+
+/// Whether a retry that left this bucket named a lock that its row doesn't have.
+fn drops_lock(bucket: &Bucket, put: &Put) -> bool {
+    let row = bucket.rows[bucket.first_place(&block(put.key))];
+    let other_mode = put.retention.mode.is_some_and(|mode| mode != row[MODE]);
+    let other_date = put.retention.date.is_some_and(|date| date != row[UNTIL]);
+    other_mode || other_date || put.hold == Some(true) && row[HOLD] == 0
+}
+
 impl List<'_> {
     fn maker(&mut self) -> Maker<'_> {
         Maker { random: &mut self.random, side: &self.sides.engine, keys: self.keys }
     }
 
+    /// Some PUT of the list, mostly one of the last.
+    fn some_put(&mut self) -> Option<String> {
+        let last = if self.random.once_in(3) { self.puts.len() } else { self.puts.len().min(4) };
+        let back = self.random.below(last.max(1));
+        self.puts.iter().rev().nth(back).cloned()
+    }
+
     fn line(&mut self) -> Vec<u8> {
-        let line = self.maker().line();
+        let sent = if self.random.once_in(8) { self.some_put() } else { None };
+        let line = match sent {
+            Some(put) => self.maker().again(&put),
+            None => self.maker().line(),
+        };
         if self.random.once_in(10) {
-            mutated(&line, &mut self.random)
+            mutated(line.as_bytes(), &mut self.random)
         } else {
-            line
+            line.into_bytes()
         }
     }
 
@@ -91,16 +128,29 @@ impl List<'_> {
 
     fn serve_in(&mut self, room: usize, line: &[u8]) -> Result<u64, String> {
         self.lend_answer(room);
-        let number = self.sides.serve(line).map_err(|difference| format!("{}\n{difference}", shown(line)))?;
-        self.tally.count(line, number);
-        Ok(number)
+        let served = self.sides.serve(line).map_err(|difference| format!("{}\n{difference}", shown(line)))?;
+        self.tally.count(line, served.number);
+        match put_in(line) {
+            Some(put) if served.retried => {
+                let bucket = self.bucket();
+                self.tally.count_retry(spared(&bucket, &put), drops_lock(&bucket, &put));
+            }
+            Some(_) if served.number == 0 => {
+                self.puts.push(String::from_utf8(line.to_vec()).expect("accepted lines are ASCII"));
+            }
+            _ => {}
+        }
+        Ok(served.number)
+    }
+
+    fn bucket(&self) -> Bucket {
+        let side = &self.sides.engine;
+        Bucket::from_bytes(side.settings.seen(), side.rows.seen(), side.keys.seen()).expect("the lengths fit")
     }
 
     /// The rows of the bucket, looked at one by one, that pages of a prefix are to show.
     fn matching(&self, prefix: &str) -> Vec<String> {
-        let side = &self.sides.engine;
-        let bucket = Bucket::from_bytes(side.settings.seen(), side.rows.seen(), side.keys.seen());
-        let mut rows = plain::matching(&bucket.expect("the lengths fit"), prefix);
+        let mut rows = plain::matching(&self.bucket(), prefix);
         if self.sides.fault == Fault::Following {
             rows.pop();
         }
@@ -184,10 +234,10 @@ pub fn run(seed: u64, fault: Fault, tally: &mut Tally) -> Result<(), String> {
     let mut random = Random::new(seed, tally.lists);
     let capacity = some_capacity(&mut random);
     let fill = capacity > 8 && random.once_in(3);
-    let side = if fill { filled(capacity, &mut random) } else { Side::new(capacity) };
+    let (side, puts) = if fill { filled(capacity, &mut random) } else { (Side::new(capacity), Vec::new()) };
     let keys = 1 + random.below(8);
     let steps = 50 + random.below(300);
-    let mut list = List { sides: Sides::new(side, fault), random, keys, tally };
+    let mut list = List { sides: Sides::new(side, fault), random, keys, puts, tally };
     if !fill {
         list.make_fresh()?;
     }

@@ -46,7 +46,9 @@ fn options() -> Option<Options> {
 
 fn main() -> ExitCode {
     let Some(options) = options() else {
-        eprintln!("usage: compare [--seconds N] [--seed S] [--lists N] [--break answer|page|following]");
+        eprintln!(
+            "usage: compare [--seconds N] [--seed S] [--lists N] [--break answer|page|following|retry]"
+        );
         return ExitCode::from(2);
     };
     println!("seed {}", options.seed);
@@ -70,6 +72,14 @@ fn main() -> ExitCode {
     }
     if tally.rows == 0 {
         println!("no page was followed that showed a row");
+        return ExitCode::FAILURE;
+    }
+    if !tally.unspared().is_empty() {
+        println!("numbers that no retry was spared: {:?}", tally.unspared());
+        return ExitCode::FAILURE;
+    }
+    if tally.dropped == 0 {
+        println!("no retry named a lock that its row didn't have");
         return ExitCode::FAILURE;
     }
     println!("no difference");

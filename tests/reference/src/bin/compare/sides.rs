@@ -1,6 +1,6 @@
 //! The two sides that are compared: equal buffers, lent to the engine and to the reference.
 use crate::{engine, pages};
-use reference::requests::{self, Verb};
+use reference::requests::{self, Retention, Verb};
 use reference::settings::{word, BYTES};
 
 /// The bytes before and after each lent buffer, which nobody may touch.
@@ -73,6 +73,11 @@ impl Side {
         Side { settings: Lent::new(BYTES), rows: table.clone(), keys: table, answer: Lent::new(256) }
     }
 
+    /// The next version number that the settings say.
+    fn next_number(&self) -> u64 {
+        self.settings.word(16)
+    }
+
     /// Where the other side differs, in words.
     fn difference(&self, other: &Side) -> Option<String> {
         let parts = [
@@ -105,6 +110,8 @@ pub enum Fault {
     Page,
     /// In the rows that followed pages are held to.
     Following,
+    /// In the reference's answer to each retry.
+    Retry,
 }
 
 impl Fault {
@@ -113,14 +120,16 @@ impl Fault {
             "answer" => Some(Fault::Answer),
             "page" => Some(Fault::Page),
             "following" => Some(Fault::Following),
+            "retry" => Some(Fault::Retry),
             _ => None,
         }
     }
 
     /// Spoils the answer of an accepted line.
-    fn spoil(self, line: &[u8], answer: &mut [u8]) {
+    fn spoil(self, line: &[u8], retried: bool, answer: &mut [u8]) {
         match self {
             Fault::Answer => answer[0] ^= 1,
+            Fault::Retry if retried => answer[0] ^= 1,
             Fault::Page if asks_for(line).is_some() => spoil_last_row(answer),
             _ => {}
         }
@@ -135,6 +144,21 @@ pub fn asks_for(line: &[u8]) -> Option<usize> {
     }
 }
 
+/// A PUT's key and its lock fields.
+pub struct Put<'a> {
+    pub key: &'a [u8],
+    pub retention: Retention,
+    pub hold: Option<bool>,
+}
+
+/// The PUT that a line is, if it can be read and is one.
+pub fn put_in(line: &[u8]) -> Option<Put<'_>> {
+    match requests::read(line)?.verb {
+        Verb::Put { key, retention, hold, .. } => Some(Put { key, retention, hold }),
+        _ => None,
+    }
+}
+
 /// Alters the last byte of a page's last row, if it shows one.
 fn spoil_last_row(answer: &mut [u8]) {
     let rows = pages::shown(answer).expect("the reference's page can be read");
@@ -143,6 +167,13 @@ fn spoil_last_row(answer: &mut [u8]) {
     if bytes > 0 {
         answer[first + bytes - 1] ^= 1;
     }
+}
+
+/// What both sides made of a line.
+pub struct Served {
+    pub number: u64,
+    /// Whether it is a PUT that was accepted and took no version number.
+    pub retried: bool,
 }
 
 /// The engine's bytes; the reference works on a copy of them.
@@ -170,12 +201,13 @@ impl Sides {
         self.served.iter().sum::<u64>() as usize % fitting
     }
 
-    /// Has both serve a line: the number, or what differs.
-    pub fn serve(&mut self, line: &[u8]) -> Result<u64, String> {
+    /// Has both serve a line: what they made of it, or what differs.
+    pub fn serve(&mut self, line: &[u8]) -> Result<Served, String> {
         self.reference.clone_from(&self.engine);
         let entry = self.entry();
         self.served[entry] += 1;
         let (name, serve) = ENTRIES[entry];
+        let next = self.engine.next_number();
         let (one, two) = (&mut self.engine, &mut self.reference);
         let engine =
             serve(one.settings.bytes(), one.rows.bytes(), one.keys.bytes(), line, one.answer.bytes());
@@ -186,10 +218,12 @@ impl Sides {
             line,
             two.answer.bytes(),
         );
+        let retried = reference == 0 && two.next_number() == next && put_in(line).is_some();
         if reference == 0 {
-            self.fault.spoil(line, two.answer.bytes());
+            self.fault.spoil(line, retried, two.answer.bytes());
         }
-        self.agreed(engine, reference).map_err(|difference| format!("{name}: {difference}"))
+        let agreed = self.agreed(engine, reference).map_err(|difference| format!("{name}: {difference}"));
+        agreed.map(|number| Served { number, retried })
     }
 
     /// Has both make a fresh bucket, of rows as words where they are whole words and those are asked for.

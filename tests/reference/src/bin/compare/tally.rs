@@ -14,6 +14,11 @@ pub struct Tally {
     /// The pages that were followed to their end, and the rows that they showed.
     pub pages: u64,
     pub rows: u64,
+    /// The PUTs that were accepted as retries, and of those the ones that 10, 11 and 12 would have met as other PUTs, and
+    /// the ones whose lock was dropped.
+    retries: u64,
+    spared: [u64; 3],
+    pub dropped: u64,
     entries: [u64; ENTRIES.len()],
     counts: [[u64; NUMBERS]; VERBS.len()],
 }
@@ -30,6 +35,12 @@ impl Tally {
         self.counts[verb_of(line)][number as usize] += 1;
     }
 
+    pub fn count_retry(&mut self, spared: [bool; 3], drops_lock: bool) {
+        self.retries += 1;
+        self.spared.iter_mut().zip(spared).for_each(|(sum, is)| *sum += u64::from(is));
+        self.dropped += u64::from(drops_lock);
+    }
+
     /// Adds how often each entry has served a line.
     pub fn served(&mut self, served: &[u64]) {
         self.entries.iter_mut().zip(served).for_each(|(sum, count)| *sum += count);
@@ -38,6 +49,11 @@ impl Tally {
     /// The numbers from 0 to 13 that never came.
     pub fn missing(&self) -> Vec<usize> {
         (0..NUMBERS).filter(|&number| self.counts.iter().all(|row| row[number] == 0)).collect()
+    }
+
+    /// Of 10 to 12, those that no retry was spared.
+    pub fn unspared(&self) -> Vec<usize> {
+        (10..).zip(self.spared).filter(|(_, count)| *count == 0).map(|(number, _)| number).collect()
     }
 
     /// The entries that never served a line.
@@ -57,6 +73,11 @@ impl Tally {
         }
         println!("fresh buckets: {} made, {} refused; {} keys", self.fresh[0], self.fresh[1], self.keys);
         println!("followed to their end: {} pages with {} rows", self.pages, self.rows);
+        let [late, spent, full] = self.spared;
+        println!(
+            "retries: {}, of which {late} were spared 10, {spent} spared 11 and {full} spared 12; {} had a lock dropped",
+            self.retries, self.dropped
+        );
         print!("{:8}", "number");
         (0..NUMBERS).for_each(|number| print!("{number:>9}"));
         println!();

@@ -1,8 +1,8 @@
 -- `key_place` meets its contract.
 use Rattle.search.proofs.Named.{place-cases}
 use borrow.Author.Needs.{needs}
-use Rattle.listing.proofs.key_place.Statement.{statement}
-use Rattle.listing.proofs.key_place.Tie as tie
+use Rattle.search.proofs.key_place.Statement.{statement}
+use Rattle.search.proofs.key_place.Tie as tie
 
 pub key-place-spec : {M : Type 1} → statement M
 key-place-spec =

@@ -1,0 +1,33 @@
+-- What an accepted line says.
+use Prim.Native.Nat.{ℕ}
+use mathlib.Core.Path.{_≡_, refl, sym, _∙_, ap}
+use mathlib.Core.List.{List}
+use mathlib.Core.Option.{Option, some, none}
+use native.Mathlib.Omega.{arith}
+use lib.ListN.{length}
+use Rattle.buffers.specs.Choices.{thenSome}
+use Rattle.model.specs.Requests.{Request, unreadable, says}
+use Rattle.request.specs.Grammar.{Said, readLine, asked}
+use Rattle.bucket.specs.Whole.{Lent}
+use Rattle.outcome.specs.Calls.{Sent, line, Call, heardOf, heard}
+use Rattle.outcome.specs.Outcome.{outcome}
+use Rattle.outcome.proofs.Demands.{outcome-number}
+use Rattle.guarantee.proofs.Demands.{accepts}
+
+-- The call sent a line that can be read, and this is heard of it.
+pub record Read (g : Call) : Type 0 where
+  pub bytes : List ℕ
+  pub sent-is : g .sent ≡ line bytes
+  pub said : Said
+  pub reads : readLine bytes ≡ some said
+  pub hears : heard g ≡ says (asked (length (g .answer)) said)
+
+pub accepted-read : (b : Lent) (g : Call) → (outcome b g) .number ≡ 0 → Read g
+accepted-read b g z = let a = accepts b g (sym (outcome-number b g) ∙ z) in by-sent (g .sent) refl (a .request) (a .hears)
+  where
+    by-said : (s : List ℕ) → g .sent ≡ line s → (o : Option Said) → readLine s ≡ o → (q : Request) → thenSome o (unreadable (length (g .answer))) (λ x. says (asked (length (g .answer)) x)) ≡ says q → Read g
+    by-said s t none r q h = let z : _≡_ {A = ℕ} 0 1 = cc in absurd (omega arith)
+    by-said s t (some x) r q h = record { bytes = s; sent-is = t; said = x; reads = r; hears = ap (heardOf (length (g .answer))) t ∙ rw r }
+
+    by-sent : (t : Sent) → g .sent ≡ t → (q : Request) → heard g ≡ says q → Read g
+    by-sent (line s) t q h = by-said s t (readLine s) refl q (sym (ap (heardOf (length (g .answer))) t) ∙ h)
