@@ -25,9 +25,9 @@
 extern "C" {
 #endif
 
-#define KNITPASTURE_VERSION "1.1.0"
+#define KNITPASTURE_VERSION "1.2.0"
 #define KNITPASTURE_VERSION_MAJOR 1
-#define KNITPASTURE_VERSION_MINOR 1
+#define KNITPASTURE_VERSION_MINOR 2
 #define KNITPASTURE_VERSION_PATCH 0
 
 #define KNITPASTURE_SETTINGS_BYTES 688
@@ -105,7 +105,15 @@ uint64_t knitpasture_fresh(uint8_t *settings, size_t settings_length,
  * first line is `ok`, a tab and the number of rows, then comes a line for each row, each ended by a line feed, and the
  * answer ends with the line feed of the last of them, or of the first line where there are no rows. The fields of a LIST
  * are prefix, key, version and count: the first has an empty key and version 0, the next takes the key and the version
- * of the page's last line, byte for byte, and a page of fewer rows than its count is the last. */
+ * of the page's last line, byte for byte, and a page of fewer rows than its count is the last.
+ *
+ * A PUT may be sent again, the same bytes, after a lost reply, as long as no other line has changed the key's current
+ * version. Where that version is data with the line's body number and length, the PUT is a retry: it answers that
+ * version's number and adds no row, so that a full table accepts it too. So a new file needs a body number of its own:
+ * with the current version's number and length it is answered like a retry, and no version is made. A retry places no
+ * lock, whatever mode, date and hold it gives, and its answer doesn't tell; GET shows the lock, RETAIN and HOLD set it.
+ * The refusals up to KNITPASTURE_PAST_DATE stand as for any PUT, so a date that has passed since the line was first sent
+ * is refused. */
 uint64_t knitpasture_serve(uint8_t *settings, size_t settings_length,
                            uint8_t *rows, size_t rows_length,
                            uint8_t *keys, size_t keys_length,
