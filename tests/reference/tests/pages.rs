@@ -1,6 +1,6 @@
 //! LIST: each sentence of its request, and each boundary of its fields.
 mod common;
-#[path = "../src/bin/shared/plain.rs"]
+#[path = "../src/bin/compare/plain.rs"]
 mod plain;
 use common::Hub;
 use reference::bucket::{Row, VERSION};

@@ -7,7 +7,7 @@ use std::process::ExitCode;
 #[allow(dead_code)]
 #[path = "compare/engine.rs"]
 mod engine;
-#[path = "shared/usage.rs"]
+#[path = "measure/usage.rs"]
 mod usage;
 use usage::{processor_time, THIS};
 

@@ -6,7 +6,7 @@ use std::io;
 use std::path::Path;
 use std::process::{Command, ExitCode, Stdio};
 
-#[path = "shared/usage.rs"]
+#[path = "measure/usage.rs"]
 mod usage;
 use usage::{processor_time, CHILDREN};
 

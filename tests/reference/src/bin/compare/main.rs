@@ -5,7 +5,6 @@ mod lines;
 mod lists;
 mod mutate;
 mod pages;
-#[path = "../shared/plain.rs"]
 mod plain;
 mod random;
 mod sides;
