@@ -40,7 +40,7 @@ use Rattle.fields.specs.Fields.{rightsIn, readRights, readKey, readPrefix, read
 use Rattle.request.specs.Grammar.{nameAt, retentionAt, termsAt, putOf, copyOf, retainOf, setHoldOf, deleteOf, defaultOf, ruleOf, sweepOf, getOf, otherByWord, verbByWord, requestIn, readLine}
 use Rattle.answers.specs.Text.{fieldsText, okText, modeText, untilText, holdText, answerText}
 use Rattle.outcome.specs.Calls.{Call, call}
-use Rattle.outcome.specs.Outcome.{Outcome, written, refusalOf, outcome}
+use Rattle.outcome.specs.Outcome.{Outcome, written, answeredBy, refusalOf, outcome}
 use Rattle.outcome.specs.Printed.{printed}
 use Rattle.knitpasture.specs.Bytes.{Bytes, asBytes, lentOf, byteOutcome, numbersFrom, numbersBytes, hubServed, fitRows, hubFresh}
 use Rattle.guarantee.specs.Calls.{step}
@@ -48,7 +48,7 @@ use Rattle.guarantee.specs.Lists.{ended, lineStep}
 use Rattle.guarantee.specs.Promise.{Hub, Demand1, Demand2}
 use Rattle.guarantee.specs.Bytes.{freshBytes, byteStep, byteEvents}
 use Rattle.guarantee.specs.Exchanges.{exchange}
-use Rattle.guarantee.specs.Retries.{answeredBy, atTime, isPut, lineIn, sameFile}
+use Rattle.guarantee.specs.Retries.{atTime, isPut, lineIn, sameFile}
 use Rattle.guarantee.proofs.Demands.{only-hub}
 use Rattle.guarantee.proofs.Bytes.{demand-3-bytes}
 use Rattle.guarantee.proofs.Retries.{sent-twice, sent-twice-bytes, sent-later}

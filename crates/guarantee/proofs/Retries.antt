@@ -29,7 +29,7 @@ use Rattle.model.specs.Answers.{Answer, made, repeated, reply, answerTo}
 use Rattle.model.specs.Run.{Event}
 use Rattle.model.specs.LockClause.{makes, putsUnder, putsOnHold, noneOf}
 use Rattle.model.proofs.Invariant.{asked}
-use Rattle.model.proofs.Retries.{retry-of, no-retry, retry-unspent, retry-fits, withRoom, Placed, placed, again-accepted}
+use Rattle.model.proofs.Retries.{retry-of, no-retry, retry-unspent, retry-fits, withRoom, LeftRow, left-row, again-accepted}
 use Rattle.settings.specs.Bytes.{settingsBytes}
 use Rattle.settings.specs.Changes.{withProgress}
 use Rattle.settings.specs.declared.Settings.{Settings}
@@ -42,7 +42,7 @@ use Rattle.request.proofs.Words.{AsksPut, asks-put}
 use Rattle.answers.specs.Text.{answerText}
 use Rattle.answers.proofs.ReadBack.{version-back}
 use Rattle.outcome.specs.Calls.{Call, heardOf, heard}
-use Rattle.outcome.specs.Outcome.{Outcome, written, refusalOf, outcome}
+use Rattle.outcome.specs.Outcome.{Outcome, written, answeredBy, refusalOf, outcome}
 use Rattle.outcome.proofs.Demands.{accepted-request, outcome-number, accepted-of-whole}
 use Rattle.outcome.proofs.Kept.{model-refusal, model-accepts, accepted-bucket, accepted-capacity, outcome-whole}
 use Rattle.engine.proofs.Carrying.{settings-after}
@@ -50,7 +50,7 @@ use Rattle.knitpasture.specs.Bytes.{Bytes, asBytes, lentOf, numbersBytes, ByteO
 use Rattle.guarantee.specs.Calls.{step, isAccepted, answersNumber, eventHeard, callEvent}
 use Rattle.guarantee.specs.Bytes.{Sized, outcomeInBytes, byteStep}
 use Rattle.guarantee.specs.Exchanges.{exchange, byteExchange, sentField}
-use Rattle.guarantee.specs.Retries.{answeredBy, atTime, writtenChecks, Retried, RetryAddsNone, OtherPutMakes, isPut, lineIn, SentTwice, SentTwiceBytes, SentLater, withTimeOf, SentLaterBytes}
+use Rattle.guarantee.specs.Retries.{atTime, writtenChecks, Retried, RetryAddsNone, OtherPutMakes, isPut, lineIn, SentTwice, SentTwiceBytes, SentLater, withTimeOf, SentLaterBytes}
 use Rattle.guarantee.proofs.Said.{Read, accepted-read}
 use Rattle.guarantee.proofs.Bytes.{accepted-sized, same-number, accepted-bytes, same-exchange, sized-after, spelled-after}
 
@@ -161,8 +161,8 @@ module _ (b : Lent) (g : Call) (who : Context) (k : List ℕ) (body size : ℕ) 
   size-is = ap (λ (o : Outcome). capacity (o .bucket .keys)) does ∙ accepted-capacity (b .keys) _
 
   -- The row that it made or repeated.
-  made-row : Placed (bucketOf b) who k body size t
-  made-row = placed (bucketOf b) who k body size t
+  made-row : LeftRow (bucketOf b) who k body size t
+  made-row = left-row (bucketOf b) who k body size t
 
   retry-on-left : IsRetry (bucketOf (step b g) .rows) k body size (made-row .row)
   retry-on-left = subst⁻¹ (λ (x : Bucket). IsRetry (x .rows) k body size (made-row .row)) bucket-is (made-row .retry)

@@ -22,15 +22,11 @@ use Rattle.table.specs.Layout.{capacity}
 use Rattle.bucket.specs.Whole.{Lent, lent, bucketOf, laidOut, whole}
 use Rattle.answers.specs.Text.{answerText}
 use Rattle.outcome.specs.Calls.{Sent, Call, heard}
-use Rattle.outcome.specs.Outcome.{Outcome, written, outcome}
+use Rattle.outcome.specs.Outcome.{written, answeredBy, outcome}
 use Rattle.knitpasture.specs.Bytes.{Bytes, asBytes, byteOutcome, hubServed}
 use Rattle.guarantee.specs.Calls.{step, callEvent}
 use Rattle.guarantee.specs.Bytes.{byteStep}
 use Rattle.guarantee.specs.Exchanges.{Exchange, exchange, byteExchange, sentField}
-
--- An accepted call: it returns 0 and the text's length, leaves this bucket, and writes the text and nothing behind it.
-abbrev pub answeredBy : List ℕ → Lent → List ℕ → Outcome
-answeredBy text b room = record { number = 0; len = length text; bucket = b; answer = written text room }
 
 -- The bucket at another time, all else as it is.
 abbrev pub atTime : Lent → ℕ → Lent

@@ -55,7 +55,7 @@ use Rattle.judge.specs.Meaning.{Judged, keyHere, changeMeans, changeTake
 use Rattle.judge.proofs.Looking.{StandsData, stands, stands-data, ready-searchable, found-fits, found-row}
 use Rattle.judge.specs.Premises.{both, Asked, Placed, rowRefusal, JudgesBy, JudgesOn, JudgesNew}
 use Rattle.judge.specs.Named.{dataNamed}
-use Rattle.judge.proofs.Deciding.{Open, refuse-10, refuse-11, refuse-12, accept, stay-done, data-sound}
+use Rattle.judge.proofs.Deciding.{Open, refuse-10, refuse-11, refuse-12, accept, stay-done, asks-open, data-sound}
 use Rattle.judge.proofs.Leaves.{count-most}
 use Rattle.judge.proofs.Naming.{data-refused}
 
@@ -225,11 +225,11 @@ module _ (s : State) (numbers keys line : List ℕ) (now : ℕ) (p : Place) (bod
 
     -- Its current row is repeated.
     pub put-again : again ≡ true → (who : Rights) (rules : List Rule) (fates : List ℕ) → JudgesBy s numbers keys line now who rules fates (meant rows put) (Accepted (record { change = Keep; answer = Made (n .number) }))
-    unfolding missing namesMarker barred tooLate added rowsAfter reply
+    unfolding added rowsAfter reply
     put-again f who rules fates =
         let is : meant rows put ≡ Ask (Repeat (numbered (n .number))) = simp (current, sym (told (keyHere rows i)) ∙ f) in
         rw is (stay-done _ s numbers keys rules now who (Ask (Repeat (numbered (n .number)))) (record { change = Keep; answer = Made (n .number) }) (asked .ready)
-        (record { there = refl; no-marker = refl; unbarred = refl; in-time = refl }) refl refl refl refl (tt, tt))
+        (asks-open _ (both now) (Repeat (numbered (n .number))) refl) refl refl refl refl (tt, tt))
 
 pub ruleset put-ways = (ready-searchable, count-most, row-fits, put-first, put-other, put-again)
 

@@ -11,7 +11,7 @@ use Rattle.buffers.proofs.Lists.{all-first}
 use Rattle.calendar.specs.declared.Now.{Now}
 use Rattle.model.specs.Rows.{Row, soundRow, soundData}
 use Rattle.model.specs.Settings.{Rule, Bucket, spentNumber, fits}
-use Rattle.model.specs.Requests.{Rights, Name, Page, ListVersions, Verb, Ask, nameOf}
+use Rattle.model.specs.Requests.{Rights, Name, Page, Query, ListVersions, Verb, Ask, nameOf}
 use Rattle.model.specs.Effects.{rowOf, added, rowsAfter}
 use Rattle.model.specs.Refusals.{removesVersion, missing, namesMarker, bars, barred, tooLate, spends, full}
 use Rattle.model.specs.Answers.{reply}
@@ -100,12 +100,17 @@ stay-done j s numbers keys rules now who v p ready o zero-added er et ex f =
     let m = ready .next-fits in
     accept j (capacity keys) (bucketBy s rules (rowsIn s numbers keys)) (both now) who v o (omega arith) p (omega arith) er (et ∙ sym zero-added) ex f
 
+-- What asks without naming a row meets none of 7 to 10.
+pub asks-open : (b : Bucket) (now : Now) (q : Query) → nameOf (Ask q) ≡ none → Open b now (Ask q)
+unfolding missing namesMarker barred tooLate
+asks-open b now q e = record { there = rw e; no-marker = rw e; unbarred = rw e; in-time = refl }
+
 -- LIST meets no refusal on the table.
 pub page-does : (s : State) (numbers keys : List ℕ) (rules : List Rule) (now : ℕ) (who : Rights) (p : Page) → Ready s numbers keys
     → let b = bucketBy s rules (rowsIn s numbers keys) in tableDecision (capacity keys) b (both now) who (Ask (ListVersions p)) ≡ does (effect b (both now) who (Ask (ListVersions p)))
-unfolding missing namesMarker barred tooLate added rowsAfter
+unfolding added rowsAfter
 page-does s numbers keys rules now who p ready =
-    does-effect (capacity keys) (bucketBy s rules (rowsIn s numbers keys)) (both now) who (Ask (ListVersions p)) (record { there = refl; no-marker = refl; unbarred = refl; in-time = refl })
+    does-effect (capacity keys) (bucketBy s rules (rowsIn s numbers keys)) (both now) who (Ask (ListVersions p)) (asks-open _ (both now) (ListVersions p) refl)
     (omega (arith, ready .next-fits)) (omega (arith, rows-length numbers keys (s .used), ready .used-fits))
 
 -- ## The row that a line names

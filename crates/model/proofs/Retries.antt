@@ -101,15 +101,15 @@ module _ (b : Bucket) (g : Context) (k : List ℕ) (body size : ℕ) (t : Terms)
   left = accept b (says (asked g put))
 
   -- What the PUT leaves has a row that a PUT of the same is a retry of, and the PUT answered its number.
-  pub record Placed : Type 0 where
+  pub record LeftRow : Type 0 where
     pub row : Row
     pub retry : IsRetry (left .rows) k body size row
     pub answered : (answerTo b (meaning b (asked g put)) ≡ made (numbered (row .number))) ⊎ (answerTo b (meaning b (asked g put)) ≡ repeated (numbered (row .number)))
     pub config-is : left .settings .config ≡ b .settings .config
 
-  pub placed : Placed
+  pub left-row : LeftRow
   unfolding rowsAfter configAfter reply
-  placed =
+  left-row =
       elim (retry-or-none (b .rows) k body size) [
         | inl e ↦
             let x = newRow (b .settings) ((nowOf b g) .stamp) k body size t in
@@ -124,7 +124,7 @@ module _ (b : Bucket) (g : Context) (k : List ℕ) (body size : ℕ) (t : Terms)
   unfolding shortForPage
   again-accepted c room e l =
       let p = written-line c b (asked g put) e in
-      let a = placed in
+      let a = left-row in
       let m : max (max (b .settings .time) (g .clock)) (g .clock) ≡ max (b .settings .time) (g .clock) = omega arith in
       let u : FieldsPass c left (withRoom room g) (nowOf left g) put = record {
         whole = sound-after c b (asked g put) e;

@@ -29,12 +29,15 @@ refused n b answer = record { number = n; len = 0; bucket = b; answer = answer }
 abbrev pub written : List ℕ → List ℕ → List ℕ
 written text room = text ++ drop (length text) room
 
+-- An accepted call: it returns 0 and the text's length, leaves this bucket, and writes the text and nothing behind it.
+abbrev pub answeredBy : List ℕ → Lent → List ℕ → Outcome
+answeredBy text b room = record { number = 0; len = length text; bucket = b; answer = written text room }
+
 -- An accepted request leaves the bucket after it, and its answer, by what it means.
 abbrev pub accepted : Lent → Request → List ℕ → Outcome
 accepted b q answer =
     let m = meaning (bucketOf b) q in
-    let text = answerText (answerTo (bucketOf b) m) in
-    record { number = 0; len = length text; bucket = laidOut (capacity (b .keys)) (after (bucketOf b) m); answer = written text answer }
+    answeredBy (answerText (answerTo (bucketOf b) m)) (laidOut (capacity (b .keys)) (after (bucketOf b) m)) answer
 
 -- The conditions of a call, in 01's order.
 abbrev pub conditions : Lent → Call → List Check

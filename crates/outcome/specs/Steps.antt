@@ -1,7 +1,6 @@
 -- The outcome by what is decided of a request, for the functions between reading a line and answering it.
 use Prim.Native.Nat.{ℕ, _+_}
 use mathlib.Core.List.{List}
-use lib.ListN.{length}
 use Rattle.model.specs.Settings as model
 use Rattle.model.specs.Requests.{Verb}
 use Rattle.model.specs.Effects.{configAfter}
@@ -9,7 +8,7 @@ use Rattle.settings.specs.Meaning.{settingsMean}
 use Rattle.table.specs.Layout.{capacity}
 use Rattle.bucket.specs.Whole.{Lent, laidOut}
 use Rattle.outcome.specs.Decision.{Effect, Decision, refuses, does}
-use Rattle.outcome.specs.Outcome.{Outcome, refused, written}
+use Rattle.outcome.specs.Outcome.{Outcome, refused, answeredBy}
 
 -- the settings after an accepted line: now is the bucket's time
 abbrev pub settingsAfter : model.Settings → ℕ → ℕ → Verb → model.Settings
@@ -18,12 +17,7 @@ settingsAfter s now taken v = record { time = now; next = s .next + taken; confi
 -- an effect, carried out
 abbrev pub carried : Lent → ℕ → Verb → List ℕ → Effect → Outcome
 carried b now v answer e =
-    record {
-      number = 0;
-      len = length (e .text);
-      bucket = laidOut (capacity (b .keys)) (record { settings = settingsAfter (settingsMean (b .settings)) now (e .taken) v; rows = e .rows });
-      answer = written (e .text) answer;
-    }
+    answeredBy (e .text) (laidOut (capacity (b .keys)) (record { settings = settingsAfter (settingsMean (b .settings)) now (e .taken) v; rows = e .rows })) answer
 
 -- what is decided, done
 abbrev pub done : Lent → ℕ → Verb → List ℕ → Decision → Outcome

@@ -8,8 +8,7 @@ use Rattle.buffers.specs.Choices.{pick, thenSome}
 use Rattle.buffers.specs.Texts.{bytes}
 use Rattle.text.specs.declared.Place.{Place}
 use Rattle.text.specs.Numbers.{numberOf, positiveOf}
-use Rattle.text.specs.Fields.{fieldOf, partOf}
-use Rattle.text.specs.Keys.{isPrefix}
+use Rattle.text.specs.Fields.{fieldOf}
 use Rattle.model.specs.Settings.{largestNumber}
 use Rattle.model.specs.Requests as model
 use Rattle.model.specs.Requests.{page, largestCount}
@@ -19,8 +18,8 @@ use Rattle.request.specs.declared.Verb.the-variants.{Ask}
 use Rattle.request.specs.declared.Query.the-variants.{ListVersions}
 use Rattle.request.specs.Meaning.{verbMeans}
 use Rattle.request.specs.Grammar.{listOf, otherByWord, verbByWord, Said, readLine}
-use Rattle.request.proofs.Ranges.{Passes, ways}
-use Rattle.request.proofs.Words.{line-asks, field-bytes}
+use Rattle.request.proofs.Ranges.{Passes, ways, prefix-field}
+use Rattle.request.proofs.Words.{line-asks}
 
 -- A whole number from 1 on is a whole number.
 positive-number : (k : ℕ) (s : List ℕ) (n : ℕ) → positiveOf k s ≡ some n → numberOf k s ≡ some n
@@ -42,17 +41,13 @@ module _ (s : List ℕ) where
     pub version-is : numberOf largestNumber (fieldOf s 5) ≡ some version
     pub count-is : numberOf largestCount (fieldOf s 6) ≡ some count
 
-  prefix-place : (i : ℕ) (p : Place) → readPrefix s i ≡ some p → partOf s p ≡ fieldOf s i
-  unfolding readPrefix
-  prefix-place i = (field-bytes s i isPrefix) .holds
-
   list-asks : Passes Verb (λ v. AsksPage (verbMeans s v)) (listOf s)
   unfolding listOf
   list-asks = search (ways, asks) depth 16
     where
       asks : (p k : Place) (v n : ℕ) → readPrefix s 3 ≡ some p → readPrefix s 4 ≡ some k → numberOf largestNumber (fieldOf s 5) ≡ some v → positiveOf largestCount (fieldOf s 6) ≡ some n
           → AsksPage (verbMeans s (Ask (ListVersions (record { prefix = p; key = k; version = v; count = n }))))
-      asks p k v n ep ek ev en = record { version = v; count = n; verb-is = rw (prefix-place 3 p ep, prefix-place 4 k ek); version-is = ev; count-is = positive-number largestCount (fieldOf s 6) n en }
+      asks p k v n ep ek ev en = record { version = v; count = n; verb-is = rw (prefix-field s 3 p ep, prefix-field s 4 k ek); version-is = ev; count-is = positive-number largestCount (fieldOf s 6) n en }
 
   -- The word LIST leads to its reader.
   list-word : fieldOf s 2 ≡ bytes "LIST" → verbByWord (fieldOf s 2) s ≡ listOf s

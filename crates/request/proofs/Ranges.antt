@@ -64,23 +64,28 @@ pub ruleset ways = (pass-none, pass-some, pass-pick, pass-then, refl)
 
 -- ## Keys and prefixes
 
--- the bytes at the place pass the test, and the place lies within the line
-record Placed (test : List ℕ → Bool) (s : List ℕ) (k : Place) : Type 0 where
+-- the bytes at the place are those of field i and pass the test, and the place lies within the line
+record Placed (test : List ℕ → Bool) (s : List ℕ) (i : ℕ) (k : Place) : Type 0 where
+  bytes-are : partOf s k ≡ fieldOf s i
   tested : test (partOf s k) ≡ true
   inside : Inside s k
 
 module _ (s : List ℕ) (i : ℕ) where
-  placed : (test : List ℕ → Bool) → Passes Place (Placed test s) (pick (test (fieldOf s i)) (some (placeOf s i)) none)
+  placed : (test : List ℕ → Bool) → Passes Place (Placed test s i) (pick (test (fieldOf s i)) (some (placeOf s i)) none)
   placed test =
       search (ways, there) depth 9
     where
-      there : test (fieldOf s i) ≡ true → Placed test s (placeOf s i)
-      there h = record { tested = rw (place-field s i) h; inside = record { end = place-within s i } }
+      there : test (fieldOf s i) ≡ true → Placed test s i (placeOf s i)
+      there h = record { bytes-are = place-field s i; tested = rw (place-field s i) h; inside = record { end = place-within s i } }
 
   module _ (k : Place) where
     key-in : readKey s i ≡ some k → isKey (partOf s k) ≡ true
     unfolding readKey
     key-in e = placed isKey .holds k e .tested
+
+    pub key-field : readKey s i ≡ some k → partOf s k ≡ fieldOf s i
+    unfolding readKey
+    key-field e = placed isKey .holds k e .bytes-are
 
     key-inside : readKey s i ≡ some k → Inside s k
     unfolding readKey
@@ -89,6 +94,10 @@ module _ (s : List ℕ) (i : ℕ) where
     prefix-in : readPrefix s i ≡ some k → isPrefix (partOf s k) ≡ true
     unfolding readPrefix
     prefix-in e = placed isPrefix .holds k e .tested
+
+    pub prefix-field : readPrefix s i ≡ some k → partOf s k ≡ fieldOf s i
+    unfolding readPrefix
+    prefix-field e = placed isPrefix .holds k e .bytes-are
 
     prefix-inside : readPrefix s i ≡ some k → Inside s k
     unfolding readPrefix

@@ -1,16 +1,12 @@
 -- What a readable line asks for, by its word.
 use Prim.Native.Nat.{ℕ}
 use mathlib.Core.Path.{_≡_, sym, _∙_}
-use mathlib.Core.Bool.{Bool}
 use mathlib.Core.List.{List}
-use mathlib.Core.Option.{Option, some, none}
-use Rattle.buffers.specs.Choices.{pick}
+use mathlib.Core.Option.{Option, some}
 use Rattle.buffers.specs.Texts.{bytes}
 use Rattle.text.specs.declared.Place.{Place}
-use Rattle.text.specs.Fields.{fieldOf, placeOf, partOf}
-use Rattle.text.specs.Keys.{isKey}
+use Rattle.text.specs.Fields.{fieldOf}
 use Rattle.text.specs.Numbers.{numberOf}
-use Rattle.text.proofs.Fields.{place-field}
 use Rattle.model.specs.Rows.{largestSize}
 use Rattle.model.specs.Requests as model
 use Rattle.fields.specs.declared.Terms.{Terms}
@@ -22,7 +18,7 @@ use Rattle.request.specs.declared.Action.the-variants.{Put}
 use Rattle.request.specs.declared.Request.{Request}
 use Rattle.request.specs.Meaning.{verbMeans}
 use Rattle.request.specs.Grammar.{putOf, verbByWord, requestIn, Said, readLine}
-use Rattle.request.proofs.Ranges.{Passes, ways}
+use Rattle.request.proofs.Ranges.{Passes, ways, key-field}
 
 -- What holds of every verb that a word's reader gives, holds of the verb of a readable line with that word.
 module _ (s : List ℕ) (P : model.Verb → Type 0) (reader : Option Verb) (word : verbByWord (fieldOf s 2) s ≡ reader) (reads : Passes Verb (λ v. P (verbMeans s v)) reader) where
@@ -42,10 +38,6 @@ module _ (s : List ℕ) (P : model.Verb → Type 0) (reader : Option Verb) (word
       line : Passes Said (λ q. P (q .verb)) (readLine s)
       line = search (ways, request-asks) depth 16
 
--- A key or prefix at a field is the field's bytes.
-pub field-bytes : (s : List ℕ) (i : ℕ) (test : List ℕ → Bool) → Passes Place (λ p. partOf s p ≡ fieldOf s i) (pick (test (fieldOf s i)) (some (placeOf s i)) none)
-field-bytes s i test = search (ways, place-field) depth 9
-
 module _ (s : List ℕ) where
   -- The verb is a PUT of the key in field 3, and of the numbers in fields 4 and 5.
   pub record AsksPut (v : model.Verb) : Type 0 where
@@ -56,10 +48,6 @@ module _ (s : List ℕ) where
     pub body-is : numberOf 18446744073709551615 (fieldOf s 4) ≡ some body
     pub size-is : numberOf largestSize (fieldOf s 5) ≡ some size
 
-  key-field : (k : Place) → readKey s 3 ≡ some k → partOf s k ≡ fieldOf s 3
-  unfolding readKey
-  key-field = (field-bytes s 3 isKey) .holds
-
   -- A readable line with the word PUT asks for one.
   pub asks-put : (q : Said) → fieldOf s 2 ≡ bytes "PUT" → readLine s ≡ some q → AsksPut (q .verb)
   unfolding verbByWord putOf
@@ -67,4 +55,4 @@ module _ (s : List ℕ) where
     where
       asks : (k : Place) (body size : ℕ) (t : Terms) → readKey s 3 ≡ some k → numberOf 18446744073709551615 (fieldOf s 4) ≡ some body → numberOf largestSize (fieldOf s 5) ≡ some size
           → AsksPut (verbMeans s (Act (Put k body size t)))
-      asks k body size t ek eb es = record { body = body; size = size; terms = termsMeans t; verb-is = rw (key-field k ek); body-is = eb; size-is = es }
+      asks k body size t ek eb es = record { body = body; size = size; terms = termsMeans t; verb-is = rw (key-field s 3 k ek); body-is = eb; size-is = es }
