@@ -12,25 +12,22 @@ use Rattle.text.specs.Keys.{isKeyByte, isPrefix, isKey}
 use Rattle.text.specs.Numbers.{isDigit, digitMore, leadingZero, numberOf, positiveOf}
 use Rattle.text.specs.Printing.{digits}
 use Rattle.calendar.specs.Calendar.{leap, yearsLength, monthStart, monthLength, validDay, daysOf, guessOf, yearOf, monthOf, dateIn, civilOf}
-use Rattle.calendar.specs.Periods.{periodEnd, expiresAt}
 use Rattle.dates.specs.Printing.{dateText, printDate}
 use Rattle.dates.specs.Reading.{digitOf, twoDigits, fourDigits, dayNumber, dayAt, secondOfDay, secondAt, fractionDigit, milliseconds, fractionOf, readDate}
 use Rattle.model.specs.Answers.{reply}
-use Rattle.model.specs.Effects.{added, removed, rowsAfter, setConfig, configAfter}
-use Rattle.model.specs.Locks.{locked, admits}
+use Rattle.model.specs.Effects.{added, rowsAfter, configAfter}
 use Rattle.model.specs.Pages.{comesAfter}
 use Rattle.model.specs.Refusals.{halfGiven, needs, granted, lacksRight, pastDate, missing, namesMarker, barred, tooLate, spends, full, shortForPage}
 use Rattle.model.specs.Requests.{inRange}
 use Rattle.model.specs.Rows.{soundRow}
 use Rattle.model.specs.Run.{left}
 use Rattle.model.specs.Settings.{soundRules, soundConfig, fits, sound}
-use Rattle.model.specs.Time.{defaultEnd}
 use Rattle.blocks.specs.Blocks.{blockOf, isBlock}
 use Rattle.settings.specs.Bytes.{settingsOf, settingsBytes, settingsLength}
 use Rattle.settings.specs.Meaning.{settingsSound}
 use Rattle.bucket.specs.Whole.{whole, Lent, freshLent}
-use Rattle.fields.specs.Fields.{rightsIn, readRights, readKey, readPrefix, readVersion, readMode, readUntil, readSwitch, readHold, readBypass, readPeriod}
-use Rattle.request.specs.Grammar.{nameAt, retentionAt, termsAt, putOf, copyOf, retainOf, setHoldOf, deleteOf, defaultOf, ruleOf, sweepOf, getOf, otherByWord, verbByWord, requestIn, readLine, namesPlace, listOf}
+use Rattle.fields.specs.Fields.{rightsIn, readRights, readKey, readPrefix, readVersion, readMode, readUntil, readSwitch, readHold, readBypass}
+use Rattle.request.specs.Grammar.{retentionAt, termsAt, putOf, deleteOf, otherByWord, verbByWord, requestIn, readLine, namesPlace, listOf}
 use Rattle.answers.specs.Pages.{rowsSaid, linesShown, lastKey, lastVersion}
 use Rattle.answers.specs.Text.{fieldsText, okText, modeText, untilText, holdText, kindFields, pageText}
 use Rattle.outcome.specs.Calls.{Call, call}
@@ -93,7 +90,7 @@ pub record PagesFollowed : Type 0 where
   pub each-once-bytes : ShowsEachOnce (bytes "q/") (lentOf filledBytes) (allShown (byteExchanges filledBytes pages))
 
 pub pages-followed : PagesFollowed
-unfolding fieldOf placeOf isKeyByte isPrefix isKey isDigit digitMore leadingZero numberOf positiveOf digits leap yearsLength monthStart monthLength validDay daysOf guessOf yearOf monthOf dateIn civilOf periodEnd expiresAt dateText printDate digitOf twoDigits fourDigits dayNumber dayAt secondOfDay secondAt fractionDigit milliseconds fractionOf readDate reply added removed rowsAfter setConfig configAfter locked admits halfGiven needs granted lacksRight pastDate missing namesMarker barred tooLate spends full inRange soundRow soundRules soundConfig fits sound defaultEnd blockOf isBlock whole rightsIn readRights readKey readPrefix readVersion readMode readUntil readSwitch readHold readBypass readPeriod nameAt retentionAt termsAt putOf copyOf retainOf setHoldOf deleteOf defaultOf ruleOf sweepOf getOf otherByWord verbByWord requestIn readLine fieldsText okText modeText untilText holdText refusalOf outcome number numbersFrom numbersBytes spelled settingsOf settingsBytes hubServed fitRows hubFresh settingsSound shortForPage comesAfter namesPlace listOf kindFields pageText rowsSaid linesShown lastKey lastVersion
+unfolding fieldOf placeOf isKeyByte isPrefix isKey isDigit digitMore leadingZero numberOf positiveOf digits leap yearsLength monthStart monthLength validDay daysOf guessOf yearOf monthOf dateIn civilOf dateText printDate digitOf twoDigits fourDigits dayNumber dayAt secondOfDay secondAt fractionDigit milliseconds fractionOf readDate reply added rowsAfter configAfter halfGiven needs granted lacksRight pastDate missing namesMarker barred tooLate spends full inRange soundRow soundRules soundConfig fits sound blockOf isBlock whole rightsIn readRights readKey readPrefix readVersion readMode readUntil readSwitch readHold readBypass retentionAt termsAt putOf deleteOf otherByWord verbByWord requestIn readLine fieldsText okText modeText untilText holdText refusalOf outcome number numbersFrom numbersBytes spelled settingsOf settingsBytes hubServed fitRows hubFresh settingsSound shortForPage comesAfter namesPlace listOf kindFields pageText rowsSaid linesShown lastKey lastVersion
 pages-followed =
     record {
       follow = refl;
