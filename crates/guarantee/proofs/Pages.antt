@@ -13,7 +13,7 @@ use Rattle.buffers.specs.Choices.{orZero}
 use Rattle.buffers.specs.Texts.{bytes}
 use Rattle.buffers.specs.Lists.{same}
 use Rattle.buffers.proofs.Tests.{and-l, and-r}
-use Rattle.buffers.proofs.Lists.{all-as, all-middle, all-keep, same-path}
+use Rattle.buffers.proofs.Lists.{all-as, all-middle, all-keep}
 use Rattle.text.specs.Keys.{isKey}
 use Rattle.text.specs.Numbers.{numberOf}
 use Rattle.text.specs.Fields.{fieldOf}
@@ -35,7 +35,7 @@ use Rattle.request.proofs.Pages.{asks-page}
 use Rattle.answers.specs.Text.{rowLine, pageText}
 use Rattle.answers.specs.Pages.{lastKey, lastVersion}
 use Rattle.answers.proofs.Pages.{last-key, last-version, lines-once, lines-rows}
-use Rattle.outcome.specs.Calls.{Sent, Call}
+use Rattle.outcome.specs.Calls.{Call}
 use Rattle.outcome.specs.Outcome.{outcome}
 use Rattle.outcome.proofs.Demands.{accepted-of-whole}
 use Rattle.knitpasture.specs.Bytes.{lentOf}
@@ -43,7 +43,7 @@ use Rattle.guarantee.specs.Calls.{step}
 use Rattle.guarantee.specs.Bytes.{byteStep}
 use Rattle.guarantee.specs.Exchanges.{Exchange, exchange, exchanges, sentField, byteExchange, byteExchanges}
 use Rattle.guarantee.specs.Pages.{isPageFrom, countSent, shownBy, arePages, followPages, allShown, matchingRows, ShowsEachOnce, PagesShowAll, PagesShowAllBytes}
-use Rattle.guarantee.proofs.Said.{accepted-read}
+use Rattle.guarantee.proofs.Said.{accepted-read, read-field, read-same}
 use Rattle.guarantee.proofs.Bytes.{accepted-sized, spelled-exchanges}
 use Rattle.guarantee.proofs.Listed.{Listed, listed, page-sound, page-keys, page-few, shown-is}
 
@@ -77,16 +77,15 @@ module _ (prefix key version : List ℕ) (b : Lent) (g : Call) (e : isPageFrom p
   served-page : ServedPage prefix key version b g
   served-page =
       let r = accepted-read b g accepted-0 in
-      let t = r .sent-is in
-      let a = asks-page (r .bytes) (r .said) (rw t at (same-path (field 2) (bytes "LIST") (and-l _ _ fields-e))) (r .reads) in
-      let p : fieldOf (r .bytes) 3 ≡ prefix = rw t at (same-path (field 3) prefix (and-l _ _ places-e)) in
-      let k : fieldOf (r .bytes) 4 ≡ key = rw t at (same-path (field 4) key (and-l _ _ place-e)) in
-      let v : fieldOf (r .bytes) 5 ≡ version = rw t at (same-path (field 5) version (and-r (same (field 4) key) _ place-e)) in
+      let a = asks-page (r .bytes) (r .said) (read-same r 2 (bytes "LIST") (and-l _ _ fields-e)) (r .reads) in
+      let p = read-same r 3 prefix (and-l _ _ places-e) in
+      let k = read-same r 4 key (and-l _ _ place-e) in
+      let v = read-same r 5 version (and-r (same (field 4) key) _ place-e) in
       record {
         number = a .version;
         count = a .count;
         version-is = rw v at (a .version-is);
-        count-is = ap (λ (x : Sent). orZero (numberOf largestCount (sentField x 6))) t ∙ ap orZero (a .count-is);
+        count-is = ap (λ (x : List ℕ). orZero (numberOf largestCount x)) (read-field r 6) ∙ ap orZero (a .count-is);
         is-listed = listed b g (page prefix key (a .version) (a .count)) (asked (length (g .answer)) (r .said)) accepted-0 (r .hears) (a .verb-is ∙ rw (p, k));
       }
 

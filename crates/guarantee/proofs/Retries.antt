@@ -15,7 +15,6 @@ use Rattle.buffers.specs.Texts.{bytes}
 use Rattle.buffers.specs.Words.{spelled}
 use Rattle.buffers.proofs.Tests.{and-l, and-r}
 use Rattle.buffers.proofs.Choices.{pick-ways}
-use Rattle.buffers.proofs.Lists.{same-path}
 use Rattle.buffers.proofs.Words.{length-spelled}
 use Rattle.text.specs.Fields.{fieldOf}
 use Rattle.model.specs.Rows.{Row}
@@ -51,7 +50,7 @@ use Rattle.guarantee.specs.Calls.{step, isAccepted, answersNumber, event
 use Rattle.guarantee.specs.Bytes.{Sized, outcomeInBytes, byteStep}
 use Rattle.guarantee.specs.Exchanges.{exchange, byteExchange, sentField}
 use Rattle.guarantee.specs.Retries.{atTime, writtenChecks, Retried, RetryAddsNone, OtherPutMakes, isPut, lineIn, SentTwice, SentTwiceBytes, SentLater, withTimeOf, SentLaterBytes}
-use Rattle.guarantee.proofs.Said.{Read, accepted-read}
+use Rattle.guarantee.proofs.Said.{Read, accepted-read, read-field, read-same}
 use Rattle.guarantee.proofs.Bytes.{accepted-sized, same-number, accepted-bytes, same-exchange, sized-after, spelled-after}
 
 -- ## An accepted call, by what it means
@@ -204,7 +203,7 @@ record PutRead (b : Lent) (g : Call) : Type 0 where
 put-read : (b : Lent) (g : Call) → (outcome b g) .number ≡ 0 → same (sentField (g .sent) 2) (bytes "PUT") ≡ true → PutRead b g
 put-read b g z e =
     let r = accepted-read b g z in
-    record { accepted-0 = z; read = r; asks = asks-put (r .bytes) (r .said) (rw (r .sent-is) at (same-path (sentField (g .sent) 2) (bytes "PUT") e)) (r .reads) }
+    record { accepted-0 = z; read = r; asks = asks-put (r .bytes) (r .said) (read-same r 2 (bytes "PUT") e) (r .reads) }
 
 first-read : (b : Lent) (g : Call) → isPut (exchange b g) ≡ true → PutRead b g
 first-read b g e = put-read b g (eqb-true _ 0 (and-l _ _ e)) (and-r (eqb ((outcome b g) .number) 0) _ e)
@@ -240,9 +239,9 @@ sent-later b g again e f z =
     let r′ = p′ .read in
     let fields = and-r (same (sentField (again .sent) 2) (bytes "PUT")) _ f in
     let rest = and-r (same (sentField (again .sent) 3) (sentField (g .sent) 3)) _ fields in
-    let e3 : fieldOf (r′ .bytes) 3 ≡ fieldOf (r .bytes) 3 = rw (r .sent-is, r′ .sent-is) at (same-path (sentField (again .sent) 3) (sentField (g .sent) 3) (and-l _ _ fields)) in
-    let e4 : fieldOf (r′ .bytes) 4 ≡ fieldOf (r .bytes) 4 = rw (r .sent-is, r′ .sent-is) at (same-path (sentField (again .sent) 4) (sentField (g .sent) 4) (and-l _ _ rest)) in
-    let e5 : fieldOf (r′ .bytes) 5 ≡ fieldOf (r .bytes) 5 = rw (r .sent-is, r′ .sent-is) at (same-path (sentField (again .sent) 5) (sentField (g .sent) 5) (and-r (same (sentField (again .sent) 4) (sentField (g .sent) 4)) _ rest)) in
+    let e3 = read-same r′ 3 (sentField (g .sent) 3) (and-l _ _ fields) ∙ read-field r 3 in
+    let e4 = read-same r′ 4 (sentField (g .sent) 4) (and-l _ _ rest) ∙ read-field r 4 in
+    let e5 = read-same r′ 5 (sentField (g .sent) 5) (and-r (same (sentField (again .sent) 4) (sentField (g .sent) 4)) _ rest) ∙ read-field r 5 in
     let q′ = grammar.asked (length (again .answer)) (r′ .said) in
     let does = answered-again b g (grammar.asked (length (g .answer)) (r .said) .context) (fieldOf (r .bytes) 3) (a .body) (a .size) (a .terms) (p .accepted-0) (r .hears ∙ rw (a .verb-is)) again q′ (p′ .asks .terms) (r′ .hears)
     (same-put (r .bytes) (r′ .bytes) (r .said .verb) (r′ .said .verb) a (p′ .asks) e3 e4 e5) z in
