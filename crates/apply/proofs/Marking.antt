@@ -14,9 +14,10 @@ use Rattle.table.specs.Layout.{Holds, numbersOfRow, rowsOf, keysFit, capacity}
 use Rattle.table.proofs.Held.{rows-length}
 use Rattle.lifecycle.specs.Fates.{fateOf, fatesIn}
 use Rattle.lifecycle.proofs.Fates.{fates-append, fates-length, total-append}
+use Rattle.model.proofs.Sweeping.{carried-append}
 use Rattle.apply.specs.Passes.{kept, unlessGone, InBuffers, Put, Thinned}
 use Rattle.apply.proofs.Flat.{free, padded, padded-length, Lay, lay-numbers, lay-keys, lay-put, lay-set, lay-row, lay-block, holds-lay, lay-holds}
-use Rattle.apply.proofs.Passes.{marks-few, kept-append, kept-marks, carried-append, carried-length, carried-fit}
+use Rattle.apply.proofs.Passes.{marks-few, kept-append, kept-marks, carried-length, carried-fit}
 use Rattle.apply.proofs.Removing.{fate-goes, fate-gains, fate-stays, still-there}
 
 -- the fates of the first so many rows, and those of them that are left

@@ -4,7 +4,7 @@ use mathlib.Core.Path.{_≡_, refl, ap}
 use mathlib.Core.Bool.{true}
 use mathlib.Core.List.{List, [], _∷_, _++_, append-assoc}
 use native.Mathlib.Omega.{arith}
-use native.Mathlib.Nat.{add-zero, add-assoc}
+use native.Mathlib.Nat.{add-zero}
 use lib.Dec.{leb}
 use lib.ListN.{length, length-append}
 use Rattle.buffers.proofs.Tests.{and-l, and-r}
@@ -30,14 +30,6 @@ kept-append [] gs [] ys e = refl
 kept-append [] gs (x ∷ xs) ys e = absurd (omega arith)
 kept-append (f ∷ fs) gs [] ys e = absurd (omega arith)
 kept-append {A} (f ∷ fs) gs (x ∷ xs) ys e = rw append-assoc (ap (λ (l : List A). unlessGone f x ++ l) (kept-append fs gs xs ys (omega arith)))
-
-pub carried-append : (t n : ℕ) (fs gs : List Fate) (xs ys : List Row) → length xs ≡ length fs
-    → carriedOut t n (fs ++ gs) (xs ++ ys) ≡ carriedOut t n fs xs ++ carriedOut t (n + total marks fs) gs ys
-carried-append t n [] gs [] ys e = let q : n + 0 ≡ n = add-zero n in rw q
-carried-append t n [] gs (x ∷ xs) ys e = absurd (omega arith)
-carried-append t n (f ∷ fs) gs [] ys e = absurd (omega arith)
-carried-append t n (f ∷ fs) gs (x ∷ xs) ys e =
-    rw (append-assoc, ← add-assoc) (ap (λ (l : List Row). inPlace f t n x ++ l) (carried-append t (n + marks f) fs gs xs ys (omega arith)))
 
 -- ## What is kept
 

@@ -3,7 +3,7 @@ use Prim.Native.Nat.{ℕ, zero, suc, _-_, _<_, min}
 use mathlib.Core.Path.{_≡_, refl, sym, _∙_, ap, ap₂}
 use mathlib.Core.Logic.{inl, inr}
 use mathlib.Core.Bool.{Bool, true, false, not, _&&_, false≢true, and-false, and-comm}
-use mathlib.Core.List.{List, [], _∷_, _++_, map}
+use mathlib.Core.List.{List, [], _∷_, _++_, append-nil, map}
 use mathlib.Core.Option.{Option, some, none}
 use native.Mathlib.Omega.{arith}
 use native.Mathlib.Numerals.{unary-clauses}
@@ -13,7 +13,7 @@ use lib.Seq.{take-nil}
 use borrow.Author.Tests.{eqb-true, eq-eqb, not-true}
 use Rattle.buffers.specs.Choices.{pick}
 use Rattle.buffers.specs.Lists.{keep, first, change, all, any, same}
-use Rattle.buffers.proofs.Tests.{either, clash, and-i, and-l, and-r, or-l, or-r, test-sym}
+use Rattle.buffers.proofs.Tests.{either, and-i, and-l, and-r, or-l, or-r, test-sym}
 
 module _ {A : Type 0} where
   -- ## The elements that pass a test
@@ -186,12 +186,31 @@ module _ {A : Type 0} where
 
   -- ## The first element that passes a test
 
+  pub first-skip : (p : A → Bool) (xs ys : List A) → all (λ x. not (p x)) xs ≡ true → first p (xs ++ ys) ≡ first p ys
+  first-skip p [] ys e = refl
+  first-skip p (x ∷ xs) ys e = rw (not-true (p x) (and-l _ _ e)) (first-skip p xs ys (and-r (not (p x)) _ e))
+
   pub first-none : (p : A → Bool) (xs : List A) → all (λ x. not (p x)) xs ≡ true → first p xs ≡ none
-  first-none p [] e = refl
-  first-none p (x ∷ xs) e =
-      elim (either (p x)) [
-        | inl t ↦ absurd (clash true refl (sym (rw t at (and-l (not (p x)) _ e))))
-        | inr t ↦ rw t (first-none p xs (and-r (not (p x)) _ e))
+  first-none p xs e = ap (first p) (sym (append-nil xs)) ∙ first-skip p xs [] e
+
+  -- What is found stands behind elements that don't pass.
+  pub record FoundAt (p : A → Bool) (xs : List A) (x : A) : Type 0 where
+    pub early : List A
+    pub late : List A
+    pub list-is : xs ≡ early ++ x ∷ late
+    pub none-before : all (λ y. not (p y)) early ≡ true
+
+  pub found-at : (p : A → Bool) (xs : List A) (x : A) → first p xs ≡ some x → FoundAt p xs x
+  found-at p [] x e = let z : _≡_ {A = ℕ} 0 1 = cc in absurd (omega arith)
+  found-at p (y ∷ ys) x e =
+      elim (either (p y)) [
+        | inl t ↦
+            let g : some y ≡ some x = rw t at e in
+            let h : y ≡ x = cc in
+            record { early = []; late = ys; list-is = ap (λ (z : A). z ∷ ys) h; none-before = refl }
+        | inr t ↦
+            let r = found-at p ys x (rw t at e) in
+            record { early = y ∷ r .early; late = r .late; list-is = ap (λ (l : List A). y ∷ l) (r .list-is); none-before = rw t (r .none-before) }
       ]
 
   pub first-as : (p q : A → Bool) → ((x : A) → p x ≡ q x) → (xs : List A) → first p xs ≡ first q xs

@@ -1,10 +1,10 @@
 -- Laws of tests and their conjunctions.
-use Prim.Native.Nat.{ℕ}
+use Prim.Native.Nat.{ℕ, _≤_}
 use mathlib.Core.Path.{_≡_, refl, sym, _∙_}
 use mathlib.Core.Logic.{_⊎_, inl, inr}
 use mathlib.Core.Bool.{Bool, true, false, _&&_, _||_, true≢false, false≢true}
-use lib.Dec.{eqb}
-use borrow.Author.Tests.{eqb-true}
+use lib.Dec.{eqb, leb}
+use borrow.Author.Tests.{eqb-true, leb-true, le-leb}
 
 -- a test is true or false
 pub either : (b : Bool) → (b ≡ true) ⊎ (b ≡ false)
@@ -55,3 +55,14 @@ test-sym t f a b =
 
 pub eqb-sym : (a b : ℕ) → eqb a b ≡ eqb b a
 eqb-sym = test-sym eqb eqb-true
+
+-- Bounds that hold together have the same test.
+pub leb-same : (a b c d : ℕ) → (a ≤ b → c ≤ d) → (c ≤ d → a ≤ b) → leb a b ≡ leb c d
+leb-same a b c d f g =
+    elim (either (leb a b)) [
+      | inl e ↦ e ∙ sym (le-leb c d (f (leb-true a b e)))
+      | inr e ↦ elim (either (leb c d)) [
+        | inl h ↦ absurd (clash (leb a b) (le-leb a b (g (leb-true c d h))) e)
+        | inr h ↦ e ∙ sym h
+      ]
+    ]

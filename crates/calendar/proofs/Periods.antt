@@ -1,11 +1,52 @@
--- A period's end is after its start.
-use Prim.Native.Nat.{ℕ, _≤_, _<_}
+-- A period's end is after its start; days expire at the first midnight from their end on.
+use Prim.Native.Nat.{ℕ, _+_, _*_, _%_, _≤_, _<_}
+use mathlib.Core.Path.{_≡_}
 use mathlib.Core.Logic.{inl, inr}
 use native.Mathlib.Omega.{arith}
-use lib.Dec.{eqb}
-use Rattle.buffers.proofs.Tests.{either}
-use Rattle.calendar.specs.Periods.{periodEnd}
+use lib.Dec.{eqb, leb}
+use borrow.Author.Tests.{eqb-true, eqb-false}
+use Rattle.buffers.proofs.Tests.{either, leb-same}
+use Rattle.calendar.specs.Calendar.{day}
+use Rattle.calendar.specs.Periods.{periodEnd, dayStart, expiresAt, FirstMidnight, MidnightBetween}
 
 pub period-positive : (from count unit : ℕ) → 1 ≤ count → from < periodEnd from count unit
 unfolding periodEnd
 period-positive from count unit h = elim (either (eqb unit 2)) [ inl e ↦ rw e (omega arith) | inr e ↦ rw e (omega arith) ]
+
+-- ## Expiry
+
+-- For every instant and any number of days.
+pub expires-at-midnight : (since days : ℕ) → FirstMidnight (since + days * day) (expiresAt since days)
+unfolding expiresAt
+expires-at-midnight since days =
+    let end : ℕ = since + days * day in
+    elim (either (eqb (end % day) 0)) [
+      | inl e ↦ rw e (record { is-midnight = eqb-true (end % day) 0 e; no-earlier = omega arith; within-a-day = omega arith })
+      | inr e ↦ rw e (record { is-midnight = omega arith; no-earlier = omega arith; within-a-day = omega (arith, eqb-false (end % day) 0 e) })
+    ]
+
+-- More days never expire earlier.
+pub more-days : (since few more : ℕ) → few ≤ more → expiresAt since few ≤ expiresAt since more
+more-days since few more h = omega (arith, expires-at-midnight since few, expires-at-midnight since more)
+
+module _ (since days t : ℕ) where
+  first : FirstMidnight (since + days * day) (expiresAt since days)
+  first = expires-at-midnight since days
+
+  -- Days have expired exactly where a midnight has come since their end.
+  pub expired-came : expiresAt since days ≤ t → MidnightBetween (since + days * day) t
+  expired-came h = record { at = expiresAt since days; is-midnight = first .is-midnight; no-earlier = first .no-earlier; no-later = h }
+
+  pub came-expired : MidnightBetween (since + days * day) t → expiresAt since days ≤ t
+  came-expired m = omega (arith, first, m)
+
+  -- At a midnight the sum itself says whether they have.
+  pub expired-at : t % day ≡ 0 → leb (since + days * day) t ≡ leb (expiresAt since days) t
+  expired-at e = leb-same (since + days * day) t (expiresAt since days) t (λ h. omega (arith, first)) (λ h. omega (arith, first))
+
+  -- What has expired, had at the midnight at which the day began.
+  pub expired-today : leb (expiresAt since days) (dayStart t) ≡ leb (expiresAt since days) t
+  expired-today = leb-same (expiresAt since days) (dayStart t) (expiresAt since days) t (λ h. omega (arith, first)) (λ h. omega (arith, first))
+
+pub start-midnight : (t m : ℕ) → m ≡ dayStart t → m % day ≡ 0
+start-midnight t m e = omega arith

@@ -1,9 +1,10 @@
 // Days, months and years of the Gregorian calendar since 1970-01-01, and periods. The definitions are in specs/.
 ghost use mathlib.Core.Path.{_≡_};
-ghost use Prim.Native.Nat.{_+_, _-_, _*_, _≤_, _<_};
+ghost use Prim.Native.Nat.{_+_, _-_, _*_, _%_, _≤_, _<_};
+ghost use lib.Dec.{leb};
 ghost use Rattle.buffers.specs.Ranges.{Within, Span};
-ghost use Rattle.calendar.specs.Calendar.{Bounded, latest, leap, yearLength, yearStart, monthStart, monthLength, validDay, daysOf, yearOf, monthOf, dateIn, civilOf};
-ghost use Rattle.calendar.specs.Periods.{periodEnd, expiresAt};
+ghost use Rattle.calendar.specs.Calendar.{Bounded, latest, day, leap, yearLength, yearStart, monthStart, monthLength, validDay, daysOf, yearOf, monthOf, dateIn, civilOf};
+ghost use Rattle.calendar.specs.Periods.{periodEnd, dayStart, expiresAt};
 
 // A date of the Gregorian calendar.
 pub struct Civil {
@@ -184,10 +185,17 @@ pub fn period_end(from: u64, count: u64, unit: u64) -> u64
     from + count * DAY
 }
 
-// The instant at which what is due some days after `since` expires.
-pub fn expiry(since: u64, days: u64) -> u64
-    requires { ⌜ (since ≤ latest) × (days ≤ 36500) ⌝ }
-    ensures { λ r. ⌜ r ≡ expiresAt since days ⌝ }
+// The midnight at which the day of an instant begins.
+pub fn day_start(instant: u64) -> u64
+    ensures { λ r. ⌜ r ≡ dayStart instant ⌝ }
 {
-    since + days * DAY
+    instant - instant % DAY
+}
+
+// What expires some days after `since` has expired at a midnight. The sum needs no rounding: a midnight is no earlier than it exactly where it is no earlier than the sum rounded up.
+pub fn has_expired(since: u64, days: u64, midnight: u64) -> bool
+    requires { ⌜ (since ≤ latest) × (days ≤ 36500) × (midnight % day ≡ 0) ⌝ }
+    ensures { λ r. ⌜ r ≡ leb (expiresAt since days) midnight ⌝ }
+{
+    since + days * DAY <= midnight
 }

@@ -1,11 +1,12 @@
--- Every printed date reads back as the same instant.
+-- Every printed date reads back as the same instant, and a midnight prints as one.
 use Prim.Native.Nat.{ℕ, _+_, _-_, _*_, _/_, _%_, _≤_, _<_}
 use mathlib.Core.Path.{_≡_, refl, ap, _∙_}
 use mathlib.Core.List.{List, [], _∷_}
 use mathlib.Core.Option.{some}
 use native.Mathlib.Omega.{arith}
-use lib.ListN.{getD}
+use lib.ListN.{getD, drop}
 use borrow.Author.Tests.{le-ltb}
+use Rattle.buffers.specs.Texts.{bytes}
 use Rattle.text.proofs.RoundTrip.{digit-is}
 use Rattle.calendar.specs.declared.Civil.{Civil}
 use Rattle.calendar.specs.Calendar.{latest, day, civilOf}
@@ -88,3 +89,8 @@ round-trip t h =
     let k : n ≤ 2932896 = omega arith in
     let b = valid-is (civilOf n) (civil-valid n k) .bounds in
     text-back (civilOf n) (t % day) n (b .to) (omega (arith, b .last)) (omega (arith, b .most)) (omega arith) (number-back n k) ∙ ap some (omega arith)
+
+-- A midnight prints as one.
+pub midnight-printed : (t : ℕ) → t % day ≡ 0 → drop 10 (printDate t) ≡ bytes "T00:00:00.000Z"
+unfolding printDate dateText
+midnight-printed t e = rw e

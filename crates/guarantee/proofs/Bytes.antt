@@ -8,7 +8,7 @@ use native.Mathlib.Omega.{arith}
 use lib.Dec.{eqb, ltb}
 use lib.ListN.{length}
 use borrow.Author.Tests.{eqb-true, eqb-false, ltb-false}
-use Rattle.buffers.proofs.Tests.{either}
+use Rattle.buffers.proofs.Tests.{either, and-l}
 use Rattle.buffers.proofs.Choices.{pick-ways}
 use Rattle.model.specs.Run.{left}
 use Rattle.model.specs.LockClause.{Kept}
@@ -27,7 +27,7 @@ use Rattle.knitpasture.proofs.Hub.{HandsOn, hub-range, hub-refused, hub-hands-o
 use Rattle.knitpasture.proofs.FreshBucket.{fresh-made, fresh-hands-on}
 use Rattle.guarantee.specs.Calls.{step, callEvent, callEvents}
 use Rattle.guarantee.specs.Bytes.{Sized, outcomeInBytes, Demand1Bytes, Demand2Bytes, WrongLengths, freshBytes, FreshMade, byteStep, byteEvent, byteEvents, Demand3Bytes}
-use Rattle.guarantee.specs.Exchanges.{Exchange, exchange, exchanges, byteExchange, byteExchanges}
+use Rattle.guarantee.specs.Exchanges.{Exchange, exchange, exchanges, byteExchange, byteExchanges, isServed}
 use Rattle.guarantee.proofs.Demands.{demand-2}
 use Rattle.guarantee.proofs.Runs.{whole-after}
 use Rattle.guarantee.proofs.LockClause.{fresh-is-whole, demand-3}
@@ -129,6 +129,10 @@ module _ (c : ℕ) (b : Bytes) (g : Call) (z : Sized c b) where
       }
 
 -- ## Demand 1, and wrong lengths
+
+-- A line of a verb that was served was served on what the bytes spell.
+pub served-spelled : (b : Bytes) (g : Call) (verb : List ℕ) → isServed verb (byteExchange b g) ≡ true → isServed verb (exchange (lentOf b) g) ≡ true
+served-spelled b g verb e = sym (ap (isServed verb) (same-exchange _ b g (accepted-sized b g (eqb-true _ 0 (and-l _ _ e))))) ∙ e
 
 pub demand-1-bytes : (b : Bytes) (g : Call) → Demand1Bytes b g
 demand-1-bytes b g = record { numbered = hub-range b g; writes-nothing = hub-refused b g }

@@ -3,12 +3,13 @@ use Prim.Native.Nat.{ℕ}
 use mathlib.Core.Path.{_≡_, refl, ap}
 use mathlib.Core.Bool.{true}
 use mathlib.Core.List.{List, [], _∷_, _++_}
-use mathlib.Core.Option.{some}
+use mathlib.Core.Option.{some, none}
 use native.Mathlib.Omega.{arith}
 use lib.Dec.{lit<, lit≤}
 use lib.ListN.{getD, take, replicate}
 use Rattle.buffers.specs.Texts.{bytes}
 use Rattle.buffers.specs.Words.{number, spelled}
+use Rattle.buffers.proofs.Tests.{clash}
 use Rattle.text.specs.Fields.{fieldOf, placeOf}
 use Rattle.text.specs.Lines.{linesOf, firstLine}
 use Rattle.text.specs.Keys.{isKeyByte, isPrefix, isKey}
@@ -23,12 +24,15 @@ use Rattle.model.proofs.Examples as model
 use Rattle.model.proofs.Examples.{Starred as Locks}
 use Rattle.model.specs.Answers.{done, reply}
 use Rattle.model.specs.Run.{left, gathered}
+use Rattle.model.specs.Sweep.{marker}
+use Rattle.model.specs.Expiry.{byNumber, byKey}
+use Rattle.model.proofs.Expiry.{expired-due, noncurrent-acts}
 use Rattle.model.specs.LockClause.{Held, InCompliance}
-use Rattle.model.specs.Effects.{added, removed, rowsAfter, setConfig, configAfter}
+use Rattle.model.specs.Effects.{rowOf, added, removed, rowsAfter, setConfig, configAfter}
 use Rattle.model.specs.Locks.{locked, admits}
 use Rattle.model.specs.Refusals.{halfGiven, needs, granted, lacksRight, shortForPage, pastDate, missing, namesMarker, barred, tooLate, spends, full}
 use Rattle.model.specs.Requests.{inRange}
-use Rattle.model.specs.Rows.{soundRow}
+use Rattle.model.specs.Rows.{Row, soundRow}
 use Rattle.model.specs.Settings.{largestNumber, soundRules, soundConfig, fits, sound}
 use Rattle.model.specs.Time.{defaultEnd}
 use Rattle.blocks.specs.Blocks.{blockOf, isBlock}
@@ -52,6 +56,7 @@ use Rattle.guarantee.specs.Retries.{atTime, isPut, lineIn, sameFile}
 use Rattle.guarantee.proofs.Demands.{only-hub}
 use Rattle.guarantee.proofs.Bytes.{demand-3-bytes}
 use Rattle.guarantee.proofs.Retries.{sent-twice, sent-twice-bytes, sent-later}
+use Rattle.guarantee.proofs.Expiry.{sweeps-by-midnights-bytes}
 
 -- A call of a line with an answer buffer of zeros.
 abbrev asks : List ℕ → Call
@@ -179,6 +184,47 @@ pub record SentAgain : Type 0 where
   pub again-in-bytes : hubServed (byteStep (freshBytes oneRow) lockedPut) lockedPutAgain ≡ byteOutcome 0 (byteStep (freshBytes oneRow) lockedPut) (written (lineIn ((hubServed (freshBytes oneRow) lockedPut) .answer)) (replicate 300 10))
   pub printed-in-bytes : lineIn ((hubServed (freshBytes oneRow) lockedPut) .answer) ≡ bytes "ok\t1\n"
 
+-- ## Days that end at midnight
+
+-- A rule of three days for current versions and of two for others, and two versions of a file, the second of 2024-05-01T10:30:00Z.
+abbrev expiring : Bytes
+expiring =
+    left byteStep (freshBytes (asBytes (replicate settingsLength 90) (replicate 192 90) (replicate 192 90)))
+    (asks (bytes "2024-04-30T10:30:00Z\tc\tRULE\t0\tq/\t3\t2")
+    ∷ asks (bytes "2024-04-30T10:30:00Z\tw\tPUT\tq/7\t41\t300\t-\t-\t-")
+    ∷ asks (bytes "2024-05-01T10:30:00Z\tw\tPUT\tq/7\t42\t300\t-\t-\t-")
+    ∷ [])
+
+abbrev version : ℕ → ℕ → ℕ → Row
+version n created body = record { number = n; kind = 1; created = created; body = body; size = 300; mode = 0; until = 0; hold = 0; key = bytes "q/7" }
+
+abbrev older : Row
+older = version 1 1714473000000 41
+
+abbrev newer : Row
+newer = version 2 1714559400000 42
+
+-- A SWEEP with this clock, the line that it answers, and the rows that it leaves.
+abbrev sweepAt : List ℕ → Call
+sweepAt clock = asks (clock ++ bytes "\tc\tSWEEP")
+
+abbrev answerAt : List ℕ → List ℕ
+answerAt clock = lineIn ((hubServed expiring (sweepAt clock)) .answer)
+
+abbrev rowsAt : List ℕ → List Row
+rowsAt clock = bucketOf (lentOf (byteStep expiring (sweepAt clock))) .rows
+
+-- The older version goes at 2024-05-04T00:00:00Z, two days after the creation of the newer and rounded up; the newer is marked at 2024-05-05T00:00:00Z.
+pub record ByMidnights : Type 0 where
+  pub noncurrent-waits : answerAt (bytes "2024-05-03T23:59:59.999Z") ≡ bytes "ok\t0\t0\n"
+  pub noncurrent-gone : answerAt (bytes "2024-05-04T00:00:00Z") ≡ bytes "ok\t1\t0\n"
+  pub current-waits : answerAt (bytes "2024-05-04T23:59:59.999Z") ≡ bytes "ok\t1\t0\n"
+  pub current-marked : answerAt (bytes "2024-05-05T00:00:00Z") ≡ bytes "ok\t1\t1\n"
+  -- By the promise: what is there, what is gone, and what is current.
+  pub there : rowOf (rowsAt (bytes "2024-05-03T23:59:59.999Z")) (byNumber older) ≡ some older
+  pub gone : rowOf (rowsAt (bytes "2024-05-04T00:00:00Z")) (byNumber older) ≡ none
+  pub marked : (n : ℕ) × (rowOf (rowsAt (bytes "2024-05-05T00:00:00Z")) (byKey newer) ≡ some (marker 1714867200000 n (bytes "q/7")))
+
 -- ## The examples, computed
 
 pub record Examples : Type 0 where
@@ -190,6 +236,7 @@ pub record Examples : Type 0 where
   pub refused-9 : (hubServed (byteStep (freshBytes oneRow) lockedPut) (asks (bytes "2033-01-05T00:00:00.006Z\tdb\tDELETE\tq/7\t1\tyes"))) .number ≡ 9
   pub held-in-bytes : Held (bucketOf (lentOf (left byteStep (freshBytes oneRow) calls))) (byteEvents (freshBytes oneRow) calls) 1 (InCompliance 1988496000007)
   pub sent-again : SentAgain
+  pub by-midnights : ByMidnights
   pub no-first-line-only : Demand1 (firstLineOnly (lockedPut ∷ [])) withLocked hold → Demand2 (firstLineOnly (lockedPut ∷ [])) withLocked hold → ⊥
 
 pub examples : Examples
@@ -220,6 +267,18 @@ examples =
         no-row-left-in-bytes = refl;
         again-in-bytes = sent-twice-bytes (freshBytes oneRow) lockedPut lockedPutAgain refl refl (lit≤ tt);
         printed-in-bytes = refl;
+      };
+      by-midnights = record {
+        noncurrent-waits = refl;
+        noncurrent-gone = refl;
+        current-waits = refl;
+        current-marked = refl;
+        there = (sweeps-by-midnights-bytes expiring (sweepAt (bytes "2024-05-03T23:59:59.999Z")) 1714780799999 refl refl) .noncurrent-stays [] [] newer older refl refl
+            (λ h _. clash _ (expired-due _ noncurrent-acts (bytes "q/7") 1714559400000 1714780799999 _ h) refl);
+        gone = (sweeps-by-midnights-bytes expiring (sweepAt (bytes "2024-05-04T00:00:00Z")) 1714780800000 refl refl) .noncurrent-goes [] [] newer older refl refl
+            (record { place = 0; begins-key = refl; has-days = λ e. let z : _≡_ {A = ℕ} 2 0 = e in omega arith; has-come = record { at = 1714780800000; is-midnight = refl; no-earlier = lit≤ tt; no-later = lit≤ tt } }) refl;
+        marked = (sweeps-by-midnights-bytes expiring (sweepAt (bytes "2024-05-05T00:00:00Z")) 1714867200000 refl refl) .current-marked newer refl refl
+            (record { place = 0; begins-key = refl; has-days = λ e. let z : _≡_ {A = ℕ} 3 0 = e in omega arith; has-come = record { at = 1714867200000; is-midnight = refl; no-earlier = lit≤ tt; no-later = lit≤ tt } });
       };
       no-first-line-only = λ d e. let z : _≡_ {A = ℕ} 0 1 = ap (λ (o : Outcome). getD (o .bucket .numbers) 7 0) (only-hub (firstLineOnly (lockedPut ∷ [])) withLocked hold d e) in absurd (omega arith);
     }

@@ -11,4 +11,5 @@ pub mod Bytes
 pub mod Pages
 pub mod PagesFollowed
 pub mod Retries
+pub mod Expiry
 pub mod Examples

@@ -29,7 +29,7 @@ use Rattle.answers.specs.Text.{rowLine, pageText}
 use Rattle.answers.specs.Pages.{linesShown}
 use Rattle.answers.proofs.Pages.{line-fields, line-created, line-until, line-no-date, page-shows}
 use Rattle.outcome.specs.Calls.{Call, heard}
-use Rattle.outcome.specs.Outcome.{Outcome, written, outcome}
+use Rattle.outcome.specs.Outcome.{written, outcome}
 use Rattle.outcome.proofs.Demands.{accepted-request, outcome-number, accepted-of-whole}
 use Rattle.outcome.proofs.Kept.{model-accepts, accepted-bucket}
 use Rattle.guarantee.specs.Calls.{step}
@@ -86,7 +86,7 @@ listed b g p q n h v =
       rows-sound = s .rows-sound;
       few = leb-true (p .count) largestCount (and-r (leb 1 (p .count)) _ counted);
       answer-is = rw (does, v);
-      rows-stay = ap (λ (o : Outcome). bucketOf (o .bucket) .rows) does ∙ ap (λ (x : Bucket). x .rows) (accepted-bucket b g q w h z) ∙ rw v;
+      rows-stay = ap (λ (x : Bucket). x .rows) (accepted-bucket b g q w h z) ∙ rw v;
     }
 
 module _ {b : Lent} {g : Call} {p : Page} (a : Listed b g p) where

@@ -51,7 +51,7 @@ use Rattle.guarantee.specs.Bytes.{Sized, outcomeInBytes, byteStep}
 use Rattle.guarantee.specs.Exchanges.{exchange, byteExchange, sentField}
 use Rattle.guarantee.specs.Retries.{atTime, writtenChecks, Retried, RetryAddsNone, OtherPutMakes, isPut, lineIn, SentTwice, SentTwiceBytes, SentLater, withTimeOf, SentLaterBytes}
 use Rattle.guarantee.proofs.Said.{Read, accepted-read, read-field, read-same}
-use Rattle.guarantee.proofs.Bytes.{accepted-sized, same-number, accepted-bytes, same-exchange, sized-after, spelled-after}
+use Rattle.guarantee.proofs.Bytes.{accepted-sized, same-number, accepted-bytes, served-spelled, sized-after, spelled-after}
 
 -- ## An accepted call, by what it means
 
@@ -154,7 +154,7 @@ module _ (b : Lent) (g : Call) (who : Context) (k : List ℕ) (body size : ℕ) 
   does = accepted-request b g q h refusal-0
 
   bucket-is : bucketOf (step b g) ≡ after (bucketOf b) (meaning (bucketOf b) q)
-  bucket-is = ap (λ (o : Outcome). bucketOf (o .bucket)) does ∙ accepted-bucket b g q is-whole h refusal-0
+  bucket-is = accepted-bucket b g q is-whole h refusal-0
 
   size-is : capacity ((step b g) .keys) ≡ capacity (b .keys)
   size-is = ap (λ (o : Outcome). capacity (o .bucket .keys)) does ∙ accepted-capacity (b .keys) _
@@ -274,7 +274,7 @@ module _ (b : Bytes) (g again : Call) (e : isPut (byteExchange b g) ≡ true) wh
   first-bytes = accepted-bytes c b g sized (sym (same-number c b g sized) ∙ number-0)
 
   first-put : isPut (exchange (lentOf b) g) ≡ true
-  first-put = sym (ap isPut (same-exchange c b g sized)) ∙ e
+  first-put = served-spelled b g (bytes "PUT") e
 
   -- What the second comes to on what the bytes spell, it comes to on the bytes.
   second-bytes : (o : Outcome) → o .number ≡ 0 → outcome (step (lentOf b) g) again ≡ o → hubServed (byteStep b g) again ≡ outcomeInBytes o

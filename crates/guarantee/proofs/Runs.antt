@@ -48,7 +48,7 @@ module _ (c : ℕ) (b : Lent) (g : Call) (w : Whole c b) where
       let m = meaning x q in
       record {
         size = rw (step, a .does) (accepted-capacity (b .keys) _ ∙ w .size);
-        bucket-is = rw (← same-refusal, z, step, a .does, a .hears) (accepted-bucket b g q (w .is-whole) (a .hears) z);
+        bucket-is = rw (← same-refusal, z, step, a .hears) (accepted-bucket b g q (w .is-whole) (a .hears) z);
         event-is = rw (← same-refusal, z, a .does, a .hears)
             (ap (λ (f : ℕ → Bool). record { before = x; request = m; answered = f } ∷ []) (fun-ext (answered-is x (nowOf x (q .context)) (q .context .who) (m .verb) (g .answer))));
       }

@@ -1,6 +1,9 @@
 -- What a caller sees of a call: what it sent, what it got back, and the answer buffer.
 use Prim.Native.Nat.{ℕ}
+use mathlib.Core.Bool.{Bool, _&&_}
 use mathlib.Core.List.{List, [], _∷_}
+use lib.Dec.{eqb}
+use Rattle.buffers.specs.Lists.{same}
 use Rattle.text.specs.Fields.{fieldOf}
 use Rattle.model.specs.Run.{gathered}
 use Rattle.bucket.specs.Whole.{Lent}
@@ -33,3 +36,7 @@ byteExchanges b gs = gathered byteStep (λ b g. byteExchange b g ∷ []) b gs
 -- A field of a line that was sent.
 abbrev pub sentField : Sent → ℕ → List ℕ
 sentField (line s) i = fieldOf s i
+
+-- A line of this verb was sent, and accepted.
+abbrev pub isServed : List ℕ → Exchange → Bool
+isServed verb e = eqb (e .number) 0 && same (sentField (e .sent) 2) verb

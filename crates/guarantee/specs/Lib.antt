@@ -5,3 +5,4 @@ pub mod Bytes
 pub mod Exchanges
 pub mod Pages
 pub mod Retries
+pub mod Expiry

@@ -3,7 +3,7 @@ use Prim.Native.Nat.{ℕ, _≤_}
 use mathlib.Core.Path.{_≡_}
 use mathlib.Core.Bool.{Bool, true, not, _&&_}
 use mathlib.Core.List.{List, [], _∷_, _++_}
-use lib.Dec.{eqb, ltb}
+use lib.Dec.{ltb}
 use lib.ListN.{length, take, drop}
 use Rattle.buffers.specs.Lists.{same}
 use Rattle.buffers.specs.Texts.{bytes}
@@ -26,7 +26,7 @@ use Rattle.outcome.specs.Outcome.{written, answeredBy, outcome}
 use Rattle.knitpasture.specs.Bytes.{Bytes, asBytes, byteOutcome, hubServed}
 use Rattle.guarantee.specs.Calls.{step, callEvent}
 use Rattle.guarantee.specs.Bytes.{byteStep}
-use Rattle.guarantee.specs.Exchanges.{Exchange, exchange, byteExchange, sentField}
+use Rattle.guarantee.specs.Exchanges.{Exchange, exchange, byteExchange, sentField, isServed}
 
 -- The bucket at another time, all else as it is.
 abbrev pub atTime : Lent → ℕ → Lent
@@ -71,7 +71,7 @@ OtherPutMakes = (b : Lent) (g : Call) (q : Request) (k : List ℕ) (body size : 
 
 -- PUT was sent, and accepted.
 abbrev pub isPut : Exchange → Bool
-isPut e = eqb (e .number) 0 && same (sentField (e .sent) 2) (bytes "PUT")
+isPut e = isServed (bytes "PUT") e
 
 -- The line that stands at an answer buffer's start, with its line feed.
 abbrev pub lineIn : List ℕ → List ℕ

@@ -11,7 +11,8 @@ use Rattle.buffers.specs.Lists.{all}
 use Rattle.buffers.proofs.Choices.{pick-ways}
 use Rattle.buffers.proofs.Tests.{either, clash, and-l, and-r}
 use Rattle.buffers.proofs.Lists.{all-as, all-keep}
-use Rattle.calendar.specs.Periods.{expiresAt}
+use Rattle.calendar.specs.Periods.{dayStart, expiresAt}
+use Rattle.calendar.proofs.Periods.{more-days, expired-today}
 use Rattle.model.specs.Settings as model
 use Rattle.model.specs.Sweep.{applying, due}
 use Rattle.lifecycle.specs.declared.Limits.{Limits}
@@ -45,10 +46,10 @@ module _ (s t : ℕ) where
 
   -- Fewer days are over no later.
   over-fewer : (a b : ℕ) → eqb a 0 ≡ false → a ≤ b → over b s t ≡ true → over a s t ≡ true
-  unfolding over expiresAt
+  unfolding over
   over-fewer a b h k e =
       let g : expiresAt s b ≤ t = leb-true _ _ (and-r (not (eqb b 0)) _ (over-some b ∙ e)) in
-      rw h (le-leb (expiresAt s a) t (omega arith))
+      rw h (le-leb (expiresAt s a) t (omega (arith, more-days s a b k)))
 
   over-lesser : (a b : ℕ) → over a s t || over b s t ≡ over (lesser a b) s t
   over-lesser a b =
@@ -62,8 +63,10 @@ module _ (s t : ℕ) where
   due-least days [] = sym (over-none 0 refl)
   due-least days (u ∷ us) = ap₂ (λ (a b : Bool). a || b) (over-some (days u)) (due-least days us) ∙ over-lesser (days u) (least days us)
 
-pub over-last : (s t d r : ℕ) → r ≡ expiresAt s d → leb r t ≡ leb (expiresAt s d) t
-over-last s t d r e = rw e
+-- Days that are over were over at the midnight at which the day began.
+pub over-today : (d s t m : ℕ) → m ≡ dayStart t → over d s m ≡ over d s t
+unfolding over
+over-today d s t m e = rw (e, expired-today s d t)
 
 -- ## Few days
 

@@ -10,7 +10,7 @@ use borrow.Author.Tests.{ne-eqb}
 use Rattle.buffers.proofs.Tests.{either}
 use Rattle.model.specs.Rows.{Row}
 use Rattle.model.specs.Settings.{Rule}
-use Rattle.model.proofs.Room.{each-fate}
+use Rattle.model.proofs.Sweeping.{each-fate}
 use Rattle.model.specs.Sweep.{Fate, stays, goes, gains, marks, removes, fates, total}
 use Rattle.lifecycle.specs.Fates.{fateByte, fateBytes, fatesAfter, fateOf, fatesIn}
 use native.Mathlib.Numerals.{add-one}

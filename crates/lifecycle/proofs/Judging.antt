@@ -12,6 +12,8 @@ use borrow.Author.Tests.{ne-eqb}
 use Rattle.buffers.specs.Lists.{all, keep, same}
 use Rattle.buffers.proofs.Lists.{same-path}
 use Rattle.buffers.proofs.Parts.{part-cut, part-first}
+use Rattle.calendar.specs.Periods.{dayStart}
+use Rattle.calendar.proofs.Periods.{start-midnight}
 use Rattle.blocks.specs.Blocks.{keyIn, isBlock}
 use Rattle.blocks.proofs.Blocks.{block-short}
 use Rattle.model.specs.Settings as model
@@ -92,9 +94,9 @@ module _ (us : List model.Rule) (n b : List ℕ) (i : ℕ) (near periods : List 
     pub known-most : all fewDays us ≡ true → r ≡ true → l .limits .noncurrent ≤ 36500
     known-most h t = noncurrent-most us (keyAt b i) (l .limits) h (known-here us n b i (l .limits) (k .known) (sym e ∙ t))
 
-    pub judged-later : (t : ℕ) (m : List ℕ) (f : ℕ) → r ≡ true → ((z : List ℕ) → f ≡ fateByte (noncurrentBy (l .limits .noncurrent) (rowAt n z (i - 1) .created) t (rowAt n z i)))
+    pub judged-later : (t u : ℕ) (m : List ℕ) (f : ℕ) → u ≡ dayStart t → r ≡ true → ((z : List ℕ) → f ≡ fateByte (noncurrentBy (l .limits .noncurrent) (rowAt n z (i - 1) .created) t u (rowAt n z i)))
         → JudgedRow us t n b i near periods m (set m i f) l
-    judged-later t m f q g =
+    judged-later t u m f d q g =
         let o = known-here us n b i (l .limits) (k .known) (sym e ∙ q) in
         record {
           stored = ap (set m i) (g b ∙ ap fateByte (later-fate i (sym e ∙ q) o));
@@ -104,20 +106,20 @@ module _ (us : List model.Rule) (n b : List ℕ) (i : ℕ) (near periods : List 
         }
       where
         later-fate : (j : ℕ) → sameKey b j ≡ true → l .limits ≡ limitsOf us (keyAt b j)
-            → noncurrentBy (l .limits .noncurrent) (rowAt n b (j - 1) .created) t (rowAt n b j) ≡ fate us t (rowBefore n b j) (rowAt n b j)
+            → noncurrentBy (l .limits .noncurrent) (rowAt n b (j - 1) .created) t u (rowAt n b j) ≡ fate us t (rowBefore n b j) (rowAt n b j)
         later-fate zero q o = absurd (false≢true (sym (same-none b) ∙ q))
         later-fate (suc j) q o =
             let s : same (keyAt b j) (keyAt b (suc j)) ≡ true = sym (same-some b j) ∙ q in
             let p : suc j - 1 ≡ j = omega arith in
-            rw (p, o, s) (noncurrent-is us t (rowAt n b j) (rowAt n b (suc j)))
+            rw (p, o, s) (noncurrent-is us t u d (rowAt n b j) (rowAt n b (suc j)))
 
 module _ (us : List model.Rule) (n b : List ℕ) (i : ℕ) (near periods : List ℕ) (l : KeyRules) (k : RulesFor us (keyAt b i) near periods l) where
   pub first-most : all fewDays us ≡ true → l .limits .current ≤ 36500
   first-most h = current-most us (keyAt b i) (l .limits) h (k .limits-are)
 
-  pub judged-first : (r : Bool) (t : ℕ) (m : List ℕ) (f : ℕ) → r ≡ sameKey b i → r ≡ false → ((z : List ℕ) → f ≡ fateByte (currentBy (l .limits .current) t (rowAt n z i)))
+  pub judged-first : (r : Bool) (t u : ℕ) (m : List ℕ) (f : ℕ) → u ≡ dayStart t → r ≡ sameKey b i → r ≡ false → ((z : List ℕ) → f ≡ fateByte (currentBy (l .limits .current) u (rowAt n z i)))
       → JudgedRow us t n b i near periods m (set m i f) l
-  judged-first r t m f e q g =
+  judged-first r t u m f d e q g =
       record {
         stored = ap (set m i) (g b ∙ ap fateByte (first-fate i (sym e ∙ q) (k .limits-are)));
         last = record { known = k .limits-are; chosen-by = k .chosen-by };
@@ -125,13 +127,13 @@ module _ (us : List model.Rule) (n b : List ℕ) (i : ℕ) (near periods : List 
         periods-long = k .periods-long;
       }
     where
-      first-fate : (j : ℕ) → sameKey b j ≡ false → l .limits ≡ limitsOf us (keyAt b j) → currentBy (l .limits .current) t (rowAt n b j) ≡ fate us t (rowBefore n b j) (rowAt n b j)
-      first-fate zero e x = rw x (current-is us t (rowAt n b 0))
+      first-fate : (j : ℕ) → sameKey b j ≡ false → l .limits ≡ limitsOf us (keyAt b j) → currentBy (l .limits .current) u (rowAt n b j) ≡ fate us t (rowBefore n b j) (rowAt n b j)
+      first-fate zero e x = rw x (current-is us t u d (rowAt n b 0))
       first-fate (suc j) e x =
           let s : same (keyAt b j) (keyAt b (suc j)) ≡ false = sym (same-some b j) ∙ e in
-          rw (x, s) (current-is us t (rowAt n b (suc j)))
+          rw (x, s) (current-is us t u d (rowAt n b (suc j)))
 
-pub ruleset row-cases = (later, own-length, keys-ready, own-dated, newer-dated, known-most, first-most, judged-later, judged-first)
+pub ruleset row-cases = (start-midnight, later, own-length, keys-ready, own-dated, newer-dated, known-most, first-most, judged-later, judged-first)
 
 -- ## The rows of the buffers
 

@@ -7,6 +7,7 @@ use lib.ListN.{take, drop}
 use borrow.Author.Tests.{eq-eqb, ne-eqb}
 use Rattle.buffers.specs.Choices.{pick}
 use Rattle.calendar.specs.Calendar.{latest}
+use Rattle.calendar.specs.Periods.{dayStart}
 use Rattle.model.specs.Rows.{Row, isData}
 use Rattle.model.specs.Settings as model
 use Rattle.model.specs.Locks.{locked}
@@ -17,7 +18,7 @@ use Rattle.table.specs.declared.Numbers.{Numbers}
 use Rattle.lifecycle.specs.Least.{limitsOf}
 use Rattle.lifecycle.specs.Days.{over}
 use Rattle.lifecycle.specs.Judging.{currentBy, noncurrentBy, Dated}
-use Rattle.lifecycle.proofs.Days.{due-least}
+use Rattle.lifecycle.proofs.Days.{due-least, over-today}
 use Rattle.lifecycle.proofs.Fates.{bytes-of}
 
 -- ## A row's fate by the least days
@@ -31,14 +32,18 @@ but-picks true true x y = refl
 but-picks true false x y = refl
 but-picks false b x y = refl
 
-pub current-is : (us : List model.Rule) (t : ℕ) (x : Row) → currentBy (limitsOf us (x .key) .current) t x ≡ currentFate (applying us (x .key)) t x
-unfolding currentBy limitsOf
-current-is us t x = rw (due-least (x .created) t (λ u. u .currentDays) (applying us (x .key))) (both-picks (isData x) (over (limitsOf us (x .key) .current) (x .created) t) gains stays)
+module _ (us : List model.Rule) (t m : ℕ) (e : m ≡ dayStart t) where
+  pub current-is : (x : Row) → currentBy (limitsOf us (x .key) .current) m x ≡ currentFate (applying us (x .key)) t x
+  unfolding currentBy limitsOf
+  current-is x =
+      rw (over-today (limitsOf us (x .key) .current) (x .created) t m e, due-least (x .created) t (λ u. u .currentDays) (applying us (x .key)))
+      (both-picks (isData x) (over (limitsOf us (x .key) .current) (x .created) t) gains stays)
 
-pub noncurrent-is : (us : List model.Rule) (t : ℕ) (y x : Row)
-    → noncurrentBy (limitsOf us (x .key) .noncurrent) (y .created) t x ≡ noncurrentFate (applying us (x .key)) t y x
-unfolding noncurrentBy limitsOf
-noncurrent-is us t y x = rw (due-least (y .created) t (λ u. u .noncurrentDays) (applying us (x .key))) (but-picks (over (limitsOf us (x .key) .noncurrent) (y .created) t) (locked t false x) goes stays)
+  pub noncurrent-is : (y x : Row) → noncurrentBy (limitsOf us (x .key) .noncurrent) (y .created) t m x ≡ noncurrentFate (applying us (x .key)) t y x
+  unfolding noncurrentBy limitsOf
+  noncurrent-is y x =
+      rw (over-today (limitsOf us (x .key) .noncurrent) (y .created) t m e, due-least (y .created) t (λ u. u .noncurrentDays) (applying us (x .key)))
+      (but-picks (over (limitsOf us (x .key) .noncurrent) (y .created) t) (locked t false x) goes stays)
 
 -- ## The ways through current_fate and noncurrent_fate
 
@@ -65,11 +70,11 @@ module _ (n : List ℕ) (i : ℕ) (m : Numbers) (e : m ≡ numbersIn (take 8 (dr
 
 pub ruleset current-cases = (bytes-of, dated, current-marker, current-over, current-early)
 
-module _ (n : List ℕ) (i : ℕ) (p : Numbers) (f : p ≡ numbersIn (take 8 (drop (8 * (i - 1)) n))) (d t : ℕ) (b : List ℕ) (r : Bool) (o : r ≡ over d (p .created) t) where
-  over-at : over d (rowAt n b (i - 1) .created) t ≡ r
+module _ (n : List ℕ) (i : ℕ) (p : Numbers) (f : p ≡ numbersIn (take 8 (drop (8 * (i - 1)) n))) (d t u : ℕ) (b : List ℕ) (r : Bool) (o : r ≡ over d (p .created) u) where
+  over-at : over d (rowAt n b (i - 1) .created) u ≡ r
   over-at = sym (o ∙ rw f)
 
-  pub noncurrent-early : r ≡ false → stays ≡ noncurrentBy d (rowAt n b (i - 1) .created) t (rowAt n b i)
+  pub noncurrent-early : r ≡ false → stays ≡ noncurrentBy d (rowAt n b (i - 1) .created) t u (rowAt n b i)
   unfolding noncurrentBy
   noncurrent-early q = sym (rw (over-at ∙ q))
 
@@ -77,11 +82,11 @@ module _ (n : List ℕ) (i : ℕ) (p : Numbers) (f : p ≡ numbersIn (take 8 (dr
     locked-at : locked t false (rowAt n b i) ≡ s
     locked-at = sym (g (keyAt b i) ∙ rw e)
 
-    pub noncurrent-locked : s ≡ true → stays ≡ noncurrentBy d (rowAt n b (i - 1) .created) t (rowAt n b i)
+    pub noncurrent-locked : s ≡ true → stays ≡ noncurrentBy d (rowAt n b (i - 1) .created) t u (rowAt n b i)
     unfolding noncurrentBy
     noncurrent-locked z = sym (simp (over-at ∙ q, locked-at ∙ z))
 
-    pub noncurrent-gone : s ≡ false → goes ≡ noncurrentBy d (rowAt n b (i - 1) .created) t (rowAt n b i)
+    pub noncurrent-gone : s ≡ false → goes ≡ noncurrentBy d (rowAt n b (i - 1) .created) t u (rowAt n b i)
     unfolding noncurrentBy
     noncurrent-gone z = sym (simp (over-at ∙ q, locked-at ∙ z))
 

@@ -1,4 +1,4 @@
--- 01, SWEEP: days that are over.
+-- 01, SWEEP: days that are over, that is, have expired.
 use Prim.Native.Nat.{ℕ}
 use mathlib.Core.Bool.{Bool, false, _&&_}
 use lib.Dec.{eqb, leb}

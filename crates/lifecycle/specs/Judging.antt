@@ -29,13 +29,13 @@ use Rattle.lifecycle.specs.Fates.{fateByte, fatesAfter, fatesIn}
 
 -- ## A row's fate by its key's days
 
--- a current row's
+-- a current row's; the midnight is the one at which the day began
 unfoldable pub currentBy : ℕ → ℕ → Row → Fate
-currentBy days now x = pick (isData x) (pick (over days (x .created) now) gains stays) stays
+currentBy days midnight x = pick (isData x) (pick (over days (x .created) midnight) gains stays) stays
 
--- the fate of a row that isn't current; `since` is the creation of the next newer row
-unfoldable pub noncurrentBy : ℕ → ℕ → ℕ → Row → Fate
-noncurrentBy days since now x = pick (over days since now) (pick (locked now false x) stays goes) stays
+-- the fate of a row that isn't current; `since` is the creation of the next newer row, the midnight decides its days, now its lock
+unfoldable pub noncurrentBy : ℕ → ℕ → ℕ → ℕ → Row → Fate
+noncurrentBy days since now midnight x = pick (over days since midnight) (pick (locked now false x) stays goes) stays
 
 -- ## A row of the buffers
 

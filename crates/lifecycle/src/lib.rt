@@ -6,11 +6,12 @@ ghost use mathlib.Core.Path.{_≡_};
 ghost use mathlib.Core.Bool.{true};
 ghost use mathlib.Core.List.{List};
 ghost use mathlib.Core.Option.{none};
-ghost use Prim.Native.Nat.{ℕ, _+_, _-_, _*_, _≤_, _<_};
+ghost use Prim.Native.Nat.{ℕ, _+_, _-_, _*_, _%_, _≤_, _<_};
 ghost use lib.ListN.{length};
 ghost use Rattle.buffers.specs.Lists.{all, same};
 ghost use Rattle.buffers.specs.Ranges.{Within};
-ghost use Rattle.calendar.specs.Calendar.{latest};
+ghost use Rattle.calendar.specs.Calendar.{latest, day};
+ghost use Rattle.calendar.specs.Periods.{dayStart};
 ghost use Rattle.blocks.specs.Blocks.{keyIn, isBlock};
 ghost use Rattle.model.specs.Sweep.{marks, removes};
 ghost use Rattle.settings.specs.Meaning.{rulesMean};
@@ -44,40 +45,40 @@ pub struct Counts {
     pub added: usize,
 }
 
-// The days stand for an action, and they are over since an instant.
-fn is_over(days: u64, since: u64, instant: u64) -> bool
-    requires { ⌜ (since ≤ latest) × (days ≤ 36500) ⌝ }
-    ensures { λ r. ⌜ r ≡ over days since instant ⌝ }
+// The days stand for an action, and by this midnight they have expired since an instant.
+fn is_over(days: u64, since: u64, midnight: u64) -> bool
+    requires { ⌜ (since ≤ latest) × (days ≤ 36500) × (midnight % day ≡ 0) ⌝ }
+    ensures { λ r. ⌜ r ≡ over days since midnight ⌝ }
 {
     if days == 0 {
         return false;
     }
-    calendar::expiry(since, days) <= instant
+    calendar::has_expired(since, days, midnight)
 }
 
 // The fate of the current row at a position, by its key's days.
-fn current_fate(rows: &[u64], at: usize, days: u64, instant: u64) -> u8
-    requires { ⌜ Dated (now rows) at × (days ≤ 36500) ⌝ }
-    ensures { λ r. ⌜ ((keys : List ℕ) → r ≡ fateByte (currentBy days instant (rowAt (now (rows .entry)) keys at))) ⌝ }
+fn current_fate(rows: &[u64], at: usize, days: u64, midnight: u64) -> u8
+    requires { ⌜ Dated (now rows) at × (days ≤ 36500) × (midnight % day ≡ 0) ⌝ }
+    ensures { λ r. ⌜ ((keys : List ℕ) → r ≡ fateByte (currentBy days midnight (rowAt (now (rows .entry)) keys at))) ⌝ }
 {
     let n = table::numbers_at(rows, at);
     if n.kind != model::DATA {
         return model::STAYS;
     }
-    if is_over(days, n.created, instant) {
+    if is_over(days, n.created, midnight) {
         return model::GAINS;
     }
     model::STAYS
 }
 
 // The fate of a row that isn't current, by its key's days since the creation of the next newer row, the one before it.
-fn noncurrent_fate(rows: &[u64], at: usize, days: u64, instant: u64) -> u8
-    requires { ⌜ (1 ≤ at) × Dated (now rows) (at - 1) × Dated (now rows) at × (days ≤ 36500) ⌝ }
-    ensures { λ r. ⌜ ((keys : List ℕ) → r ≡ fateByte (noncurrentBy days (rowAt (now (rows .entry)) keys (at - 1) .created) instant (rowAt (now (rows .entry)) keys at))) ⌝ }
+fn noncurrent_fate(rows: &[u64], at: usize, days: u64, instant: u64, midnight: u64) -> u8
+    requires { ⌜ (1 ≤ at) × Dated (now rows) (at - 1) × Dated (now rows) at × (days ≤ 36500) × (midnight % day ≡ 0) ⌝ }
+    ensures { λ r. ⌜ ((keys : List ℕ) → r ≡ fateByte (noncurrentBy days (rowAt (now (rows .entry)) keys (at - 1) .created) instant midnight (rowAt (now (rows .entry)) keys at))) ⌝ }
 {
     let n = table::numbers_at(rows, at);
     let newer = table::numbers_at(rows, at - 1);
-    if is_over(days, newer.created, instant) {
+    if is_over(days, newer.created, midnight) {
         if locks::is_locked(n, instant, false) {
             return model::STAYS;
         }
@@ -116,7 +117,7 @@ fn same_key(keys: &[u8], at: usize) -> bool
     same_block(&keys[before..own], &keys[own..end])
 }
 
-// Judges the row at a position, and returns what the rules set for its key; `last` is that of the row before.
+// Judges the row at a position on the day that begins at `midnight`, and returns what the rules set for its key; `last` is that of the row before.
 fn judge_row(
     rows: &[u64],
     keys: &[u8],
@@ -127,24 +128,25 @@ fn judge_row(
     periods: &mut [u64],
     last: KeyRules,
     instant: u64,
+    midnight: u64,
     fates: &mut [u8],
 ) -> KeyRules
-    requires { ⌜ Readable (now rows) (now keys) (at + 1) × Rules (now prefixes) (now days) 8 × (at < length (now fates)) ⌝ }
+    requires { ⌜ Readable (now rows) (now keys) (at + 1) × Rules (now prefixes) (now days) 8 × (at < length (now fates)) × (midnight ≡ dayStart instant) ⌝ }
     requires { ⌜ all fewDays (rulesIn (now prefixes) (now days) 8) ≡ true ⌝ }
     requires { ⌜ LastRules (rulesIn (now prefixes) (now days) 8) (rowBefore (now rows) (now keys) at) (now near) (now periods) last ⌝ }
     ensures { λ r. ⌜ JudgedRow (rulesIn (now (prefixes .entry)) (now (days .entry)) 8) instant (now (rows .entry)) (now (keys .entry)) at (now (near .exit)) (now (periods .exit)) (now (fates .entry)) (now (fates .exit)) r ⌝ }
 {
     if same_key(keys, at) {
-        fates[at] = noncurrent_fate(rows, at, last.limits.noncurrent, instant);
+        fates[at] = noncurrent_fate(rows, at, last.limits.noncurrent, instant, midnight);
         return last;
     }
     let chosen = last.chosen;
     let own = rules::rules_for(prefixes, days, keys, at, near, periods, chosen);
-    fates[at] = current_fate(rows, at, own.limits.current, instant);
+    fates[at] = current_fate(rows, at, own.limits.current, midnight);
     own
 }
 
-// Judges every row.
+// Judges every row on the day that begins at `midnight`.
 fn judge_rows(
     rows: &[u64],
     keys: &[u8],
@@ -155,9 +157,10 @@ fn judge_rows(
     periods: &mut [u64],
     start: KeyRules,
     instant: u64,
+    midnight: u64,
     fates: &mut [u8],
 )
-    requires { ⌜ Readable (now rows) (now keys) used × Rules (now prefixes) (now days) 8 × (used ≤ length (now fates)) ⌝ }
+    requires { ⌜ Readable (now rows) (now keys) used × Rules (now prefixes) (now days) 8 × (used ≤ length (now fates)) × (midnight ≡ dayStart instant) ⌝ }
     requires { ⌜ all fewDays (rulesIn (now prefixes) (now days) 8) ≡ true ⌝ }
     requires { ⌜ LastRules (rulesIn (now prefixes) (now days) 8) none (now near) (now periods) start ⌝ }
     ensures { λ _. ⌜ JudgedAll (rulesIn (now (prefixes .entry)) (now (days .entry)) 8) instant (rowsOf (now (rows .entry)) (now (keys .entry)) used) used (now (fates .entry)) (now (fates .exit)) ⌝ }
@@ -175,6 +178,7 @@ fn judge_rows(
             periods,
             last,
             instant,
+            midnight,
             fates,
         );
         i += 1;
@@ -232,7 +236,7 @@ fn count(fates: &[u8], used: usize) -> Counts
     Counts { removed, added }
 }
 
-// Judges every row, each key's rules once, and counts.
+// Judges every row, each key's rules once, and counts. The day's midnight stands for all of its instants, so that no row's days are rounded by a division.
 pub fn judge_table(
     rows: &[u64],
     keys: &[u8],
@@ -245,6 +249,7 @@ pub fn judge_table(
     requires { ⌜ used ≤ length (now fates) ⌝ }
     ensures { λ r. ⌜ JudgedRows (rulesMean rules) instant (rowsOf (now (rows .entry)) (now (keys .entry)) used) used (now (fates .entry)) (now (fates .exit)) r ⌝ }
 {
+    let midnight = calendar::day_start(instant);
     let mut prefixes = rules::no_prefixes();
     let mut days = rules::no_days();
     rules::lay_rules(rules, &mut prefixes, &mut days);
@@ -268,6 +273,7 @@ pub fn judge_table(
         &mut periods,
         start,
         instant,
+        midnight,
         fates,
     );
     count(fates, used)

@@ -8,6 +8,7 @@ use lib.Dec.{lit<}
 use lib.ListN.{take}
 use Rattle.buffers.specs.Texts.{bytes}
 use Rattle.text.specs.Keys.{isKeyByte, isKey, isPrefix}
+use Rattle.calendar.specs.Calendar.{day}
 use Rattle.calendar.specs.Periods.{periodEnd, expiresAt}
 use Rattle.model.specs.Rows.{governance, compliance, soundRow}
 use Rattle.model.specs.Settings.{fresh, days, soundRules, soundConfig, fits, sound}
@@ -84,14 +85,19 @@ pub record Starred : Type 0 where
 
 -- ## SWEEP
 
--- SWEEP at creation plus current days marks; 1 ms before, it doesn't.
-abbrev sweptAt : ℕ → List Reply
-sweptAt t =
+-- A rule of three days for current rows and of two for others, two versions created a day apart, and a SWEEP at t.
+abbrev sweptAt : ℕ → ℕ → List Reply
+sweptAt created t =
     replies 4 fresh
-    (line 1 (Set (LifecycleRule 0 (record { prefix = bytes "q/"; currentDays = 1; noncurrentDays = 0 })))
-    ∷ line 1 (Put key 41 300 plain)
+    (line created (Set (LifecycleRule 0 (record { prefix = bytes "q/"; currentDays = 3; noncurrentDays = 2 })))
+    ∷ line created (Put key 41 300 plain)
+    ∷ line (created + day) (Put key 42 300 plain)
     ∷ line t Sweep
     ∷ [])
+
+-- Its answer, after those of the three lines before it.
+abbrev answeringSweep : ℕ → ℕ → List Reply
+answeringSweep gone come = ok done ∷ ok (made (numbered 1)) ∷ ok (made (numbered 2)) ∷ ok (sweptCounts gone come) ∷ []
 
 -- ## A retry
 
@@ -137,8 +143,14 @@ pub record Examples : Type 0 where
       ∷ no 8
       ∷ []
   pub starred : Starred
-  pub sweep-marks : sweptAt 86400001 ≡ ok done ∷ ok (made (numbered 1)) ∷ ok (sweptCounts 0 1) ∷ []
-  pub sweep-waits : sweptAt 86400000 ≡ ok done ∷ ok (made (numbered 1)) ∷ ok (sweptCounts 0 0) ∷ []
+  -- The second version is created 2024-05-01T10:30:00Z: the first goes from 2024-05-04T00:00:00Z on, and it is marked from 2024-05-05T00:00:00Z on.
+  pub noncurrent-waits : sweptAt 1714473000000 1714780799999 ≡ answeringSweep 0 0
+  pub noncurrent-gone : sweptAt 1714473000000 1714780800000 ≡ answeringSweep 1 0
+  pub current-waits : sweptAt 1714473000000 1714867199999 ≡ answeringSweep 1 0
+  pub current-marked : sweptAt 1714473000000 1714867200000 ≡ answeringSweep 1 1
+  -- Created 2024-05-01T00:00:00.000Z, it is marked three days later; created 1 ms after that, it isn't yet.
+  pub midnight-stays : sweptAt 1714435200000 1714780800000 ≡ answeringSweep 1 1
+  pub after-midnight : sweptAt 1714435200001 1714780800000 ≡ answeringSweep 1 0
   pub resent : repliesAgain 41 300 ≡ ok (made (numbered 1)) ∷ ok (repeated (numbered 1)) ∷ []
   pub another-body : repliesAgain 42 300 ≡ ok (made (numbered 1)) ∷ no 12 ∷ []
   pub another-length : repliesAgain 41 301 ≡ ok (made (numbered 1)) ∷ no 12 ∷ []
@@ -155,8 +167,12 @@ examples =
     record {
       whole-run = refl;
       starred = record { before-date = refl; at-date = refl; same-date = refl; earlier-date = refl; no-later-now = refl };
-      sweep-marks = refl;
-      sweep-waits = refl;
+      noncurrent-waits = refl;
+      noncurrent-gone = refl;
+      current-waits = refl;
+      current-marked = refl;
+      midnight-stays = refl;
+      after-midnight = refl;
       resent = refl;
       another-body = refl;
       another-length = refl;

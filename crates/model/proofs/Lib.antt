@@ -13,6 +13,7 @@ pub mod Pages
 pub mod Sound
 pub mod Retries
 pub mod Room
+pub mod Expiry
 pub mod Facts
 pub mod Examples
 pub mod Runs

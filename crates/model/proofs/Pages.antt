@@ -10,21 +10,19 @@ use lib.ListN.{take, drop, take-append-drop}
 use borrow.Author.Tests.{ne-eqb, lt-ltb}
 use Rattle.buffers.specs.Lists.{keep, all, same}
 use Rattle.buffers.proofs.Tests.{either, and-l, and-r}
-use Rattle.buffers.proofs.Lists.{keep-every, keep-nothing, keep-both, keep-keep, keep-narrower, all-true, all-as, all-middle, all-kept}
+use Rattle.buffers.proofs.Lists.{keep-append, keep-every, keep-nothing, keep-both, keep-keep, keep-narrower, all-true, all-as, all-middle, all-kept}
 use Rattle.model.specs.Rows.{Row, before, ahead, ordered}
 use Rattle.model.specs.Effects.{sameVersion}
 use Rattle.model.specs.Pages.{matches, comesAfter, rowsAfterPlace}
 use Rattle.model.proofs.Order.{ahead-trans, ahead-irrefl, ahead-asym, versionRow, ordered-keep}
-use Rattle.model.proofs.SoundRows.{version-refl, apart, others}
+use Rattle.model.proofs.SoundRows.{version-refl, others-before, others-behind}
 
 -- ## A row's key and number
 
 -- In a table in order a row alone has its key and number.
 pub version-once : (ys : List Row) (x : Row) (zs : List Row) → ordered (ys ++ x ∷ zs) ≡ true → keep (sameVersion x) (ys ++ x ∷ zs) ≡ x ∷ []
-version-once [] x zs o =
-    rw (version-refl x) (ap (λ (l : List Row). x ∷ l) (keep-nothing (sameVersion x) zs (others x zs (and-l _ _ o))))
-version-once (y ∷ ys) x zs o =
-    rw ((apart y x (all-middle (ahead y) ys x zs (and-l _ _ o))) .1) (version-once ys x zs (and-r (all (ahead y) (ys ++ x ∷ zs)) _ o))
+version-once ys x zs o =
+    rw (keep-append (sameVersion x) ys (x ∷ zs), keep-nothing (sameVersion x) ys (others-before ys x zs o), version-refl x, keep-nothing (sameVersion x) zs (others-behind ys x zs o))
 
 -- ## After a place
 

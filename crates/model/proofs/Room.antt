@@ -1,6 +1,6 @@
 -- How many rows a line leaves: the used ones, less those removed, plus those added.
-use Prim.Native.Nat.{ℕ, suc, _+_}
-use mathlib.Core.Path.{_≡_, refl, ap}
+use Prim.Native.Nat.{ℕ, _+_}
+use mathlib.Core.Path.{_≡_, refl}
 use mathlib.Core.Logic.{inl, inr}
 use mathlib.Core.Bool.{Bool, true, false, not, true≢false}
 use mathlib.Core.List.{List, [], _∷_}
@@ -17,6 +17,7 @@ use Rattle.model.specs.Requests.{name, Verb, Put, Copy, Retain, Hold, Ad
 use Rattle.model.specs.Sweep.{Fate, stays, goes, gains, inPlace, marks, removes, fates, total, carriedOut, swept, counted}
 use Rattle.model.specs.Effects.{rowOf, sameVersion, isNamed, insertByKey, added, removed, rowsAfter}
 use Rattle.model.specs.Refusals.{missing}
+use Rattle.model.proofs.Sweeping.{each-fate}
 use Rattle.model.proofs.SoundRows.{version-refl, apart, others}
 
 pub length-insert : (x : Row) (xs : List Row) → length (insertByKey x xs) ≡ length xs + 1
@@ -62,10 +63,6 @@ length-carried made n (f ∷ fs) (x ∷ xs) e =
     let rest = length-carried made (n + marks f) fs xs (omega arith) in
     let joined = length-append (inPlace f made n x) (carriedOut made (n + marks f) fs xs) in
     omega arith
-
-pub each-fate : (rules : List Rule) (now : ℕ) (y : Option Row) (xs : List Row) → length (fates rules now y xs) ≡ length xs
-each-fate rules now y [] = refl
-each-fate rules now y (x ∷ xs) = ap suc (each-fate rules now (some x) xs)
 
 pub length-swept : (rules : List Rule) (now : Now) (n : ℕ) (y : Option Row) (xs : List Row) → length (swept rules now n y xs) + counted removes rules (now .judge) y xs ≡ length xs + counted marks rules (now .judge) y xs
 length-swept rules now n y xs = length-carried (now .stamp) n (fates rules (now .judge) y xs) xs (each-fate rules (now .judge) y xs)

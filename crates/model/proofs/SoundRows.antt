@@ -3,7 +3,7 @@ use Prim.Native.Nat.{ℕ, _+_, _≤_, _<_}
 use mathlib.Core.Path.{_≡_, refl, sym}
 use mathlib.Core.Logic.{inl, inr}
 use mathlib.Core.Bool.{Bool, true, false, not, _&&_, _||_, true≢false}
-use mathlib.Core.List.{List, [], _∷_}
+use mathlib.Core.List.{List, [], _∷_, _++_}
 use mathlib.Core.Option.{Option, some, none}
 use native.Mathlib.Omega.{arith}
 use lib.Dec.{eqb, leb, ltb}
@@ -11,7 +11,7 @@ use borrow.Author.Tests.{eqb-true, eq-eqb, ne-eqb, ltb-true, ltb-false, leb-true
 use Rattle.buffers.specs.Choices.{pick, thenSome, isSome, orZero}
 use Rattle.buffers.specs.Lists.{all, first, change, same}
 use Rattle.buffers.proofs.Tests.{either, clash, and-i, and-l, and-r, or-l, or-r, or-one}
-use Rattle.buffers.proofs.Lists.{same-path, same-refl, all-as, all-first, all-change, all-both}
+use Rattle.buffers.proofs.Lists.{same-path, same-refl, all-as, all-first, all-middle, all-change, all-both}
 use Rattle.text.specs.Keys.{isKey}
 use Rattle.calendar.specs.Calendar.{latest}
 use Rattle.calendar.proofs.Periods.{period-positive}
@@ -214,6 +214,16 @@ apart x y e = (go (sameVersion x y) refl, back (sameVersion y x) refl)
 -- No row behind a row is of its key and number.
 pub others : (x : Row) (ys : List Row) → all (ahead x) ys ≡ true → all (λ y. not (sameVersion x y)) ys ≡ true
 others x = all-as (ahead x) (λ y. not (sameVersion x y)) (λ y d. rw ((apart x y d) .0))
+
+-- In an ordered table no other row is.
+pub others-before : (ys : List Row) (x : Row) (zs : List Row) → ordered (ys ++ x ∷ zs) ≡ true → all (λ y. not (sameVersion x y)) ys ≡ true
+others-before [] x zs o = refl
+others-before (y ∷ ys) x zs o =
+    rw ((apart y x (all-middle (ahead y) ys x zs (and-l _ _ o))) .1) (others-before ys x zs (and-r (all (ahead y) (ys ++ x ∷ zs)) _ o))
+
+pub others-behind : (ys : List Row) (x : Row) (zs : List Row) → ordered (ys ++ x ∷ zs) ≡ true → all (λ y. not (sameVersion x y)) zs ≡ true
+others-behind [] x zs o = others x zs (and-l _ _ o)
+others-behind (y ∷ ys) x zs o = others-behind ys x zs (and-r (all (ahead y) (ys ++ x ∷ zs)) _ o)
 
 -- What holds of a row that is found holds of each row of its key and number.
 all-named : (p q : Row → Bool) (xs : List Row) (x : Row) → ordered xs ≡ true → first p xs ≡ some x → q x ≡ true → all (λ y. not (sameVersion x y) || q y) xs ≡ true

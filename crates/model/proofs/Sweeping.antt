@@ -1,12 +1,14 @@
--- The sweep: what it adds passes the tests of a marker, and it keeps the table in order.
-use Prim.Native.Nat.{ℕ, _+_, _≤_, _<_}
-use mathlib.Core.Path.{_≡_, refl}
+-- The sweep: of one part of the table after the other, that what it adds passes the tests of a marker, and that it keeps the table in order.
+use Prim.Native.Nat.{ℕ, suc, _+_, _≤_, _<_}
+use mathlib.Core.Path.{_≡_, refl, sym, ap}
 use mathlib.Core.Logic.{_⊎_, inl, inr}
 use mathlib.Core.Bool.{Bool, true, false, not, _&&_}
-use mathlib.Core.List.{List, [], _∷_, _++_}
+use mathlib.Core.List.{List, [], _∷_, _++_, append-assoc}
 use mathlib.Core.Option.{Option, some}
 use native.Mathlib.Omega.{arith}
+use native.Mathlib.Nat.{add-zero, add-assoc}
 use lib.Dec.{ltb}
+use lib.ListN.{length}
 use borrow.Author.Tests.{ltb-true, lt-ltb}
 use Rattle.buffers.specs.Choices.{pick}
 use Rattle.buffers.specs.Lists.{all, same}
@@ -16,8 +18,41 @@ use Rattle.calendar.specs.declared.Now.{Now}
 use Rattle.model.specs.Rows.{Row, before, ahead, ordered}
 use Rattle.model.specs.Settings.{Rule}
 use Rattle.model.specs.Locks.{locked}
-use Rattle.model.specs.Sweep.{marker, applying, due, Fate, stays, goes, gains, fate, inPlace, marks, swept, counted}
+use Rattle.model.specs.Sweep.{marker, applying, due, Fate, stays, goes, gains, fate, inPlace, marks, fates, total, carriedOut, swept, counted}
 use Rattle.model.proofs.Order.{before-trans, ahead-trans}
+
+-- ## One part of the table after the other
+
+pub each-fate : (rules : List Rule) (now : ℕ) (y : Option Row) (xs : List Row) → length (fates rules now y xs) ≡ length xs
+each-fate rules now y [] = refl
+each-fate rules now y (x ∷ xs) = ap suc (each-fate rules now (some x) xs)
+
+-- The last of the rows, or the one before them if there are none.
+abbrev pub lastOf : Option Row → List Row → Option Row
+lastOf o [] = o
+lastOf o (x ∷ xs) = lastOf (some x) xs
+
+pub last-of : (o : Option Row) (xs : List Row) (x : Row) → lastOf o (xs ++ x ∷ []) ≡ some x
+last-of o [] x = refl
+last-of o (y ∷ ys) x = last-of (some y) ys x
+
+fates-append : (rules : List Rule) (now : ℕ) (o : Option Row) (xs ys : List Row) → fates rules now o (xs ++ ys) ≡ fates rules now o xs ++ fates rules now (lastOf o xs) ys
+fates-append rules now o [] ys = refl
+fates-append rules now o (x ∷ xs) ys = ap (λ (fs : List Fate). fate rules now o x ∷ fs) (fates-append rules now (some x) xs ys)
+
+pub carried-append : (t n : ℕ) (fs gs : List Fate) (xs ys : List Row) → length xs ≡ length fs
+    → carriedOut t n (fs ++ gs) (xs ++ ys) ≡ carriedOut t n fs xs ++ carriedOut t (n + total marks fs) gs ys
+carried-append t n [] gs [] ys e = let q : n + 0 ≡ n = add-zero n in rw q
+carried-append t n [] gs (x ∷ xs) ys e = absurd (omega arith)
+carried-append t n (f ∷ fs) gs [] ys e = absurd (omega arith)
+carried-append t n (f ∷ fs) gs (x ∷ xs) ys e =
+    rw (append-assoc, ← add-assoc) (ap (λ (l : List Row). inPlace f t n x ++ l) (carried-append t (n + marks f) fs gs xs ys (omega arith)))
+
+pub swept-append : (rules : List Rule) (now : Now) (n : ℕ) (o : Option Row) (xs ys : List Row)
+    → swept rules now n o (xs ++ ys) ≡ swept rules now n o xs ++ swept rules now (n + counted marks rules (now .judge) o xs) (lastOf o xs) ys
+swept-append rules now n o xs ys =
+    rw (fates-append rules (now .judge) o xs ys)
+    (carried-append (now .stamp) n (fates rules (now .judge) o xs) (fates rules (now .judge) (lastOf o xs) ys) xs ys (sym (each-fate rules (now .judge) o xs)))
 
 -- ## A test that every row passes
 

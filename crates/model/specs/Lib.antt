@@ -7,6 +7,7 @@ pub mod Time
 pub mod Locks
 pub mod Sweep
 pub mod Effects
+pub mod Expiry
 pub mod Retries
 pub mod Refusals
 pub mod Answers

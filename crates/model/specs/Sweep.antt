@@ -1,4 +1,4 @@
--- 01, SWEEP: what becomes of each row, judged on the table before the line, and what stands in its place after it.
+-- 01, SWEEP, and document 02, M-102: what becomes of each row, judged on the table before the line, and what stands in its place after it.
 use Prim.Native.Nat.{ℕ, _+_}
 use mathlib.Core.Bool.{Bool, false, not, _&&_}
 use mathlib.Core.List.{List, [], _∷_, _++_}
@@ -20,7 +20,7 @@ marker created n k = record { number = n; kind = 2; created = created; body = 0;
 abbrev pub applying : List Rule → List ℕ → List Rule
 applying rules k = keep (λ u. isSet u && begins (u .prefix) k) rules
 
--- By any of these rules now is at least the instant plus the rule's days, of which 0 stand for no action.
+-- By any of these rules its days have expired since an instant: now is at least their sum, rounded up to the next midnight UTC; 0 days stand for no action.
 abbrev pub due : (Rule → ℕ) → List Rule → ℕ → ℕ → Bool
 due days us now since = any (λ u. not (eqb (days u) 0) && leb (expiresAt since (days u)) now) us
 
@@ -28,11 +28,11 @@ due days us now since = any (λ u. not (eqb (days u) 0) && leb (expiresAt since 
 pub data Fate : Type 0 where
   stays goes gains : Fate
 
--- A current data row gains a marker if now is at least its creation plus the current days.
+-- A current data row gains a marker if the current days have expired since its creation.
 abbrev pub currentFate : List Rule → ℕ → Row → Fate
 currentFate us now x = pick (isData x && due (λ u. u .currentDays) us now (x .created)) gains stays
 
--- A row that isn't current goes if now is at least the creation of the next newer row plus the noncurrent days, unless locked without bypass.
+-- A row that isn't current goes if the noncurrent days have expired since the creation of the next newer row, unless locked without bypass.
 abbrev pub noncurrentFate : List Rule → ℕ → Row → Row → Fate
 noncurrentFate us now newer x = pick (due (λ u. u .noncurrentDays) us now (newer .created) && not (locked now false x)) goes stays
 

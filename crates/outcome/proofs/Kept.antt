@@ -74,14 +74,14 @@ module _ (b : Lent) (g : Call) where
       (rw (settings-mean (x .settings) (length (x .rows)) f) m)
 
   -- It is the model's bucket.
-  pub accepted-bucket : (q : Request) → whole b ≡ true → heard g ≡ says q → refusalOf b g ≡ 0 → bucketOf ((accepted b q (g .answer)) .bucket) ≡ after (bucketOf b) (meaning (bucketOf b) q)
+  pub accepted-bucket : (q : Request) → whole b ≡ true → heard g ≡ says q → refusalOf b g ≡ 0 → bucketOf ((outcome b g) .bucket) ≡ after (bucketOf b) (meaning (bucketOf b) q)
   accepted-bucket q w e z =
       let c = capacity (b .keys) in
       let x = after (bucketOf b) (meaning (bucketOf b) q) in
       let m = sound-after c (bucketOf b) q (model-accepts q w e z) in
       let f = (sound-whole c x m) .config-sound in
       let p = sound-parts c x m in
-      rw (settings-mean (x .settings) (length (x .rows)) f, read-back c (x .rows) (p .room) (p .keys-fit))
+      rw (accepted-request b g q e z, settings-mean (x .settings) (length (x .rows)) f, read-back c (x .rows) (p .room) (p .keys-fit))
 
   -- Every call leaves a whole bucket whole.
   pub outcome-whole : whole b ≡ true → whole ((outcome b g) .bucket) ≡ true

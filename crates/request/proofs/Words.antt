@@ -7,6 +7,7 @@ use Rattle.buffers.specs.Texts.{bytes}
 use Rattle.text.specs.declared.Place.{Place}
 use Rattle.text.specs.Fields.{fieldOf}
 use Rattle.text.specs.Numbers.{numberOf}
+use Rattle.dates.specs.Reading.{readDate}
 use Rattle.model.specs.Rows.{largestSize}
 use Rattle.model.specs.Requests as model
 use Rattle.fields.specs.declared.Terms.{Terms}
@@ -17,7 +18,7 @@ use Rattle.request.specs.declared.Verb.the-variants.{Act}
 use Rattle.request.specs.declared.Action.the-variants.{Put}
 use Rattle.request.specs.declared.Request.{Request}
 use Rattle.request.specs.Meaning.{verbMeans}
-use Rattle.request.specs.Grammar.{putOf, verbByWord, requestIn, Said, readLine}
+use Rattle.request.specs.Grammar.{putOf, sweepOf, otherByWord, verbByWord, requestIn, Said, readLine}
 use Rattle.request.proofs.Ranges.{Passes, ways, key-field}
 
 -- What holds of every verb that a word's reader gives, holds of the verb of a readable line with that word.
@@ -39,6 +40,17 @@ module _ (s : List ℕ) (P : model.Verb → Type 0) (reader : Option Verb) (word
       line = search (ways, request-asks) depth 16
 
 module _ (s : List ℕ) where
+  -- The clock is the date in field 0.
+  pub line-clock : (q : Said) → readLine s ≡ some q → readDate (fieldOf s 0) ≡ some (q .clock)
+  unfolding readLine requestIn
+  line-clock = line .holds
+    where
+      request : Passes Request (λ q. readDate (fieldOf s 0) ≡ some (q .clock)) (requestIn s)
+      request = search ways depth 16
+
+      line : Passes Said (λ q. readDate (fieldOf s 0) ≡ some (q .clock)) (readLine s)
+      line = search (ways, request .holds) depth 16
+
   -- The verb is a PUT of the key in field 3, and of the numbers in fields 4 and 5.
   pub record AsksPut (v : model.Verb) : Type 0 where
     pub body : ℕ
@@ -56,3 +68,8 @@ module _ (s : List ℕ) where
       asks : (k : Place) (body size : ℕ) (t : Terms) → readKey s 3 ≡ some k → numberOf 18446744073709551615 (fieldOf s 4) ≡ some body → numberOf largestSize (fieldOf s 5) ≡ some size
           → AsksPut (verbMeans s (Act (Put k body size t)))
       asks k body size t ek eb es = record { body = body; size = size; terms = termsMeans t; verb-is = rw (key-field s 3 k ek); body-is = eb; size-is = es }
+
+  -- One with the word SWEEP asks for that.
+  pub asks-sweep : (q : Said) → fieldOf s 2 ≡ bytes "SWEEP" → readLine s ≡ some q → q .verb ≡ model.Sweep
+  unfolding verbByWord otherByWord sweepOf
+  asks-sweep q e = line-asks s (λ v. v ≡ model.Sweep) (sweepOf s) (rw e) (search ways depth 16) q

@@ -17,6 +17,11 @@ fn leap_years_through(year: u64) -> u64 {
     year / 4 - year / 100 + year / 400
 }
 
+/// An instant rounded up to the next midnight UTC; one at midnight stays.
+pub fn up_to_midnight(instant: u64) -> u64 {
+    instant.div_ceil(DAY) * DAY
+}
+
 /// The days from 1970-01-01 to the first of January of a year.
 fn days_before_year(year: u64) -> u64 {
     (year - 1970) * 365 + leap_years_through(year - 1) - leap_years_through(1969)
@@ -146,6 +151,16 @@ mod tests {
         assert_eq!(read(b"1996-12-19T16:39:57-08:00"), None);
         assert_eq!(read(b"1990-12-31T15:59:60-08:00"), None);
         assert_eq!(read(b"1937-01-01T12:00:27.87+00:20"), None);
+    }
+
+    #[test]
+    fn midnights() {
+        assert_eq!(up_to_midnight(0), 0);
+        assert_eq!(up_to_midnight(1), 86400000);
+        assert_eq!(up_to_midnight(86399999), 86400000);
+        assert_eq!(up_to_midnight(86400000), 86400000);
+        assert_eq!(up_to_midnight(86400001), 172800000);
+        assert_eq!(up_to_midnight(LAST), LAST + 1);
     }
 
     #[test]

@@ -1,6 +1,6 @@
 //! SWEEP: judged on the table before the line, then carried out without a second table.
 use crate::bucket::{Block, Bucket, Row, CREATED, DATA, KIND, MARKER, MAX_CAPACITY};
-use crate::dates::DAY;
+use crate::dates::{up_to_midnight, DAY};
 use crate::locks::locked;
 use crate::settings::Settings;
 
@@ -43,8 +43,9 @@ impl Days {
     }
 }
 
+/// Whether the days after a creation are over: they end at a midnight.
 fn due(created: u64, days: u64, now: u64) -> bool {
-    days != NEVER && now >= created + days * DAY
+    days != NEVER && now >= up_to_midnight(created + days * DAY)
 }
 
 /// Whether a row that isn't current goes, given the next newer row of its key.

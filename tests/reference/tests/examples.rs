@@ -48,10 +48,10 @@ fn lines_of_512_and_513_bytes() {
 fn sweep_at_creation_plus_current_days() {
     let mut hub = Hub::new(2);
     hub.run(&[
-        ("2024-01-01T00:00:00.5Z|w|PUT|a|1|1|-|-|-", "ok|1"),
-        ("2024-01-01T00:00:00.5Z|c|RULE|0|a|1|0", "ok"),
-        ("2024-01-02T00:00:00.499Z|c|SWEEP", "ok|0|0"),
-        ("2024-01-02T00:00:00.5Z|c|SWEEP", "ok|0|1"),
+        ("2024-01-01T00:00:00Z|w|PUT|a|1|1|-|-|-", "ok|1"),
+        ("2024-01-01T00:00:00Z|c|RULE|0|a|1|0", "ok"),
+        ("2024-01-01T23:59:59.999Z|c|SWEEP", "ok|0|0"),
+        ("2024-01-02T00:00:00Z|c|SWEEP", "ok|0|1"),
     ]);
     assert_eq!(hub.names(), names(&[("a", 2), ("a", 1)]));
 }

@@ -1,6 +1,5 @@
 -- `is_over` meets its contract.
 use Rattle.buffers.proofs.Choices.{picks}
-use Rattle.lifecycle.proofs.Days.{over-last}
 use Rattle.lifecycle.specs.Days.{over}
 use borrow.Author.Needs.{needs}
 use Rattle.lifecycle.proofs.is_over.Statement.{statement}
@@ -13,4 +12,4 @@ is-over-spec =
     (tie.spec
     (λ c. search (needs, picks))
     (λ c κs. search needs)
-    (λ c. search (needs, picks, over-last)))
+    (λ c. search (needs, picks)))

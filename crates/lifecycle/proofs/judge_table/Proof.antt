@@ -10,6 +10,7 @@ judge-table-spec =
     (tie.spec
     (λ c κs. search needs)
     (λ c κs. search needs)
+    (λ c κs. search needs)
     (λ c. search needs)
     (λ c. search needs)
     (λ c κs. search needs)
@@ -24,7 +25,7 @@ judge-table-spec =
     (λ c. search needs)
     (λ c. search needs)
     (λ c. search needs)
-    (λ c κs. ((search needs, search needs, search needs), (search (needs, laid-few), search (needs, left-first))))
+    (λ c κs. ((search needs, search needs, search needs, search needs), (search (needs, laid-few), search (needs, left-first))))
     (λ c κs. search needs)
     (λ c. search needs)
     (λ c. search (needs, laid-cases)))

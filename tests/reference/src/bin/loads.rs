@@ -54,7 +54,8 @@ impl Load {
             _ => rows.div_ceil(2),
         };
         let keys = (0..count).map(|_| key(&mut random)).collect();
-        let step = if name == "sweeps" { 600000 } else { 2000 };
+        // Days expire at midnight, so a sweep finds something to do where one has passed since the last.
+        let step = if name == "sweeps" { 8 * 3600000 } else { 2000 };
         Load { bucket: Bucket::fresh(CAPACITY), random, keys, clock: START, step, rows }
     }
 
@@ -154,7 +155,7 @@ impl Load {
     fn rule(&mut self, number: usize) -> String {
         let prefix = if number == 7 { "" } else { PREFIXES[number] };
         let (current, noncurrent) = if number == 7 { (40, 12) } else { (28 + number, 8 + number / 2) };
-        format!("c\tRULE\t{number}\t{prefix}\t{current}\t{noncurrent}")
+        format!("c\tRULE\t{number}\t{prefix}\t{}\t{}", 48 * current, 48 * noncurrent)
     }
 
     /// Adds or removes a row, so that the table stays between two sizes.

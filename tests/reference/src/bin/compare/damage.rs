@@ -1,4 +1,5 @@
 //! Buckets that are damaged: bits, numbers, places and lengths.
+use crate::lines::near_midnight;
 use crate::random::Random;
 use crate::sides::{Lent, Side};
 use reference::bucket::{CREATED, MAX_LENGTH};
@@ -118,14 +119,15 @@ pub fn sound_change(side: &mut Side, random: &mut Random) {
     let (time, next) = (side.settings.word(0), side.settings.word(16));
     match random.below(5) {
         0 => side.settings.set_word(16, next.max(SPENT - random.below(8) as u64)),
-        1 => side.settings.set_word(0, time.max(LAST - random.next() % (3 * DAY))),
+        1 => side.settings.set_word(0, time.max(near_midnight(LAST - random.next() % (3 * DAY), random))),
         2 => side.settings.set_word(0, time.max(LAST - random.next() % (40000 * DAY))),
         _ => {
             let used = side.settings.word(8) as usize;
             if used > 0 {
                 let at = 64 * random.below(used) + 8 * CREATED;
                 let created = side.rows.word(at);
-                side.rows.set_word(at, created - random.next() % (3 * DAY).min(created + 1));
+                let earlier = created - random.next() % (3 * DAY).min(created + 1);
+                side.rows.set_word(at, near_midnight(earlier, random).min(created));
             }
         }
     }

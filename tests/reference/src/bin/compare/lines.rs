@@ -2,13 +2,37 @@
 use crate::random::Random;
 use crate::sides::Side;
 use reference::bucket::{CREATED, MAX_LENGTH, MAX_VERSION, UNTIL, VERSION};
-use reference::dates::{self, DAY, LAST};
+use reference::dates::{self, up_to_midnight, DAY, LAST};
 use reference::settings::DefaultRetention;
 
 const KEYS: [&str; 8] = ["a", "b", "a/1", "a/2", "a/", "-", "!", "~"];
 /// The key and version fields of the place before every row.
 pub const START: &str = "\t0";
 const PREFIXES: [&str; 6] = ["", "a", "a/", "-", "b", "zz"];
+
+/// First days of years, 29 February, 1 March of common and leap years, and the last day of all.
+const TELLING_DAYS: [&[u8]; 8] = [
+    b"2000-01-01T00:00:00Z",
+    b"2000-02-29T00:00:00Z",
+    b"2023-03-01T00:00:00Z",
+    b"2024-02-29T00:00:00Z",
+    b"2024-03-01T00:00:00Z",
+    b"2025-01-01T00:00:00Z",
+    b"2100-03-01T00:00:00Z",
+    b"9999-12-31T00:00:00Z",
+];
+
+/// A telling day, or a day or two before it.
+pub fn some_day(random: &mut Random) -> u64 {
+    let day = dates::read(random.pick(&TELLING_DAYS)).expect("a date");
+    day - random.pick(&[0, DAY, 2 * DAY])
+}
+
+/// An instant moved within its day: to its midnight, 1 ms after that, or 1 ms before the next; or as it is.
+pub fn near_midnight(instant: u64, random: &mut Random) -> u64 {
+    let midnight = instant - instant % DAY;
+    random.pick(&[midnight, midnight + 1, midnight + DAY - 1, instant])
+}
 
 /// A random line over the state of a bucket.
 pub struct Maker<'a> {
@@ -41,6 +65,7 @@ impl Maker<'_> {
             0 => self.number_of(UNTIL).unwrap_or(0),
             1 => self.number_of(CREATED).unwrap_or(0) + days,
             2 => LAST,
+            3 => up_to_midnight(self.number_of(CREATED).unwrap_or(0) + days),
             _ => self.time() + days,
         };
         let nudged = match self.random.below(4) {
@@ -63,8 +88,20 @@ impl Maker<'_> {
             5 => (self.time() + self.random.next() % (DAY / 2)).min(LAST),
             6 => self.number_of(UNTIL).map_or(self.time(), |date| date.min(self.time() + 5 * DAY)),
             7 => self.last_default(),
+            8 => up_to_midnight(self.time()).min(LAST),
+            9 => (up_to_midnight(self.time() + 1) - 1).min(LAST),
+            10 => (up_to_midnight(self.time()) + 1).min(LAST),
             _ => self.time(),
         }
+    }
+
+    /// A clock at or next to which a sweep's days end for some row, before or after they are rounded, where that is not far.
+    fn expiry(&mut self) -> u64 {
+        let days = self.random.pick(&[1, 1, 2, 3]) * DAY;
+        let end = self.number_of(CREATED).unwrap_or(0) + days;
+        let midnight = up_to_midnight(end);
+        let clock = self.random.pick(&[end, midnight - 1, midnight, midnight + 1]);
+        clock.clamp(self.time(), self.time() + 4 * DAY).min(LAST)
     }
 
     /// The clock at which the default's date is the last instant or 1 ms after it, where that is not far.
@@ -263,9 +300,34 @@ impl Maker<'_> {
     }
 
     pub fn line(&mut self) -> String {
-        let instant = self.clock();
+        let verb = self.verb();
+        let decides = verb == "SWEEP" && self.random.once_in(2);
+        let instant = if decides { self.expiry() } else { self.clock() };
         let clock = self.date(instant);
-        format!("{clock}\t{}\t{}", self.rights(), self.verb())
+        format!("{clock}\t{}\t{verb}", self.rights())
+    }
+
+    /// Lines up to the midnights of two day counts: two versions of a key, the newer one made a day or two after the other,
+    /// a rule whose counts differ, and sweeps at and before both ends of each count.
+    pub fn night(&mut self) -> Vec<String> {
+        let day = if self.random.once_in(2) { some_day(self.random) - DAY } else { self.time() };
+        let older = near_midnight(day, self.random).max(self.time());
+        let newer = near_midnight(older + self.random.pick(&[DAY, DAY, 2 * DAY]), self.random);
+        let [fewer, more] = self.random.pick(&[[1, 2], [1, 3], [2, 3]]);
+        let (current, noncurrent) = self.random.pick(&[(fewer, more), (more, fewer)]);
+        let (key, rule) = (self.key(), self.random.below(8));
+        let mut verbs = vec![
+            (older, format!("PUT\t{key}\t1\t1\t-\t-\t-")),
+            (newer, format!("PUT\t{key}\t2\t2\t-\t-\t-")),
+            (newer, format!("RULE\t{rule}\t{key}\t{current}\t{noncurrent}")),
+        ];
+        for end in [fewer, more].map(|days| newer + days * DAY) {
+            let midnight = up_to_midnight(end);
+            verbs.extend([end - 1, end, midnight - 1, midnight].map(|clock| (clock, "SWEEP".into())));
+        }
+        verbs.push((newer, format!("RULE\t{rule}\t\t0\t0")));
+        let line = |(clock, verb): (u64, String)| format!("{}\trwdthbc\t{verb}", self.date(clock.min(LAST)));
+        verbs.into_iter().map(line).collect()
     }
 
     /// A PUT sent again: as it was, at another clock, with another lock, or with another body, length or key.

@@ -1,6 +1,7 @@
 //! One list of lines, from a fresh bucket or a filled one.
 use crate::damage;
-use crate::lines::{Maker, START};
+use crate::lines::{near_midnight, some_day, Maker, START};
+use crate::midnights::Midnights;
 use crate::mutate::mutated;
 use crate::random::Random;
 use crate::sides::{asks_for, put_in, Fault, Put, Side, Sides};
@@ -8,7 +9,7 @@ use crate::tally::Tally;
 use crate::{pages, plain};
 use reference::answers::{page_buffer, LEAST_BUFFER};
 use reference::bucket::{block, HOLD, MODE, UNTIL};
-use reference::dates::LAST;
+use reference::dates::{self, DAY, LAST};
 use reference::settings::SPENT;
 use reference::Bucket;
 
@@ -36,10 +37,13 @@ fn filled(capacity: usize, random: &mut Random) -> (Side, Vec<String>) {
     let mut bucket = Bucket::fresh(capacity);
     let mut answer = [0; 256];
     let mut puts = Vec::new();
+    let last = some_day(random);
     for number in 0..capacity - random.below(capacity.min(4)) {
-        let day = 1 + number * 27 / capacity;
+        let before = (capacity - 1 - number) as u64 * 27 * DAY / capacity as u64;
+        let created = near_midnight(last - before, random);
+        let clock = String::from_utf8_lossy(&dates::print(created)).into_owned();
         let key = random.below(capacity);
-        let line = format!("2024-01-{day:02}T00:00:00Z\tw\tPUT\ta/{key}\t{number}\t1\t-\t-\t-");
+        let line = format!("{clock}\tw\tPUT\ta/{key}\t{number}\t1\t-\t-\t-");
         bucket.serve(line.as_bytes(), &mut answer).expect("the table has room");
         puts.push(line);
     }
@@ -130,6 +134,13 @@ impl List<'_> {
         self.lend_answer(room);
         let served = self.sides.serve(line).map_err(|difference| format!("{}\n{difference}", shown(line)))?;
         self.tally.count(line, served.number);
+        if let Some(sweep) = &served.swept {
+            let midnights = Midnights::of(sweep);
+            if !self.sides.engine.answer.seen().starts_with(midnights.answer().as_bytes()) {
+                return Err(format!("{}\nthe rows whose midnights have come are others", shown(line)));
+            }
+            self.tally.count_sweep(&midnights, sweep.now);
+        }
         match put_in(line) {
             Some(put) if served.retried => {
                 let bucket = self.bucket();
@@ -144,8 +155,7 @@ impl List<'_> {
     }
 
     fn bucket(&self) -> Bucket {
-        let side = &self.sides.engine;
-        Bucket::from_bytes(side.settings.seen(), side.rows.seen(), side.keys.seen()).expect("the lengths fit")
+        self.sides.engine.bucket().expect("an accepted line leaves a sound bucket")
     }
 
     /// The rows of the bucket, looked at one by one, that pages of a prefix are to show.
@@ -191,6 +201,10 @@ impl List<'_> {
         Ok(())
     }
 
+    fn pass_midnight(&mut self) -> Result<(), String> {
+        self.maker().night().iter().try_for_each(|line| self.serve(line.as_bytes()))
+    }
+
     /// Serves a line on a bucket that something was done to, and then puts the bucket back.
     fn serve_changed(&mut self, change: fn(&mut Side, &mut Random), line: &[u8]) -> Result<(), String> {
         let before = self.sides.engine.clone();
@@ -223,6 +237,7 @@ impl List<'_> {
             3 => self.serve_changed(damage::lengths, &line)?,
             4 if self.random.once_in(3) => damage::sound_change(&mut self.sides.engine, &mut self.random),
             5 if self.random.once_in(3) => self.follow()?,
+            6 if self.random.once_in(3) => self.pass_midnight()?,
             _ => {}
         }
         self.serve(&line)

@@ -3,6 +3,7 @@ mod damage;
 mod engine;
 mod lines;
 mod lists;
+mod midnights;
 mod mutate;
 mod pages;
 mod plain;
@@ -43,10 +44,25 @@ fn options() -> Option<Options> {
     Some(options)
 }
 
+/// What a run of usual length meets and this one has not met.
+fn lacking(tally: &Tally) -> Vec<String> {
+    let tests = [
+        (!tally.missing().is_empty(), format!("numbers that never came: {:?}", tally.missing())),
+        (!tally.idle().is_empty(), format!("entries that served no line: {:?}", tally.idle())),
+        (tally.keys == 0, "no key was asked for".into()),
+        (tally.rows == 0, "no page was followed that showed a row".into()),
+        (!tally.unspared().is_empty(), format!("numbers that no retry was spared: {:?}", tally.unspared())),
+        (tally.dropped == 0, "no retry named a lock that its row didn't have".into()),
+        (tally.lacks_midnights(), "rounding to midnight did not decide rows of every kind".into()),
+        (!tally.undecided().is_empty(), format!("rounding decided no sweep on: {:?}", tally.undecided())),
+    ];
+    tests.into_iter().filter(|(lacks, _)| *lacks).map(|(_, said)| said).collect()
+}
+
 fn main() -> ExitCode {
     let Some(options) = options() else {
         eprintln!(
-            "usage: compare [--seconds N] [--seed S] [--lists N] [--break answer|page|following|retry]"
+            "usage: compare [--seconds N] [--seed S] [--lists N] [--break answer|page|following|retry|midnight]"
         );
         return ExitCode::from(2);
     };
@@ -61,24 +77,9 @@ fn main() -> ExitCode {
         tally.lists += 1;
     }
     tally.print();
-    if !tally.missing().is_empty() {
-        println!("numbers that never came: {:?}", tally.missing());
-        return ExitCode::FAILURE;
-    }
-    if !tally.idle().is_empty() || tally.keys == 0 {
-        println!("entries that served no line: {:?}; {} keys", tally.idle(), tally.keys);
-        return ExitCode::FAILURE;
-    }
-    if tally.rows == 0 {
-        println!("no page was followed that showed a row");
-        return ExitCode::FAILURE;
-    }
-    if !tally.unspared().is_empty() {
-        println!("numbers that no retry was spared: {:?}", tally.unspared());
-        return ExitCode::FAILURE;
-    }
-    if tally.dropped == 0 {
-        println!("no retry named a lock that its row didn't have");
+    let lacking = lacking(&tally);
+    if !lacking.is_empty() {
+        println!("{}", lacking.join("\n"));
         return ExitCode::FAILURE;
     }
     println!("no difference");

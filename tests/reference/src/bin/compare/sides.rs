@@ -1,7 +1,9 @@
 //! The two sides that are compared: equal buffers, lent to the engine and to the reference.
+use crate::midnights::Sweep;
 use crate::{engine, pages};
 use reference::requests::{self, Retention, Verb};
 use reference::settings::{word, BYTES};
+use reference::Bucket;
 
 /// The bytes before and after each lent buffer, which nobody may touch.
 const GUARD: usize = 32;
@@ -78,6 +80,20 @@ impl Side {
         self.settings.word(16)
     }
 
+    /// The bucket that the bytes say, if it is sound.
+    pub fn bucket(&self) -> Option<Bucket> {
+        Bucket::from_bytes(self.settings.seen(), self.rows.seen(), self.keys.seen()).filter(Bucket::sound)
+    }
+
+    /// Makes the side what a sweep without rounding leaves, where that fits.
+    fn sweep_unrounded(&mut self, sweep: &Sweep) {
+        if let Ok((bucket, counts)) = sweep.unrounded() {
+            bucket.to_bytes(self.settings.bytes(), self.rows.bytes(), self.keys.bytes());
+            let said = format!("ok\t{}\t{}\n", counts.removed, counts.added);
+            self.answer.bytes()[..said.len()].copy_from_slice(said.as_bytes());
+        }
+    }
+
     /// Where the other side differs, in words.
     fn difference(&self, other: &Side) -> Option<String> {
         let parts = [
@@ -112,6 +128,8 @@ pub enum Fault {
     Following,
     /// In the reference's answer to each retry.
     Retry,
+    /// In the reference's sweeps, which don't round.
+    Midnight,
 }
 
 impl Fault {
@@ -121,16 +139,19 @@ impl Fault {
             "page" => Some(Fault::Page),
             "following" => Some(Fault::Following),
             "retry" => Some(Fault::Retry),
+            "midnight" => Some(Fault::Midnight),
             _ => None,
         }
     }
 
-    /// Spoils the answer of an accepted line.
-    fn spoil(self, line: &[u8], retried: bool, answer: &mut [u8]) {
-        match self {
-            Fault::Answer => answer[0] ^= 1,
-            Fault::Retry if retried => answer[0] ^= 1,
-            Fault::Page if asks_for(line).is_some() => spoil_last_row(answer),
+    /// Spoils what an accepted line left.
+    fn spoil(self, line: &[u8], served: &Served, side: &mut Side) {
+        let answer = side.answer.bytes();
+        match (self, &served.swept) {
+            (Fault::Answer, _) => answer[0] ^= 1,
+            (Fault::Retry, _) if served.retried => answer[0] ^= 1,
+            (Fault::Page, _) if asks_for(line).is_some() => spoil_last_row(answer),
+            (Fault::Midnight, Some(sweep)) => side.sweep_unrounded(sweep),
             _ => {}
         }
     }
@@ -142,6 +163,12 @@ pub fn asks_for(line: &[u8]) -> Option<usize> {
         Verb::List { count, .. } => Some(count),
         _ => None,
     }
+}
+
+/// The clock of the sweep that a line is, if it can be read and is one.
+fn sweeps_at(line: &[u8]) -> Option<u64> {
+    let request = requests::read(line)?;
+    matches!(request.verb, Verb::Sweep).then_some(request.clock)
 }
 
 /// A PUT's key and its lock fields.
@@ -174,6 +201,8 @@ pub struct Served {
     pub number: u64,
     /// Whether it is a PUT that was accepted and took no version number.
     pub retried: bool,
+    /// The sweep that it is, if it was accepted as one.
+    pub swept: Option<Sweep>,
 }
 
 /// The engine's bytes; the reference works on a copy of them.
@@ -208,6 +237,7 @@ impl Sides {
         self.served[entry] += 1;
         let (name, serve) = ENTRIES[entry];
         let next = self.engine.next_number();
+        let swept = self.sweep(line);
         let (one, two) = (&mut self.engine, &mut self.reference);
         let engine =
             serve(one.settings.bytes(), one.rows.bytes(), one.keys.bytes(), line, one.answer.bytes());
@@ -219,11 +249,19 @@ impl Sides {
             two.answer.bytes(),
         );
         let retried = reference == 0 && two.next_number() == next && put_in(line).is_some();
+        let served = Served { number: reference, retried, swept: swept.filter(|_| reference == 0) };
         if reference == 0 {
-            self.fault.spoil(line, retried, two.answer.bytes());
+            self.fault.spoil(line, &served, two);
         }
         let agreed = self.agreed(engine, reference).map_err(|difference| format!("{name}: {difference}"));
-        agreed.map(|number| Served { number, retried })
+        agreed.map(|_| served)
+    }
+
+    /// The sweep that a line is, if it can be read as one and the bucket is sound.
+    fn sweep(&self, line: &[u8]) -> Option<Sweep> {
+        let clock = sweeps_at(line)?;
+        let bucket = self.engine.bucket()?;
+        Some(Sweep { now: clock.max(bucket.settings.time), bucket })
     }
 
     /// Has both make a fresh bucket, of rows as words where they are whole words and those are asked for.

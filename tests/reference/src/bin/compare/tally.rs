@@ -1,9 +1,13 @@
 //! How often each number came, by verb, and each entry was called.
+use crate::midnights::Midnights;
 use crate::sides::ENTRIES;
+use reference::dates;
 
 const VERBS: [&str; 11] =
     ["PUT", "COPY", "RETAIN", "HOLD", "DELETE", "DEFAULT", "RULE", "SWEEP", "GET", "LIST", "other"];
 const NUMBERS: usize = 14;
+/// The first days of years, 29 February, 1 March and the last day of all, as they stand in a printed date.
+const TELLING_DAYS: [&str; 4] = ["-01-01T", "-02-29T", "-03-01T", "9999-12-31T"];
 
 #[derive(Default)]
 pub struct Tally {
@@ -19,6 +23,10 @@ pub struct Tally {
     retries: u64,
     spared: [u64; 3],
     pub dropped: u64,
+    /// The sweeps that rounding decided, those of them on each telling day, and what it decided in all sweeps.
+    rounded: u64,
+    telling: [u64; TELLING_DAYS.len()],
+    midnights: Midnights,
     entries: [u64; ENTRIES.len()],
     counts: [[u64; NUMBERS]; VERBS.len()],
 }
@@ -27,6 +35,17 @@ pub struct Tally {
 fn verb_of(line: &[u8]) -> usize {
     let word = line.split(|&byte| byte == b'\t').nth(2).unwrap_or(b"");
     VERBS.iter().position(|verb| verb.as_bytes() == word).unwrap_or(VERBS.len() - 1)
+}
+
+/// The names whose counts are 0.
+fn uncounted<T>(names: impl IntoIterator<Item = T>, counts: &[u64]) -> Vec<T> {
+    names.into_iter().zip(counts).filter(|(_, &count)| count == 0).map(|(name, _)| name).collect()
+}
+
+/// The place of the telling day that an instant is on.
+fn telling_day(instant: u64) -> Option<usize> {
+    let date = dates::print(instant);
+    TELLING_DAYS.iter().position(|day| String::from_utf8_lossy(&date).contains(day))
 }
 
 impl Tally {
@@ -41,6 +60,25 @@ impl Tally {
         self.dropped += u64::from(drops_lock);
     }
 
+    pub fn count_sweep(&mut self, midnights: &Midnights, now: u64) {
+        self.midnights.add(midnights);
+        if midnights.decided() {
+            self.rounded += 1;
+            telling_day(now).into_iter().for_each(|place| self.telling[place] += 1);
+        }
+    }
+
+    /// The telling days on which rounding decided no sweep.
+    pub fn undecided(&self) -> Vec<&str> {
+        uncounted(TELLING_DAYS, &self.telling)
+    }
+
+    /// Whether some kind of row that rounding decides never came.
+    pub fn lacks_midnights(&self) -> bool {
+        let Midnights { left, never, exact, .. } = self.midnights;
+        [left, never, exact].concat().contains(&0)
+    }
+
     /// Adds how often each entry has served a line.
     pub fn served(&mut self, served: &[u64]) {
         self.entries.iter_mut().zip(served).for_each(|(sum, count)| *sum += count);
@@ -53,17 +91,12 @@ impl Tally {
 
     /// Of 10 to 12, those that no retry was spared.
     pub fn unspared(&self) -> Vec<usize> {
-        (10..).zip(self.spared).filter(|(_, count)| *count == 0).map(|(number, _)| number).collect()
+        uncounted(10.., &self.spared)
     }
 
     /// The entries that never served a line.
     pub fn idle(&self) -> Vec<&str> {
-        ENTRIES
-            .iter()
-            .zip(&self.entries)
-            .filter(|(_, &count)| count == 0)
-            .map(|((name, _), _)| *name)
-            .collect()
+        uncounted(ENTRIES.map(|(name, _)| name), &self.entries)
     }
 
     pub fn print(&self) {
@@ -78,6 +111,13 @@ impl Tally {
             "retries: {}, of which {late} were spared 10, {spent} spared 11 and {full} spared 12; {} had a lock dropped",
             self.retries, self.dropped
         );
+        let Midnights { left, never, exact, .. } = self.midnights;
+        println!(
+            "sweeps that rounding to midnight decided: {}, of which on {TELLING_DAYS:?}: {:?}",
+            self.rounded, self.telling
+        );
+        println!("current and other rows that it left: {left:?}, of which for ever: {never:?};");
+        println!("rows that went exactly at their midnight: {exact:?}");
         print!("{:8}", "number");
         (0..NUMBERS).for_each(|number| print!("{number:>9}"));
         println!();
