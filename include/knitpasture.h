@@ -25,9 +25,9 @@
 extern "C" {
 #endif
 
-#define KNITPASTURE_VERSION "1.2.0"
+#define KNITPASTURE_VERSION "1.3.0"
 #define KNITPASTURE_VERSION_MAJOR 1
-#define KNITPASTURE_VERSION_MINOR 2
+#define KNITPASTURE_VERSION_MINOR 3
 #define KNITPASTURE_VERSION_PATCH 0
 
 #define KNITPASTURE_SETTINGS_BYTES 688
@@ -113,7 +113,11 @@ uint64_t knitpasture_fresh(uint8_t *settings, size_t settings_length,
  * with the current version's number and length it is answered like a retry, and no version is made. A retry places no
  * lock, whatever mode, date and hold it gives, and its answer doesn't tell; GET shows the lock, RETAIN and HOLD set it.
  * The refusals up to KNITPASTURE_PAST_DATE stand as for any PUT, so a date that has passed since the line was first sent
- * is refused. */
+ * is refused.
+ *
+ * Nothing happens at midnight by itself: a SWEEP marks and removes what has expired by its now. A rule's days are added
+ * to the version's creation, or for a version that isn't current to the next newer one's, and the sum is rounded up to
+ * the next midnight UTC; a sum at midnight stays. The dates of locks, given or by the default, are not rounded. */
 uint64_t knitpasture_serve(uint8_t *settings, size_t settings_length,
                            uint8_t *rows, size_t rows_length,
                            uint8_t *keys, size_t keys_length,
