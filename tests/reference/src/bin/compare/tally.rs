@@ -6,8 +6,8 @@ use reference::dates;
 const VERBS: [&str; 11] =
     ["PUT", "COPY", "RETAIN", "HOLD", "DELETE", "DEFAULT", "RULE", "SWEEP", "GET", "LIST", "other"];
 const NUMBERS: usize = 14;
-/// The first days of years, 29 February, 1 March and the last day of all, as they stand in a printed date.
-const TELLING_DAYS: [&str; 4] = ["-01-01T", "-02-29T", "-03-01T", "9999-12-31T"];
+/// The first days of years, 28 and 29 February, 1 March and the last day of all, as they stand in a printed date.
+const TELLING_DAYS: [&str; 5] = ["-01-01T", "-02-28T", "-02-29T", "-03-01T", "9999-12-31T"];
 
 #[derive(Default)]
 pub struct Tally {
