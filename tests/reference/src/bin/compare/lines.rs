@@ -11,7 +11,7 @@ pub const START: &str = "\t0";
 const PREFIXES: [&str; 6] = ["", "a", "a/", "-", "b", "zz"];
 
 /// First days of years, 29 February, 1 March of common and leap years, and the last day of all.
-const TELLING_DAYS: [&[u8]; 8] = [
+const SOME_DAYS: [&[u8]; 8] = [
     b"2000-01-01T00:00:00Z",
     b"2000-02-29T00:00:00Z",
     b"2023-03-01T00:00:00Z",
@@ -22,9 +22,9 @@ const TELLING_DAYS: [&[u8]; 8] = [
     b"9999-12-31T00:00:00Z",
 ];
 
-/// A telling day, or a day or two before it.
+/// One of these days, or a day or two before it.
 pub fn some_day(random: &mut Random) -> u64 {
-    let day = dates::read(random.pick(&TELLING_DAYS)).expect("a date");
+    let day = dates::read(random.pick(&SOME_DAYS)).expect("a date");
     day - random.pick(&[0, DAY, 2 * DAY])
 }
 
