@@ -25,9 +25,9 @@
 extern "C" {
 #endif
 
-#define KNITPASTURE_VERSION "1.3.0"
+#define KNITPASTURE_VERSION "1.4.0"
 #define KNITPASTURE_VERSION_MAJOR 1
-#define KNITPASTURE_VERSION_MINOR 3
+#define KNITPASTURE_VERSION_MINOR 4
 #define KNITPASTURE_VERSION_PATCH 0
 
 #define KNITPASTURE_SETTINGS_BYTES 688
@@ -123,6 +123,16 @@ uint64_t knitpasture_serve(uint8_t *settings, size_t settings_length,
                            uint8_t *keys, size_t keys_length,
                            const uint8_t *line, size_t line_length,
                            uint8_t *answer, size_t answer_length);
+
+/* The same as knitpasture_serve, and where it returns 0 it writes to *comparisons how often the line compared the prefix
+ * of a rule with a key: for a SWEEP the rules that are set times the different keys of the used rows before the line,
+ * for any other verb 0. Where it returns a refusal *comparisons is as it was. */
+uint64_t knitpasture_serve_counted(uint8_t *settings, size_t settings_length,
+                                   uint8_t *rows, size_t rows_length,
+                                   uint8_t *keys, size_t keys_length,
+                                   const uint8_t *line, size_t line_length,
+                                   uint8_t *answer, size_t answer_length,
+                                   uint64_t *comparisons);
 
 /* The length of the key of the row at a position, counted from 0; 0 where the row isn't used or the bucket isn't sound.
  * The key itself is as many bytes from KNITPASTURE_KEY_AT(keys, position) on, without a zero at its end. */

@@ -110,7 +110,7 @@ module _ (b : Lent) (line a : List ℕ) (w : whole b ≡ true) where
       (decide-go (fieldChecks (c .settings .config) (q .who) (length a) m (q .verb)) (tableChecks (capacity (b .keys)) c (both m) v) (effect c (both m) (q .who) v) refl (sym (rw t at h))))
       ∙ said-is q l e)
 
-  stops : (k : ℕ) → screened.Refused k ≡ screenedLine (settingsMean (b .settings) .config) (b .settings .time) line (length a) → refused k b a ≡ outcome b (call line a)
+  pub stops : (k : ℕ) → screened.Refused k ≡ screenedLine (settingsMean (b .settings) .config) (b .settings .time) line (length a) → refused k b a ≡ outcome b (call line a)
   unfolding readLine
   stops k = go (screenedLine (settingsMean (b .settings) .config) (b .settings .time) line (length a)) (comes (settingsMean (b .settings) .config) (b .settings .time) line (length a))
     where

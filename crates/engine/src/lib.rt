@@ -18,13 +18,19 @@ ghost use mathlib.Core.Path.{_≡_};
 ghost use mathlib.Core.Bool.{true};
 ghost use mathlib.Core.List.{List};
 ghost use Prim.Native.Nat.{ℕ, _≤_};
+ghost use lib.Dec.{eqb};
 ghost use lib.ListN.{length, replicate};
+ghost use Rattle.buffers.specs.Choices.{pick};
 ghost use Rattle.model.specs.Refusals.{leastRoom};
+ghost use Rattle.model.specs.Comparisons.{comparisons};
+ghost use Rattle.settings.specs.Meaning.{rulesMean};
 ghost use Rattle.bucket.specs.Whole.{lent, whole};
 ghost use Rattle.request.specs.declared.Verb.the-variants as verb;
 ghost use Rattle.request.specs.declared.Query.the-variants as query;
 ghost use Rattle.outcome.specs.Calls.{call};
 ghost use Rattle.outcome.specs.Outcome.{outcome};
+ghost use Rattle.outcome.specs.Comparisons.{comparisonsOf};
+ghost use Rattle.judge.specs.State.{rowsIn};
 ghost use Rattle.engine.specs.Configured.{Settable};
 ghost use Rattle.engine.specs.Served.{outcomeFrom, served, Passing, CanCarryOut, CarriedOut, Actable, Acted, SweepAsked, Swept};
 
@@ -44,6 +50,12 @@ struct Step {
     next: u64,
 }
 
+// A step of SWEEP, and the comparisons of a prefix with a key that it counts.
+struct SweepStep {
+    step: Step,
+    comparisons: u64,
+}
+
 fn refused(number: u64, settings: Settings) -> Served
     ensures { λ r. ⌜ (r .number ≡ number) × (r .len ≡ 0) × (r .settings ≡ settings) ⌝ }
 {
@@ -52,6 +64,16 @@ fn refused(number: u64, settings: Settings) -> Served
         len: 0,
         settings,
     }
+}
+
+// The comparisons that a call counts: a refused one has none.
+fn count_of(number: u64, comparisons: u64) -> u64
+    ensures { λ r. ⌜ r ≡ pick (eqb number 0) comparisons 0 ⌝ }
+{
+    if number != 0 {
+        return 0;
+    }
+    comparisons
 }
 
 // Does what a verdict says: a refusal leaves everything as it is; a plan is carried out and answered, and now is the bucket's time.
@@ -125,13 +147,19 @@ fn sweep(
     line: &[u8],
     answer: &mut [u8],
     when: Now,
-) -> Step
+) -> SweepStep
     requires { ⌜ SweepAsked s rules (now rows) (now keys) (now answer) when ⌝ }
-    ensures { λ r. ⌜ Swept s rules (now (rows .entry)) (now (keys .entry)) (now (line .entry)) (now (answer .entry)) when r (now (rows .exit)) (now (keys .exit)) (now (answer .exit)) ⌝ }
+    ensures { λ r. ⌜ Swept s rules (now (rows .entry)) (now (keys .entry)) (now (line .entry)) (now (answer .entry)) when (r .step) (now (rows .exit)) (now (keys .exit)) (now (answer .exit)) ⌝ }
+    ensures { λ r. ⌜ r .comparisons ≡ pick (eqb (r .step .number) 0) (comparisons (rulesMean rules) (rowsIn s (now (rows .entry)) (now (keys .entry)))) 0 ⌝ }
 {
     let mut fates = no_fates();
-    let v = judge::judge_sweep(rows, keys, s, rules, when.judge, &mut fates);
-    carry_out(s, rows, keys, line, answer, v, when.stamp, &fates)
+    let judged = judge::judge_sweep(rows, keys, s, rules, when.judge, &mut fates);
+    let v = judged.verdict;
+    let step = carry_out(s, rows, keys, line, answer, v, when.stamp, &fates);
+    SweepStep {
+        step,
+        comparisons: count_of(step.number, judged.comparisons),
+    }
 }
 
 // The settings after a step.
@@ -164,7 +192,7 @@ fn serve_action(
     settle(s, step)
 }
 
-// SWEEP by the rules, and the settings after it.
+// SWEEP by the rules, the settings after it, and its count.
 fn serve_sweep(
     s: Settings,
     rows: &mut [u64],
@@ -172,13 +200,17 @@ fn serve_sweep(
     line: &[u8],
     answer: &mut [u8],
     when: Now,
+    count: &mut u64,
 ) -> Served
     requires { ⌜ Passing (lent s (now rows) (now keys)) (now line) (now answer) verb.Sweep when ⌝ }
     ensures { λ r. ⌜ outcomeFrom r (now (rows .exit)) (now (keys .exit)) (now (answer .exit)) ≡ outcome (lent s (now (rows .entry)) (now (keys .entry))) (call (now (line .entry)) (now (answer .entry))) ⌝ }
+    ensures { λ _. ⌜ now (count .exit) ≡ comparisonsOf (lent s (now (rows .entry)) (now (keys .entry))) (call (now (line .entry)) (now (answer .entry))) ⌝ }
 {
     let state = settings::state_of(s);
     let rules = s.rules;
-    let step = sweep(state, rules, rows, keys, line, answer, when);
+    let swept = sweep(state, rules, rows, keys, line, answer, when);
+    let step = swept.step;
+    *count = swept.comparisons;
     settle(s, step)
 }
 
@@ -274,6 +306,32 @@ fn serve_query(
     }
 }
 
+// Serves a line on a bucket that is whole, and counts the comparisons of a prefix with a key: SWEEP alone makes any. The count is lent, so that what is returned isn't copied with it.
+fn serve_line(
+    s: Settings,
+    rows: &mut [u64],
+    keys: &mut [u8],
+    line: &[u8],
+    answer: &mut [u8],
+    count: &mut u64,
+) -> Served
+    requires { ⌜ whole (lent s (now rows) (now keys)) ≡ true ⌝ }
+    ensures { λ r. ⌜ outcomeFrom r (now (rows .exit)) (now (keys .exit)) (now (answer .exit)) ≡ outcome (lent s (now (rows .entry)) (now (keys .entry))) (call (now (line .entry)) (now (answer .entry))) ⌝ }
+    ensures { λ _. ⌜ now (count .exit) ≡ comparisonsOf (lent s (now (rows .entry)) (now (keys .entry))) (call (now (line .entry)) (now (answer .entry))) ⌝ }
+{
+    *count = 0;
+    let state = settings::state_of(s);
+    match screen::screen_line(state, line, answer.len()) {
+        Screened::Refused(n) => refused(n, s),
+        Screened::Passed(verb, when) => match verb {
+            Verb::Act(action) => serve_action(s, rows, keys, line, answer, action, when),
+            Verb::Set(setting) => serve_setting(s, line, answer, setting, when),
+            Verb::Sweep => serve_sweep(s, rows, keys, line, answer, when, count),
+            Verb::Ask(query) => serve_query(s, rows, keys, line, answer, query, when),
+        },
+    }
+}
+
 // Serves a line on a bucket that is whole.
 pub fn serve_whole(
     s: Settings,
@@ -285,16 +343,27 @@ pub fn serve_whole(
     requires { ⌜ whole (lent s (now rows) (now keys)) ≡ true ⌝ }
     ensures { λ r. ⌜ outcomeFrom r (now (rows .exit)) (now (keys .exit)) (now (answer .exit)) ≡ outcome (lent s (now (rows .entry)) (now (keys .entry))) (call (now (line .entry)) (now (answer .entry))) ⌝ }
 {
-    let state = settings::state_of(s);
-    match screen::screen_line(state, line, answer.len()) {
-        Screened::Refused(n) => refused(n, s),
-        Screened::Passed(verb, when) => match verb {
-            Verb::Act(action) => serve_action(s, rows, keys, line, answer, action, when),
-            Verb::Set(setting) => serve_setting(s, line, answer, setting, when),
-            Verb::Sweep => serve_sweep(s, rows, keys, line, answer, when),
-            Verb::Ask(query) => serve_query(s, rows, keys, line, answer, query, when),
-        },
+    let mut count = 0;
+    serve_line(s, rows, keys, line, answer, &mut count)
+}
+
+// Serves a line on settings and buffers of any contents, and counts the comparisons of a prefix with a key.
+pub fn serve_counted(
+    s: Settings,
+    rows: &mut [u64],
+    keys: &mut [u8],
+    line: &[u8],
+    answer: &mut [u8],
+    count: &mut u64,
+) -> Served
+    ensures { λ r. ⌜ outcomeFrom r (now (rows .exit)) (now (keys .exit)) (now (answer .exit)) ≡ outcome (lent s (now (rows .entry)) (now (keys .entry))) (call (now (line .entry)) (now (answer .entry))) ⌝ }
+    ensures { λ _. ⌜ now (count .exit) ≡ comparisonsOf (lent s (now (rows .entry)) (now (keys .entry))) (call (now (line .entry)) (now (answer .entry))) ⌝ }
+{
+    if bucket::is_whole(s, rows, keys) {
+        return serve_line(s, rows, keys, line, answer, count);
     }
+    *count = 0;
+    refused(model::UNSOUND, s)
 }
 
 // Serves a line on settings and buffers of any contents.
@@ -307,8 +376,6 @@ pub fn serve(
 ) -> Served
     ensures { λ r. ⌜ outcomeFrom r (now (rows .exit)) (now (keys .exit)) (now (answer .exit)) ≡ outcome (lent s (now (rows .entry)) (now (keys .entry))) (call (now (line .entry)) (now (answer .entry))) ⌝ }
 {
-    if bucket::is_whole(s, rows, keys) {
-        return serve_whole(s, rows, keys, line, answer);
-    }
-    refused(model::UNSOUND, s)
+    let mut count = 0;
+    serve_counted(s, rows, keys, line, answer, &mut count)
 }

@@ -51,6 +51,13 @@ whole-sized b f w =
     let n = numbers-length (length (b .rows) / 8) (b .rows) in
     record { some = p .some; most = p .most; settings-long = f .settings-long; rows-long = omega (arith, p .numbers-long, f .rows-even); keys-long = p .keys-long }
 
+-- The lengths of c rows are fitting.
+pub sized-fits : (c : ℕ) (b : Bytes) → Sized c b → Fitting b
+sized-fits c b z =
+    let r = z .rows-long in
+    let m = z .most in
+    record { settings-long = z .settings-long; rows-most = omega arith; rows-even = omega arith }
+
 -- An accepted call tells that the bytes have the lengths of some c rows.
 pub accepted-sized : (b : Bytes) (g : Call) → (hubServed b g) .number ≡ 0 → Sized (capacity (b .keys)) b
 unfolding hubServed
@@ -67,10 +74,7 @@ module _ (c : ℕ) (b : Bytes) (g : Call) (z : Sized c b) where
   core = outcome (lentOf b) g
 
   is-served : hubServed b g ≡ outcomeBytes core b (g .answer)
-  is-served =
-      let r = z .rows-long in
-      let m = z .most in
-      reads-as b g (record { settings-long = z .settings-long; rows-most = omega arith; rows-even = omega arith })
+  is-served = reads-as b g (sized-fits c b z)
 
   pub same-number : (hubServed b g) .number ≡ core .number
   same-number = rw is-served (left-number _ core b (g .answer))

@@ -1,12 +1,13 @@
 -- The statements at work, computed: 01's starred examples as one table, its printed run, and a use of each demand on bytes and buffers.
-use Prim.Native.Nat.{ℕ}
+use Prim.Native.Nat.{ℕ, _*_}
 use mathlib.Core.Path.{_≡_, refl, ap}
-use mathlib.Core.Bool.{true}
+use mathlib.Core.Bool.{Bool, true, false, _||_}
 use mathlib.Core.List.{List, [], _∷_, _++_}
 use mathlib.Core.Option.{some, none}
 use native.Mathlib.Omega.{arith}
 use lib.Dec.{lit<, lit≤}
-use lib.ListN.{getD, take, replicate}
+use lib.ListN.{length, getD, take, replicate}
+use Rattle.buffers.specs.Lists.{same}
 use Rattle.buffers.specs.Texts.{bytes}
 use Rattle.buffers.specs.Words.{number, spelled}
 use Rattle.buffers.proofs.Tests.{clash}
@@ -33,6 +34,7 @@ use Rattle.model.specs.Locks.{locked, admits}
 use Rattle.model.specs.Refusals.{halfGiven, needs, granted, lacksRight, shortForPage, pastDate, missing, namesMarker, barred, tooLate, spends, full}
 use Rattle.model.specs.Requests.{inRange}
 use Rattle.model.specs.Rows.{Row, soundRow}
+use Rattle.model.specs.Comparisons.{comparisons, comparisonsBy}
 use Rattle.model.specs.Settings.{largestNumber, soundRules, soundConfig, fits, sound}
 use Rattle.model.specs.Time.{defaultEnd}
 use Rattle.blocks.specs.Blocks.{blockOf, isBlock}
@@ -45,8 +47,9 @@ use Rattle.request.specs.Grammar.{nameAt, retentionAt, termsAt, putOf, copyOf, 
 use Rattle.answers.specs.Text.{fieldsText, okText, modeText, untilText, holdText, answerText}
 use Rattle.outcome.specs.Calls.{Call, call}
 use Rattle.outcome.specs.Outcome.{Outcome, written, answeredBy, refusalOf, outcome}
+use Rattle.outcome.specs.Comparisons.{comparisonsOf}
 use Rattle.outcome.specs.Printed.{printed}
-use Rattle.knitpasture.specs.Bytes.{Bytes, asBytes, lentOf, byteOutcome, numbersFrom, numbersBytes, hubServed, fitRows, hubFresh}
+use Rattle.knitpasture.specs.Bytes.{Bytes, asBytes, lentOf, byteOutcome, numbersFrom, numbersBytes, hubServed, hubComparisons, hubCounted, fitRows, hubFresh}
 use Rattle.guarantee.specs.Calls.{step}
 use Rattle.guarantee.specs.Lists.{ended, lineStep}
 use Rattle.guarantee.specs.Promise.{Hub, Demand1, Demand2}
@@ -57,6 +60,7 @@ use Rattle.guarantee.proofs.Demands.{only-hub}
 use Rattle.guarantee.proofs.Bytes.{demand-3-bytes}
 use Rattle.guarantee.proofs.Retries.{sent-twice, sent-twice-bytes, sent-later}
 use Rattle.guarantee.proofs.Expiry.{sweeps-by-midnights-bytes}
+use Rattle.guarantee.proofs.Comparisons.{counts-once-bytes}
 
 -- A call of a line with an answer buffer of zeros.
 abbrev asks : List ℕ → Call
@@ -225,6 +229,35 @@ pub record ByMidnights : Type 0 where
   pub gone : rowOf (rowsAt (bytes "2024-05-04T00:00:00Z")) (byNumber older) ≡ none
   pub marked : (n : ℕ) × (rowOf (rowsAt (bytes "2024-05-05T00:00:00Z")) (byKey newer) ≡ some (marker 1714867200000 n (bytes "q/7")))
 
+-- ## Comparisons of a prefix with a key
+
+-- With a second rule that is set, and a second file.
+abbrev twoKeys : Bytes
+twoKeys =
+    left byteStep expiring
+    (asks (bytes "2024-05-01T10:30:00Z\tc\tRULE\t5\t\t0\t9")
+    ∷ asks (bytes "2024-05-01T10:30:00Z\tw\tPUT\tq/8\t43\t300\t-\t-\t-")
+    ∷ [])
+
+-- What a line leaves in the place of the count, where 7 stood.
+abbrev countedOf : List ℕ → ℕ
+countedOf l = hubCounted twoKeys (asks l) 7
+
+-- Two rules are set, and three rows have two keys.
+pub record CountedKeys : Type 0 where
+  pub sweep : countedOf (bytes "2024-05-04T00:00:00Z\tc\tSWEEP") ≡ 4
+  pub get : countedOf (bytes "2024-05-04T00:00:00Z\tr\tGET\tq/7\t-") ≡ 0
+  pub no-right : countedOf (bytes "2024-05-04T00:00:00Z\tr\tSWEEP") ≡ 7
+  -- By the promise, with the keys in another order than the table's.
+  pub by-keys : countedOf (bytes "2024-05-04T00:00:00Z\tc\tSWEEP") ≡ 2 * length (bytes "q/8" ∷ bytes "q/7" ∷ [])
+
+-- Where one of two keys stands twice, the order plays no part.
+either-order : (a b : Bool) → (b || (a || false)) ≡ (a || (a || (b || false)))
+either-order true true = refl
+either-order true false = refl
+either-order false true = refl
+either-order false false = refl
+
 -- ## The examples, computed
 
 pub record Examples : Type 0 where
@@ -237,10 +270,11 @@ pub record Examples : Type 0 where
   pub held-in-bytes : Held (bucketOf (lentOf (left byteStep (freshBytes oneRow) calls))) (byteEvents (freshBytes oneRow) calls) 1 (InCompliance 1988496000007)
   pub sent-again : SentAgain
   pub by-midnights : ByMidnights
+  pub counted : CountedKeys
   pub no-first-line-only : Demand1 (firstLineOnly (lockedPut ∷ [])) withLocked hold → Demand2 (firstLineOnly (lockedPut ∷ [])) withLocked hold → ⊥
 
 pub examples : Examples
-unfolding fieldOf placeOf isKeyByte isPrefix isKey isDigit digitMore leadingZero numberOf positiveOf digits leap yearsLength monthStart monthLength validDay daysOf guessOf yearOf monthOf dateIn civilOf periodEnd expiresAt dateText printDate digitOf twoDigits fourDigits dayNumber dayAt secondOfDay secondAt fractionDigit milliseconds fractionOf readDate reply added removed rowsAfter setConfig configAfter locked admits halfGiven needs granted lacksRight shortForPage pastDate missing namesMarker barred tooLate spends full inRange soundRow soundRules soundConfig fits sound defaultEnd blockOf isBlock whole rightsIn readRights readKey readPrefix readVersion readMode readUntil readSwitch readHold readBypass readPeriod nameAt retentionAt termsAt putOf copyOf retainOf setHoldOf deleteOf defaultOf ruleOf sweepOf getOf otherByWord verbByWord requestIn readLine fieldsText okText modeText untilText holdText refusalOf outcome number numbersFrom numbersBytes spelled settingsOf settingsBytes hubServed fitRows hubFresh settingsSound
+unfolding fieldOf placeOf isKeyByte isPrefix isKey isDigit digitMore leadingZero numberOf positiveOf digits leap yearsLength monthStart monthLength validDay daysOf guessOf yearOf monthOf dateIn civilOf periodEnd expiresAt dateText printDate digitOf twoDigits fourDigits dayNumber dayAt secondOfDay secondAt fractionDigit milliseconds fractionOf readDate reply added removed rowsAfter setConfig configAfter locked admits halfGiven needs granted lacksRight shortForPage pastDate missing namesMarker barred tooLate spends full inRange soundRow soundRules soundConfig fits sound defaultEnd blockOf isBlock whole rightsIn readRights readKey readPrefix readVersion readMode readUntil readSwitch readHold readBypass readPeriod nameAt retentionAt termsAt putOf copyOf retainOf setHoldOf deleteOf defaultOf ruleOf sweepOf getOf otherByWord verbByWord requestIn readLine fieldsText okText modeText untilText holdText refusalOf outcome number numbersFrom numbersBytes spelled settingsOf settingsBytes hubServed hubComparisons hubCounted fitRows hubFresh settingsSound comparisons comparisonsBy comparisonsOf
 examples =
     record {
       starred = record {
@@ -279,6 +313,13 @@ examples =
             (record { place = 0; begins-key = refl; has-days = λ e. let z : _≡_ {A = ℕ} 2 0 = e in omega arith; has-come = record { at = 1714780800000; is-midnight = refl; no-earlier = lit≤ tt; no-later = lit≤ tt } }) refl;
         marked = (sweeps-by-midnights-bytes expiring (sweepAt (bytes "2024-05-05T00:00:00Z")) 1714867200000 refl refl) .current-marked newer refl refl
             (record { place = 0; begins-key = refl; has-days = λ e. let z : _≡_ {A = ℕ} 3 0 = e in omega arith; has-come = record { at = 1714867200000; is-midnight = refl; no-earlier = lit≤ tt; no-later = lit≤ tt } });
+      };
+      counted = record {
+        sweep = refl;
+        get = refl;
+        no-right = refl;
+        by-keys = (counts-once-bytes twoKeys (sweepAt (bytes "2024-05-04T00:00:00Z")) 7) .sweep refl (bytes "q/8" ∷ bytes "q/7" ∷ [])
+            (record { same-keys = λ k. either-order (same k (bytes "q/7")) (same k (bytes "q/8")); once = refl });
       };
       no-first-line-only = λ d e. let z : _≡_ {A = ℕ} 0 1 = ap (λ (o : Outcome). getD (o .bucket .numbers) 7 0) (only-hub (firstLineOnly (lockedPut ∷ [])) withLocked hold d e) in absurd (omega arith);
     }

@@ -12,4 +12,5 @@ pub mod Pages
 pub mod PagesFollowed
 pub mod Retries
 pub mod Expiry
+pub mod Comparisons
 pub mod Examples

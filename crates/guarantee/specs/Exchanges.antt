@@ -4,6 +4,7 @@ use mathlib.Core.Bool.{Bool, _&&_}
 use mathlib.Core.List.{List, [], _∷_}
 use lib.Dec.{eqb}
 use Rattle.buffers.specs.Lists.{same}
+use Rattle.buffers.specs.Texts.{bytes}
 use Rattle.text.specs.Fields.{fieldOf}
 use Rattle.model.specs.Run.{gathered}
 use Rattle.bucket.specs.Whole.{Lent}
@@ -40,3 +41,7 @@ sentField (line s) i = fieldOf s i
 -- A line of this verb was sent, and accepted.
 abbrev pub isServed : List ℕ → Exchange → Bool
 isServed verb e = eqb (e .number) 0 && same (sentField (e .sent) 2) verb
+
+-- SWEEP was sent, and accepted.
+abbrev pub isSweep : Exchange → Bool
+isSweep e = isServed (bytes "SWEEP") e

@@ -1,9 +1,8 @@
 -- Document 02, M-102: an accepted SWEEP marks and removes by midnights.
 use Prim.Native.Nat.{ℕ}
 use mathlib.Core.Path.{_≡_}
-use mathlib.Core.Bool.{Bool, true}
+use mathlib.Core.Bool.{true}
 use mathlib.Core.Option.{some}
-use Rattle.buffers.specs.Texts.{bytes}
 use Rattle.dates.specs.Reading.{readDate}
 use Rattle.model.specs.Expiry.{SweptByMidnights}
 use Rattle.bucket.specs.Whole.{Lent, bucketOf}
@@ -11,11 +10,7 @@ use Rattle.outcome.specs.Calls.{Call}
 use Rattle.knitpasture.specs.Bytes.{Bytes, lentOf}
 use Rattle.guarantee.specs.Calls.{step}
 use Rattle.guarantee.specs.Bytes.{byteStep}
-use Rattle.guarantee.specs.Exchanges.{Exchange, exchange, byteExchange, sentField, isServed}
-
--- SWEEP was sent, and accepted.
-abbrev pub isSweep : Exchange → Bool
-isSweep e = isServed (bytes "SWEEP") e
+use Rattle.guarantee.specs.Exchanges.{exchange, byteExchange, sentField, isSweep}
 
 -- On any bucket, with an answer buffer of any contents; the clock is read off the line.
 abbrev pub SweepsByMidnights : Type 0

@@ -6,3 +6,4 @@ pub mod Exchanges
 pub mod Pages
 pub mod Retries
 pub mod Expiry
+pub mod Comparisons

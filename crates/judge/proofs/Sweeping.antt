@@ -72,7 +72,15 @@ module _ (s : State) (numbers keys : List ℕ) (now : ℕ) (rules : List Rule) (
       let b = held-keys h in
       let z = rows-length numbers keys (s .used) in
       record {
-        table = record { numbers = omega arith; blocks = omega arith; whole = λ i l. whole i (omega arith); instants = instants };
+        table =
+            record {
+              numbers = omega arith;
+              blocks = omega arith;
+              whole = λ i l. whole i (omega arith);
+              instants = instants;
+              in-order = asked .ready .in-order;
+              few = omega (arith, asked .ready .used-fits, asked .ready .capacity-fits);
+            };
         prefixes = ready-rules .prefixes;
         days = sound-days (rulesMean rules) (ready-rules .rules-sound);
       }

@@ -24,6 +24,7 @@ ghost use Rattle.model.specs.Requests as model;
 ghost use Rattle.text.specs.Fields.{partOf};
 ghost use Rattle.text.specs.Keys.{isKey};
 ghost use Rattle.model.specs.Sweep.{marker};
+ghost use Rattle.model.specs.Comparisons.{comparisons};
 ghost use Rattle.model.specs.Effects.{newHold, holdNumber, setRetention, setHold};
 ghost use Rattle.model.specs.Retries.{repeats, meant};
 ghost use Rattle.calendar.specs.Calendar.{latest};
@@ -55,6 +56,12 @@ pub struct Plan {
 pub enum Verdict {
     Refused(u64),
     Accepted(Plan),
+}
+
+// A sweep's verdict, and the comparisons of a prefix with a key that it took.
+pub struct SweepVerdict {
+    pub verdict: Verdict,
+    pub comparisons: u64,
 }
 
 // The row that a line names: its position and its numbers, or the refusal.
@@ -367,26 +374,38 @@ pub fn judge_sweep(
     rules: [Rule; 8],
     instant: u64,
     fates: &mut [u8],
-) -> Verdict
+) -> SweepVerdict
     requires { ⌜ Asked s (now rows) (now keys) instant model.Sweep ⌝ }
     requires { ⌜ Sweepable s rules (now fates) ⌝ }
-    ensures { λ r. ⌜ ((line : List ℕ) (who : model.Rights) → JudgesBy s (now (rows .entry)) (now (keys .entry)) line instant who (rulesMean rules) (now (fates .exit)) model.Sweep r) ⌝ }
+    ensures { λ r. ⌜ ((line : List ℕ) (who : model.Rights) → JudgesBy s (now (rows .entry)) (now (keys .entry)) line instant who (rulesMean rules) (now (fates .exit)) model.Sweep (r .verdict)) ⌝ }
     ensures { λ _. ⌜ now (fates .exit) ≡ fatesAfter (rulesMean rules) instant (rowsIn s (now (rows .entry)) (now (keys .entry))) (now (fates .entry)) ⌝ }
+    ensures { λ r. ⌜ r .comparisons ≡ comparisons (rulesMean rules) (rowsIn s (now (rows .entry)) (now (keys .entry))) ⌝ }
 {
     let used = s.used;
-    let n = lifecycle::judge_table(rows, keys, used, rules, instant, fates);
-    let gone = n.removed;
-    let new = n.added;
+    let judged = lifecycle::judge_table(rows, keys, used, rules, instant, fates);
+    let comparisons = judged.comparisons;
+    let gone = judged.counts.removed;
+    let new = judged.counts.added;
     if model::SPENT < s.next + new as u64 {
-        return Verdict::Refused(model::NUMBERS_SPENT);
+        return SweepVerdict {
+            verdict: Verdict::Refused(model::NUMBERS_SPENT),
+            comparisons,
+        };
     }
     if keys.len() / 64 < used - gone + new {
-        return Verdict::Refused(model::TABLE_FULL);
+        return SweepVerdict {
+            verdict: Verdict::Refused(model::TABLE_FULL),
+            comparisons,
+        };
     }
-    Verdict::Accepted(Plan {
+    let plan = Plan {
         change: Change::Sweep(gone, new),
         answer: Answer::Swept(gone as u64, new as u64),
-    })
+    };
+    SweepVerdict {
+        verdict: Verdict::Accepted(plan),
+        comparisons,
+    }
 }
 
 // Refusals 7 to 12, or the plan, of what an action means.

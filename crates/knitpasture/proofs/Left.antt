@@ -11,8 +11,9 @@ use Rattle.settings.specs.Bytes.{settingsLength, settingsBytes}
 use Rattle.bucket.specs.Whole.{Lent}
 use Rattle.outcome.specs.Calls.{Call}
 use Rattle.outcome.specs.Outcome.{Outcome, outcome}
+use Rattle.outcome.specs.Comparisons.{comparisonsOf}
 use Rattle.outcome.proofs.Demands.{refusal-range, outcome-number}
-use Rattle.knitpasture.specs.Bytes.{tableLength, Bytes, asBytes, lentOf, spelling, ByteOutcome, byteOutcome, outcomeLeft, outcomeBytes, hubServed}
+use Rattle.knitpasture.specs.Bytes.{tableLength, Bytes, asBytes, lentOf, spelling, ByteOutcome, byteOutcome, outcomeLeft, outcomeBytes, hubServed, hubComparisons}
 
 -- ## The lengths
 
@@ -30,11 +31,20 @@ spelling-ways b P f w =
     (λ _. w)))
     (λ _. w)
 
+-- Fitting lengths are not wrong.
+pub spelling-fits : {A : Type 0} (served wrong : A) (b : Bytes) → Fitting b → spelling b served wrong ≡ served
+spelling-fits served wrong b f =
+    simp (eq-eqb (length (b .settings)) settingsLength (f .settings-long), le-ltb tableLength (length (b .rows)) (f .rows-most), eq-eqb (length (b .rows) % 8) 0 (f .rows-even))
+
 -- Bytes of fitting lengths are served as what they spell.
 pub reads-as : (b : Bytes) (g : Call) → Fitting b → hubServed b g ≡ outcomeBytes (outcome (lentOf b) g) b (g .answer)
 unfolding hubServed
-reads-as b g f =
-    simp (eq-eqb (length (b .settings)) settingsLength (f .settings-long), le-ltb tableLength (length (b .rows)) (f .rows-most), eq-eqb (length (b .rows) % 8) 0 (f .rows-even))
+reads-as b g f = spelling-fits _ _ b f
+
+-- And so are their comparisons.
+pub counts-as : (b : Bytes) (g : Call) → Fitting b → hubComparisons b g ≡ comparisonsOf (lentOf b) g
+unfolding hubComparisons
+counts-as b g f = spelling-fits _ _ b f
 
 -- ## The number
 

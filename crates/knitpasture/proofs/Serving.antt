@@ -16,10 +16,11 @@ use Rattle.settings.specs.Meaning.{freshSettings}
 use Rattle.bucket.specs.Whole.{lent, keyOf}
 use Rattle.outcome.specs.Calls.{Call, call}
 use Rattle.outcome.specs.Outcome.{Outcome, outcome}
+use Rattle.outcome.specs.Comparisons.{comparisonsOf}
 use Rattle.outcome.proofs.Demands.{outcome-refused}
 use Rattle.engine.specs.declared.Served.{Served}
 use Rattle.engine.specs.Served.{outcomeFrom}
-use Rattle.knitpasture.specs.Bytes.{numbersFrom, numbersBytes, tableLength, Bytes, asBytes, spelledBy, ByteOutcome, byteOutcome, wordsServed, spelledServed, freshOutcome}
+use Rattle.knitpasture.specs.Bytes.{numbersFrom, numbersBytes, tableLength, Bytes, asBytes, spelledBy, ByteOutcome, byteOutcome, wordsServed, spelledServed, hubServed, wordsComparisons, hubComparisons, hubCounted, freshOutcome}
 use Rattle.knitpasture.proofs.Words.{rowsSpelled, spelled-words}
 
 -- ## A call on rows as numbers
@@ -42,6 +43,18 @@ module _ (s : Settings) (r : Served) (settings n keys n′ keys′ answer′ : L
 
 pub ruleset words-cases = (words-wrong, words-refused, words-accepted)
 
+-- Settings of another length count none.
+pub wrong-count : (b : Bytes) (line answer : List ℕ) → (length (b .settings) ≡ settingsLength → ⊥) → 0 ≡ wordsComparisons b (call line answer)
+unfolding wordsComparisons
+wrong-count b line answer h = rw (ne-eqb (length (b .settings)) settingsLength h)
+
+-- The count is that of the call on the settings that the bytes spell.
+pub words-count : (c : ℕ) (s : Settings) (settings n keys : List ℕ) (g : Call) → s ≡ settingsOf settings → c ≡ comparisonsOf (lent s n keys) g → length settings ≡ settingsLength → c ≡ wordsComparisons (asBytes settings n keys) g
+unfolding wordsComparisons
+words-count c s settings n keys g d e l = rw (eq-eqb (length settings) settingsLength l, ← d) e
+
+pub ruleset words-counts = (wrong-count, words-count)
+
 -- ## A call on rows as bytes
 
 module _ (k number : ℕ) (settings rows keys n settings′ n′ keys′ answer′ : List ℕ) (g : Call) (e : byteOutcome number (asBytes settings′ n′ keys′) answer′ ≡ wordsServed (asBytes settings n keys) g) (f : n ≡ numbersFrom k rows) (l : length settings ≡ settingsLength) where
@@ -54,10 +67,15 @@ module _ (k number : ℕ) (settings rows keys n settings′ n′ keys′ answer�
   pub spelled-refused : (number ≡ 0 → ⊥) → byteOutcome number (asBytes settings′ rows keys′) answer′ ≡ spelledServed k b g
   spelled-refused z = rw (ne-eqb number 0 z) at spelled
 
-  pub spelled-accepted : (rows′ : List ℕ) → number ≡ 0 → rows′ ≡ numbersBytes n′ → byteOutcome 0 (asBytes settings′ rows′ keys′) answer′ ≡ spelledServed k b g
-  spelled-accepted rows′ z h = rw h (rw z at spelled)
+  pub spelled-accepted : (rows′ : List ℕ) → number ≡ 0 → rows′ ≡ numbersBytes n′ → byteOutcome number (asBytes settings′ rows′ keys′) answer′ ≡ spelledServed k b g
+  spelled-accepted rows′ z h = rw h (rw (eq-eqb number 0 z) at spelled)
 
 pub ruleset spelled-cases = (spelled-refused, spelled-accepted)
+
+-- The count is that of the call on the numbers that the rows spell.
+pub spelled-count : (c k : ℕ) (settings rows keys n : List ℕ) (g : Call) → n ≡ numbersFrom k rows → c ≡ wordsComparisons (asBytes settings n keys) g → length settings ≡ settingsLength → c ≡ comparisonsOf (spelledBy k (asBytes settings rows keys)) g
+unfolding wordsComparisons
+spelled-count c k settings rows keys n g f e l = e ∙ rw (eq-eqb (length settings) settingsLength l, f)
 
 -- As many numbers as the rows have are lent of a room that has them.
 part-long : (rows room : List ℕ) → length rows / 8 ≤ length room → length (midOf 0 (length rows / 8 - 0) room) ≡ length rows / 8
@@ -83,6 +101,35 @@ module _ (o : ByteOutcome) (settings rows keys room : List ℕ) (g : Call) where
 
   pub most-served : length room ≡ 8192 → length rows ≤ tableLength → Part → All
   most-served e h q = q ∙ ap served (part-most rows room e h)
+
+module _ (c : ℕ) (settings rows keys room : List ℕ) (g : Call) where
+  abbrev count : ℕ → ℕ
+  count k = comparisonsOf (spelledBy k (asBytes settings rows keys)) g
+
+  pub few-count : length room ≡ 512 → length rows ≤ 4096 → c ≡ count (length (midOf 0 (length rows / 8 - 0) room)) → c ≡ count (length rows / 8)
+  few-count e h q = q ∙ ap count (part-long rows room (omega arith))
+
+  pub most-count : length room ≡ 8192 → length rows ≤ tableLength → c ≡ count (length (midOf 0 (length rows / 8 - 0) room)) → c ≡ count (length rows / 8)
+  most-count e h q = q ∙ ap count (part-most rows room e h)
+
+-- ## The count of a call, written or not
+
+module _ (n c before : ℕ) (b b′ : Bytes) (g : Call) (answer′ : List ℕ) (e : byteOutcome n b′ answer′ ≡ hubServed b g) where
+  -- A refusal leaves what stood there.
+  pub count-kept : (n ≡ 0 → ⊥) → before ≡ hubCounted b g before
+  unfolding hubCounted
+  count-kept z = rw (← e, ne-eqb n 0 z)
+
+  -- An accepted call leaves its count.
+  pub count-written : n ≡ 0 → c ≡ hubComparisons b g → c ≡ hubCounted b g before
+  unfolding hubCounted
+  count-written z f = rw (← e, z) f
+
+pub ruleset count-cases = (count-kept, count-written)
+
+-- A number that is 0 may be written so.
+pub accepted-as-0 : (n : ℕ) (b : Bytes) (answer : List ℕ) (o : ByteOutcome) → byteOutcome n b answer ≡ o → n ≡ 0 → byteOutcome 0 b answer ≡ o
+accepted-as-0 n b answer o e z = rw z at e
 
 -- ## A row's key
 

@@ -11,6 +11,7 @@ use Rattle.settings.specs.Meaning.{freshSettings}
 use Rattle.bucket.specs.Whole.{Lent, lent, keyOf}
 use Rattle.outcome.specs.Calls.{Call}
 use Rattle.outcome.specs.Outcome.{Outcome, outcome}
+use Rattle.outcome.specs.Comparisons.{comparisonsOf}
 
 -- ## Numbers as bytes
 
@@ -94,6 +95,20 @@ spelledServed n b g = outcomeBytes (outcome (spelledBy n b) g) b (g .answer)
 -- A call on rows that are bytes.
 unfoldable pub hubServed : Bytes → Call → ByteOutcome
 hubServed b g = spelling b (spelledServed (length (b .rows) / 8) b g) (byteOutcome 1 b (g .answer))
+
+-- ## The comparisons of a call, none where a length is wrong
+
+-- on rows that are numbers
+unfoldable pub wordsComparisons : Bytes → Call → ℕ
+wordsComparisons b g = pick (eqb (length (b .settings)) settingsLength) (comparisonsOf (lent (settingsOf (b .settings)) (b .rows) (b .keys)) g) 0
+
+-- on rows that are bytes
+unfoldable pub hubComparisons : Bytes → Call → ℕ
+hubComparisons b g = spelling b (comparisonsOf (lentOf b) g) 0
+
+-- What the place of the count holds after a call, and what it held before it: only an accepted call writes.
+unfoldable pub hubCounted : Bytes → Call → ℕ → ℕ
+hubCounted b g before = pick (eqb ((hubServed b g) .number) 0) (hubComparisons b g) before
 
 -- ## A row's key
 

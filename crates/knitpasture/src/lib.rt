@@ -7,8 +7,9 @@ ghost use Rattle.settings.specs.Bytes.{settingsLength};
 ghost use Rattle.bucket.specs.Whole.{lent, keyOf};
 ghost use Rattle.outcome.specs.Calls.{call};
 ghost use Rattle.outcome.specs.Outcome.{outcome};
+ghost use Rattle.outcome.specs.Comparisons.{comparisonsOf};
 ghost use Rattle.knitpasture.specs.Lent.{lentOutcome, lentOutcomeFrom};
-ghost use Rattle.knitpasture.specs.Bytes.{numbersFrom, numbersBytes, asBytes, spelledBy, byteOutcome, wordsServed, spelledServed, hubServed, hubKey, freshOutcome, fitRows, wordsFresh, hubFresh};
+ghost use Rattle.knitpasture.specs.Bytes.{numbersFrom, numbersBytes, asBytes, spelledBy, byteOutcome, wordsServed, spelledServed, hubServed, wordsComparisons, hubComparisons, hubCounted, hubKey, freshOutcome, fitRows, wordsFresh, hubFresh};
 
 // Serves a line on settings that are lent and altered here, and returns 0 or the refusal.
 #[no_mangle]
@@ -26,7 +27,47 @@ pub extern "C" fn knitpasture_serve_lent(
     r.number
 }
 
+// What serving returns: 0 or the refusal, and the comparisons of a prefix with a key that an accepted line made.
+struct Called {
+    number: u64,
+    comparisons: u64,
+}
+
 // Serves a line on settings as bytes and rows as numbers; only an accepted line alters them.
+fn serve_words(
+    settings: &mut [u8],
+    rows: &mut [u64],
+    keys: &mut [u8],
+    line: &[u8],
+    answer: &mut [u8],
+) -> Called
+    ensures { λ r. ⌜ byteOutcome (r .number) (asBytes (now (settings .exit)) (now (rows .exit)) (now (keys .exit))) (now (answer .exit)) ≡ wordsServed (asBytes (now (settings .entry)) (now (rows .entry)) (now (keys .entry))) (call (now (line .entry)) (now (answer .entry))) ⌝ }
+    ensures { λ r. ⌜ r .comparisons ≡ wordsComparisons (asBytes (now (settings .entry)) (now (rows .entry)) (now (keys .entry))) (call (now (line .entry)) (now (answer .entry))) ⌝ }
+{
+    if settings.len() != model::SETTINGS_BYTES {
+        return Called {
+            number: model::UNSOUND,
+            comparisons: 0,
+        };
+    }
+    let s = settings::decode(settings);
+    let mut comparisons = 0;
+    let r = engine::serve_counted(s, rows, keys, line, answer, &mut comparisons);
+    if r.number != 0 {
+        return Called {
+            number: r.number,
+            comparisons,
+        };
+    }
+    let after = r.settings;
+    settings::encode(after, settings);
+    Called {
+        number: 0,
+        comparisons,
+    }
+}
+
+// The same for C.
 #[no_mangle]
 pub extern "C" fn knitpasture_serve_words(
     settings: &mut [u8],
@@ -37,17 +78,8 @@ pub extern "C" fn knitpasture_serve_words(
 ) -> u64
     ensures { λ r. ⌜ byteOutcome r (asBytes (now (settings .exit)) (now (rows .exit)) (now (keys .exit))) (now (answer .exit)) ≡ wordsServed (asBytes (now (settings .entry)) (now (rows .entry)) (now (keys .entry))) (call (now (line .entry)) (now (answer .entry))) ⌝ }
 {
-    if settings.len() != model::SETTINGS_BYTES {
-        return model::UNSOUND;
-    }
-    let s = settings::decode(settings);
-    let r = engine::serve(s, rows, keys, line, answer);
-    if r.number != 0 {
-        return r.number;
-    }
-    let after = r.settings;
-    settings::encode(after, settings);
-    0
+    let called = serve_words(settings, rows, keys, line, answer);
+    called.number
 }
 
 // Room for the numbers of 64 rows: less to clear, where the table is small.
@@ -98,17 +130,51 @@ fn serve_spelled(
     line: &[u8],
     answer: &mut [u8],
     numbers: &mut [u64],
-) -> u64
+) -> Called
     requires { ⌜ (length (now settings) ≡ settingsLength) × (length (now rows) ≡ 8 * length (now numbers)) ⌝ }
-    ensures { λ r. ⌜ byteOutcome r (asBytes (now (settings .exit)) (now (rows .exit)) (now (keys .exit))) (now (answer .exit)) ≡ spelledServed (length (now (numbers .entry))) (asBytes (now (settings .entry)) (now (rows .entry)) (now (keys .entry))) (call (now (line .entry)) (now (answer .entry))) ⌝ }
+    ensures { λ r. ⌜ byteOutcome (r .number) (asBytes (now (settings .exit)) (now (rows .exit)) (now (keys .exit))) (now (answer .exit)) ≡ spelledServed (length (now (numbers .entry))) (asBytes (now (settings .entry)) (now (rows .entry)) (now (keys .entry))) (call (now (line .entry)) (now (answer .entry))) ⌝ }
+    ensures { λ r. ⌜ r .comparisons ≡ comparisonsOf (spelledBy (length (now (numbers .entry))) (asBytes (now (settings .entry)) (now (rows .entry)) (now (keys .entry)))) (call (now (line .entry)) (now (answer .entry))) ⌝ }
 {
     read_numbers(rows, numbers);
-    let number = knitpasture_serve_words(settings, numbers, keys, line, answer);
-    if number != 0 {
-        return number;
+    let called = serve_words(settings, numbers, keys, line, answer);
+    if called.number != 0 {
+        return called;
     }
     write_numbers(numbers, rows);
-    0
+    called
+}
+
+// Serves a line on settings and rows as bytes; only an accepted line alters them.
+fn serve_bytes(
+    settings: &mut [u8],
+    rows: &mut [u8],
+    keys: &mut [u8],
+    line: &[u8],
+    answer: &mut [u8],
+) -> Called
+    ensures { λ r. ⌜ byteOutcome (r .number) (asBytes (now (settings .exit)) (now (rows .exit)) (now (keys .exit))) (now (answer .exit)) ≡ hubServed (asBytes (now (settings .entry)) (now (rows .entry)) (now (keys .entry))) (call (now (line .entry)) (now (answer .entry))) ⌝ }
+    ensures { λ r. ⌜ r .comparisons ≡ hubComparisons (asBytes (now (settings .entry)) (now (rows .entry)) (now (keys .entry))) (call (now (line .entry)) (now (answer .entry))) ⌝ }
+{
+    let wrong = Called {
+        number: model::UNSOUND,
+        comparisons: 0,
+    };
+    if settings.len() != model::SETTINGS_BYTES {
+        return wrong;
+    }
+    if rows.len() > model::TABLE_BYTES {
+        return wrong;
+    }
+    if rows.len() % 8 != 0 {
+        return wrong;
+    }
+    let n = rows.len() / 8;
+    if rows.len() <= 4096 {
+        let mut few = few_numbers();
+        return serve_spelled(settings, rows, keys, line, answer, &mut few[0..n]);
+    }
+    let mut numbers = many_numbers();
+    serve_spelled(settings, rows, keys, line, answer, &mut numbers[0..n])
 }
 
 // Serves a line on settings and rows as bytes, and returns 0 or the refusal.
@@ -122,22 +188,29 @@ pub extern "C" fn knitpasture_serve(
 ) -> u64
     ensures { λ r. ⌜ byteOutcome r (asBytes (now (settings .exit)) (now (rows .exit)) (now (keys .exit))) (now (answer .exit)) ≡ hubServed (asBytes (now (settings .entry)) (now (rows .entry)) (now (keys .entry))) (call (now (line .entry)) (now (answer .entry))) ⌝ }
 {
-    if settings.len() != model::SETTINGS_BYTES {
-        return model::UNSOUND;
+    let called = serve_bytes(settings, rows, keys, line, answer);
+    called.number
+}
+
+// The same, and an accepted line leaves the comparisons of a prefix with a key that it made.
+#[no_mangle]
+pub extern "C" fn knitpasture_serve_counted(
+    settings: &mut [u8],
+    rows: &mut [u8],
+    keys: &mut [u8],
+    line: &[u8],
+    answer: &mut [u8],
+    comparisons: &mut u64,
+) -> u64
+    ensures { λ r. ⌜ byteOutcome r (asBytes (now (settings .exit)) (now (rows .exit)) (now (keys .exit))) (now (answer .exit)) ≡ hubServed (asBytes (now (settings .entry)) (now (rows .entry)) (now (keys .entry))) (call (now (line .entry)) (now (answer .entry))) ⌝ }
+    ensures { λ r. ⌜ now (comparisons .exit) ≡ hubCounted (asBytes (now (settings .entry)) (now (rows .entry)) (now (keys .entry))) (call (now (line .entry)) (now (answer .entry))) (now (comparisons .entry)) ⌝ }
+{
+    let called = serve_bytes(settings, rows, keys, line, answer);
+    if called.number != 0 {
+        return called.number;
     }
-    if rows.len() > model::TABLE_BYTES {
-        return model::UNSOUND;
-    }
-    if rows.len() % 8 != 0 {
-        return model::UNSOUND;
-    }
-    let n = rows.len() / 8;
-    if rows.len() <= 4096 {
-        let mut few = few_numbers();
-        return serve_spelled(settings, rows, keys, line, answer, &mut few[0..n]);
-    }
-    let mut numbers = many_numbers();
-    serve_spelled(settings, rows, keys, line, answer, &mut numbers[0..n])
+    *comparisons = called.comparisons;
+    0
 }
 
 // The length of the key at a position of the numbers that the rows spell.

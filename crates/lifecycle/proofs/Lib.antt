@@ -1,9 +1,10 @@
+pub mod Bounding
 pub mod Laying
-pub mod Choosing
-pub mod Tightening
+pub mod Matching
 pub mod Days
 pub mod Words
 pub mod Fates
 pub mod RowFates
+pub mod KeyRows
 pub mod Judging
 pub mod Wrapping

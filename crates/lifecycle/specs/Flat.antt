@@ -1,59 +1,53 @@
--- The eight rules laid flat, so that keys are compared with their prefixes in place: 64 bytes a prefix, two numbers of days a rule.
-use Prim.Native.Nat.{ℕ, zero, suc, _+_, _*_, _≤_, _<_}
+-- Rules laid flat, at most eight, so that keys are compared with their prefixes in place: 64 bytes a prefix, and four numbers a rule, each eight of a kind side by side.
+use Prim.Native.Nat.{ℕ, zero, suc, _+_, _-_, _*_, _^_, _≤_, _<_}
 use mathlib.Core.Path.{_≡_}
-use mathlib.Core.Bool.{Bool, _&&_}
 use mathlib.Core.List.{List, [], _∷_}
-use lib.ListN.{length, getD, take}
-use Rattle.buffers.specs.Lists.{keep, begins}
+use lib.ListN.{length, getD, set}
 use Rattle.buffers.specs.Writes.{placed}
 use Rattle.model.specs.Settings as model
-use Rattle.model.specs.Settings.{isSet}
 use Rattle.table.specs.Places.{keyAt}
-use Rattle.lifecycle.specs.declared.Chosen.{Chosen}
-use Rattle.lifecycle.specs.declared.KeyRules.{KeyRules}
-use Rattle.lifecycle.specs.Least.{limitsOf}
+use Rattle.search.specs.Keys.{rank}
+use Rattle.lifecycle.specs.Keys.{KeyThere}
 
--- the rule at a place
+-- the rule at a place: the first eight numbers are current days, the next eight noncurrent days
 abbrev pub ruleIn : List ℕ → List ℕ → ℕ → model.Rule
-ruleIn prefixes days i = record { prefix = keyAt prefixes i; currentDays = getD days (2 * i) 0; noncurrentDays = getD days (2 * i + 1) 0 }
+ruleIn prefixes numbers i = record { prefix = keyAt prefixes i; currentDays = getD numbers i 0; noncurrentDays = getD numbers (8 + i) 0 }
 
 -- the rules at the first n places, the last of them first
 abbrev pub rulesIn : List ℕ → List ℕ → ℕ → List model.Rule
-rulesIn prefixes days zero = []
-rulesIn prefixes days (suc n) = ruleIn prefixes days n ∷ rulesIn prefixes days n
-
--- the rule is set, and its prefix may begin a key with this first byte
-unfoldable pub mayBegin : ℕ → model.Rule → Bool
-mayBegin b u = isSet u && begins (take 1 (u .prefix)) (b ∷ [])
+rulesIn prefixes numbers zero = []
+rulesIn prefixes numbers (suc n) = ruleIn prefixes numbers n ∷ rulesIn prefixes numbers n
 
 -- ## Contracts
 
--- The first n places can be read.
-pub record Rules (prefixes days : List ℕ) (n : ℕ) : Type 0 where
-  pub prefixes-fit : 64 * n ≤ length prefixes
-  pub days-fit : 2 * n ≤ length days
-  pub lengths : (i : ℕ) → i < n → getD prefixes (64 * i) 0 ≤ 63
+-- The keys that a prefix begins have ranks between these two: its own, and the last that the bytes behind it can spell.
+pub record Bounded (prefix : List ℕ) (low high : ℕ) : Type 0 where
+  pub low-is : low ≡ rank 8 prefix
+  pub high-is : high + 1 ≡ rank 8 prefix + 256 ^ (8 - length prefix)
 
--- These rules are at the first n of eight places.
-pub record Laid (prefixes days : List ℕ) (n : ℕ) (us : List model.Rule) : Type 0 where
-  pub rules : Rules prefixes days n
-  pub are : rulesIn prefixes days n ≡ us
+-- The first n of eight places can be read.
+pub record Places (prefixes numbers : List ℕ) (n : ℕ) : Type 0 where
+  pub few : n ≤ 8
+  pub prefixes-there : (i : ℕ) → i < n → KeyThere prefixes i
+  pub numbers-long : length numbers ≡ 32
+
+-- And the other numbers are the bounds of the prefixes.
+pub record Rules (prefixes numbers : List ℕ) (n : ℕ) : Type 0 where
+  pub places : Places prefixes numbers n
+  pub bounds : (i : ℕ) → i < n → Bounded (keyAt prefixes i) (getD numbers (16 + i) 0) (getD numbers (24 + i) 0)
+
+-- These rules are at the first n places.
+pub record Laid (prefixes numbers : List ℕ) (n : ℕ) (us : List model.Rule) : Type 0 where
+  pub places : Places prefixes numbers n
+  pub are : rulesIn prefixes numbers n ≡ us
   pub long : length prefixes ≡ 512
-  pub days-long : length days ≡ 16
 
 -- A rule was written at a place.
-pub record RulePut (at : ℕ) (prefix : List ℕ) (current noncurrent : ℕ) (prefixes days prefixes′ days′ : List ℕ) : Type 0 where
+pub record RulePut (at : ℕ) (prefix : List ℕ) (current noncurrent : ℕ) (prefixes numbers prefixes′ numbers′ : List ℕ) : Type 0 where
   pub prefixes-are : prefixes′ ≡ placed prefixes (64 * at) prefix
-  pub days-are : days′ ≡ placed days (2 * at) (current ∷ noncurrent ∷ [])
+  pub numbers-are : numbers′ ≡ set (set numbers at current) (8 + at) noncurrent
 
--- Those of the rules that may begin a key with this first byte were chosen.
-pub record ChosenBy (us : List model.Rule) (near periods : List ℕ) (b : ℕ) (r : Chosen) : Type 0 where
-  pub first-is : r .first ≡ b
-  pub laid : Laid near periods (r .count) (keep (mayBegin b) us)
-
--- What the rules set for a key, and those of them that may begin it.
-pub record RulesFor (us : List model.Rule) (key near periods : List ℕ) (r : KeyRules) : Type 0 where
-  pub limits-are : r .limits ≡ limitsOf us key
-  pub chosen-by : ChosenBy us near periods (r .chosen .first) (r .chosen)
-  pub long : length near ≡ 512
-  pub periods-long : length periods ≡ 16
+-- The bounds were written, and the days are as they were.
+pub record BoundsLaid (prefixes numbers : List ℕ) (n : ℕ) (numbers′ : List ℕ) : Type 0 where
+  pub rules : Rules prefixes numbers′ n
+  pub kept : rulesIn prefixes numbers′ n ≡ rulesIn prefixes numbers n

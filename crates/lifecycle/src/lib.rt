@@ -3,9 +3,8 @@ mod rules;
 
 use settings::Rule;
 ghost use mathlib.Core.Path.{_≡_};
-ghost use mathlib.Core.Bool.{true};
+ghost use mathlib.Core.Bool.{true, false};
 ghost use mathlib.Core.List.{List};
-ghost use mathlib.Core.Option.{none};
 ghost use Prim.Native.Nat.{ℕ, _+_, _-_, _*_, _%_, _≤_, _<_};
 ghost use lib.ListN.{length};
 ghost use Rattle.buffers.specs.Lists.{all, same};
@@ -14,12 +13,16 @@ ghost use Rattle.calendar.specs.Calendar.{latest, day};
 ghost use Rattle.calendar.specs.Periods.{dayStart};
 ghost use Rattle.blocks.specs.Blocks.{keyIn, isBlock};
 ghost use Rattle.model.specs.Sweep.{marks, removes};
+ghost use Rattle.model.specs.Comparisons.{comparisons};
 ghost use Rattle.settings.specs.Meaning.{rulesMean};
 ghost use Rattle.table.specs.Layout.{rowAt, rowsOf};
+ghost use Rattle.table.specs.Places.{keyAt};
+ghost use Rattle.lifecycle.specs.Keys.{KeyThere};
+ghost use Rattle.lifecycle.specs.Least.{mostComparisons};
 ghost use Rattle.lifecycle.specs.Flat.{rulesIn, Rules};
 ghost use Rattle.lifecycle.specs.Days.{over, fewDays};
 ghost use Rattle.lifecycle.specs.Fates.{fateByte, fateOf};
-ghost use Rattle.lifecycle.specs.Judging.{Keys, currentBy, noncurrentBy, rowBefore, sameKey, Readable, Judgeable, Dated, LastRules, JudgedRow, JudgedAll, Counted, Passed, JudgedRows};
+ghost use Rattle.lifecycle.specs.Judging.{currentBy, sameKey, olderByte, versionByte, KeysInOrder, Between, KeyEnding, KeyEnds, Readable, Judgeable, Dated, Older, Stored, JudgedKey, JudgedAll, Counted, Passed, JudgedRows};
 
 // The least days that the rules set for a key's rows, 0 for none.
 struct Limits {
@@ -27,22 +30,28 @@ struct Limits {
     noncurrent: u64,
 }
 
-// The rules that may begin a key with this first byte, so many. The byte is a whole word, so that no padding is copied with it.
-struct Chosen {
-    first: u64,
-    count: usize,
+// What the rules set for a key, and the comparisons of a prefix with a key so far.
+struct Matched {
+    limits: Limits,
+    comparisons: u64,
 }
 
-// What the rules set for a key, and those of them that may begin it.
-struct KeyRules {
-    limits: Limits,
-    chosen: Chosen,
+// Where a key's rows end, and the comparisons so far.
+struct KeyDone {
+    end: usize,
+    comparisons: u64,
 }
 
 // The rows that go and the markers that come.
 pub struct Counts {
     pub removed: usize,
     pub added: usize,
+}
+
+// What a sweep comes to, and the comparisons of a prefix with a key that it took.
+pub struct Judged {
+    pub counts: Counts,
+    pub comparisons: u64,
 }
 
 // The days stand for an action, and by this midnight they have expired since an instant.
@@ -74,7 +83,7 @@ fn current_fate(rows: &[u64], at: usize, days: u64, midnight: u64) -> u8
 // The fate of a row that isn't current, by its key's days since the creation of the next newer row, the one before it.
 fn noncurrent_fate(rows: &[u64], at: usize, days: u64, instant: u64, midnight: u64) -> u8
     requires { ⌜ (1 ≤ at) × Dated (now rows) (at - 1) × Dated (now rows) at × (days ≤ 36500) × (midnight % day ≡ 0) ⌝ }
-    ensures { λ r. ⌜ ((keys : List ℕ) → r ≡ fateByte (noncurrentBy days (rowAt (now (rows .entry)) keys (at - 1) .created) instant midnight (rowAt (now (rows .entry)) keys at))) ⌝ }
+    ensures { λ r. ⌜ ((keys : List ℕ) → r ≡ olderByte (now (rows .entry)) keys days instant midnight at) ⌝ }
 {
     let n = table::numbers_at(rows, at);
     let newer = table::numbers_at(rows, at - 1);
@@ -103,86 +112,207 @@ fn same_block(a: &[u8], b: &[u8]) -> bool
     true
 }
 
-// The row has the key of the row before it.
-fn same_key(keys: &[u8], at: usize) -> bool
-    requires { ⌜ Keys (now keys) at ⌝ }
-    ensures { λ r. ⌜ r ≡ sameKey (now (keys .entry)) at ⌝ }
+// Two rows have one key.
+fn same_key(keys: &[u8], at: usize, other: usize) -> bool
+    requires { ⌜ KeyThere (now keys) at × KeyThere (now keys) other ⌝ }
+    ensures { λ r. ⌜ r ≡ same (keyAt (now (keys .entry)) at) (keyAt (now (keys .entry)) other) ⌝ }
 {
-    if at == 0 {
-        return false;
-    }
-    let before = 64 * (at - 1);
     let own = 64 * at;
-    let end = own + 64;
-    same_block(&keys[before..own], &keys[own..end])
+    let own_end = own + 64;
+    let its = 64 * other;
+    let its_end = its + 64;
+    same_block(&keys[own..own_end], &keys[its..its_end])
 }
 
-// Judges the row at a position on the day that begins at `midnight`, and returns what the rules set for its key; `last` is that of the row before.
-fn judge_row(
+// Where to look between two positions: at the guess, or next to it if it lies before them; halfway if it lies behind them.
+fn probe(low: usize, high: usize, guess: usize) -> usize
+    requires { ⌜ low < high ⌝ }
+    ensures { λ r. ⌜ Between low high r ⌝ }
+{
+    if guess < low {
+        return low;
+    }
+    if guess < high {
+        return guess;
+    }
+    low + (high - low) / 2
+}
+
+// Where the rows of the key at a position end, which go on at least to `start`. Keys are in order, so that few are compared: first as many rows on as are expected, then in steps that double. A guess may be any number, so that its sums may wrap.
+fn search_end(keys: &[u8], used: usize, at: usize, start: usize, expected: usize) -> usize
+    requires { ⌜ KeyEnding (now keys) used at start used ⌝ }
+    ensures { λ r. ⌜ KeyEnds (now (keys .entry)) used at r ⌝ }
+{
+    let mut low = start;
+    let mut high = used;
+    let mut guess = std::num::wrapping_add_usize(at, expected);
+    let mut span = 1;
+    while low < high {
+        let middle = probe(low, high, guess);
+        let step = span;
+        span = std::num::wrapping_add_usize(step, step);
+        if same_key(keys, at, middle) {
+            low = middle + 1;
+            guess = std::num::wrapping_add_usize(middle, step);
+        } else {
+            high = middle;
+            guess = std::num::wrapping_sub_usize(middle, step);
+        }
+    }
+    low
+}
+
+// The position a few rows on, or where the rows end.
+fn few_on(used: usize, at: usize) -> usize
+    requires { ⌜ at + 2 ≤ used ⌝ }
+    ensures { λ r. ⌜ (at + 2 ≤ r) × (r ≤ used) ⌝ }
+{
+    if used - at <= 4 {
+        return used;
+    }
+    at + 4
+}
+
+// Where the rows of a key that has two or more end. The next few are looked at one by one, since most keys have few.
+fn later_end(keys: &[u8], used: usize, at: usize, expected: usize) -> usize
+    requires { ⌜ KeyEnding (now keys) used at (at + 2) used ⌝ }
+    ensures { λ r. ⌜ KeyEnds (now (keys .entry)) used at r ⌝ }
+{
+    let near = few_on(used, at);
+    let mut next = at + 2;
+    while next < near {
+        if same_key(keys, at, next) {
+            next += 1;
+        } else {
+            return next;
+        }
+    }
+    search_end(keys, used, at, next, expected)
+}
+
+// Where the rows of the key at a position end.
+fn key_end(keys: &[u8], used: usize, at: usize, expected: usize) -> usize
+    requires { ⌜ KeysInOrder (now keys) used × (at < used) ⌝ }
+    ensures { λ r. ⌜ KeyEnds (now (keys .entry)) used at r ⌝ }
+{
+    let next = at + 1;
+    if next == used {
+        return next;
+    }
+    if same_key(keys, at, next) {
+        return later_end(keys, used, at, expected);
+    }
+    next
+}
+
+// Judges rows that aren't current, by their key's days.
+fn judge_older(
     rows: &[u64],
-    keys: &[u8],
-    at: usize,
-    prefixes: &[u8],
-    days: &[u64],
-    near: &mut [u8],
-    periods: &mut [u64],
-    last: KeyRules,
+    from: usize,
+    to: usize,
+    days: u64,
     instant: u64,
     midnight: u64,
     fates: &mut [u8],
-) -> KeyRules
-    requires { ⌜ Readable (now rows) (now keys) (at + 1) × Rules (now prefixes) (now days) 8 × (at < length (now fates)) × (midnight ≡ dayStart instant) ⌝ }
-    requires { ⌜ all fewDays (rulesIn (now prefixes) (now days) 8) ≡ true ⌝ }
-    requires { ⌜ LastRules (rulesIn (now prefixes) (now days) 8) (rowBefore (now rows) (now keys) at) (now near) (now periods) last ⌝ }
-    ensures { λ r. ⌜ JudgedRow (rulesIn (now (prefixes .entry)) (now (days .entry)) 8) instant (now (rows .entry)) (now (keys .entry)) at (now (near .exit)) (now (periods .exit)) (now (fates .entry)) (now (fates .exit)) r ⌝ }
+)
+    requires { ⌜ Older (now rows) from to × (to ≤ length (now fates)) × (days ≤ 36500) × (midnight % day ≡ 0) ⌝ }
+    ensures { λ _. ⌜ ((keys : List ℕ) → Stored (olderByte (now (rows .entry)) keys days instant midnight) from to (now (fates .entry)) (now (fates .exit))) ⌝ }
 {
-    if same_key(keys, at) {
-        fates[at] = noncurrent_fate(rows, at, last.limits.noncurrent, instant, midnight);
-        return last;
+    let mut i = from;
+    while i < to {
+        fates[i] = noncurrent_fate(rows, i, days, instant, midnight);
+        i += 1;
     }
-    let chosen = last.chosen;
-    let own = rules::rules_for(prefixes, days, keys, at, near, periods, chosen);
-    fates[at] = current_fate(rows, at, own.limits.current, midnight);
-    own
 }
 
-// Judges every row on the day that begins at `midnight`.
+// Judges the rows of one key by its limits: the first is current, the others aren't.
+fn judge_versions(
+    rows: &[u64],
+    from: usize,
+    to: usize,
+    limits: Limits,
+    instant: u64,
+    midnight: u64,
+    fates: &mut [u8],
+)
+    requires { ⌜ (from < to) × Older (now rows) (from + 1) to × (to ≤ length (now fates)) ⌝ }
+    requires { ⌜ (limits .current ≤ 36500) × (limits .noncurrent ≤ 36500) × (midnight % day ≡ 0) ⌝ }
+    ensures { λ _. ⌜ ((keys : List ℕ) → Stored (versionByte (now (rows .entry)) keys limits instant midnight from) from to (now (fates .entry)) (now (fates .exit))) ⌝ }
+{
+    fates[from] = current_fate(rows, from, limits.current, midnight);
+    let days = limits.noncurrent;
+    judge_older(rows, from + 1, to, days, instant, midnight, fates);
+}
+
+// Judges the rows of the key that begins at a position, on the day that begins at `midnight`. The key is compared with the n rules once, however many rows it has.
+fn judge_key(
+    rows: &[u64],
+    keys: &[u8],
+    used: usize,
+    at: usize,
+    expected: usize,
+    prefixes: &[u8],
+    numbers: &[u64],
+    n: usize,
+    comparisons: u64,
+    instant: u64,
+    midnight: u64,
+    fates: &mut [u8],
+) -> KeyDone
+    requires { ⌜ Readable (now rows) (now keys) used × (at < used) × (sameKey (now keys) at ≡ false) × (used ≤ length (now fates)) ⌝ }
+    requires { ⌜ Rules (now prefixes) (now numbers) n × (all fewDays (rulesIn (now prefixes) (now numbers) n) ≡ true) ⌝ }
+    requires { ⌜ (comparisons + n ≤ mostComparisons) × (midnight ≡ dayStart instant) ⌝ }
+    ensures { λ r. ⌜ JudgedKey (rulesIn (now (prefixes .entry)) (now (numbers .entry)) n) instant (now (rows .entry)) (now (keys .entry)) used at comparisons (now (fates .entry)) (now (fates .exit)) r ⌝ }
+{
+    let end = key_end(keys, used, at, expected);
+    let m = rules::match_key(prefixes, numbers, n, keys, at, comparisons);
+    let limits = m.limits;
+    judge_versions(rows, at, end, limits, instant, midnight, fates);
+    KeyDone {
+        end,
+        comparisons: m.comparisons,
+    }
+}
+
+// Judges every row, key by key, and returns the comparisons. Neighbouring keys often have as many rows.
 fn judge_rows(
     rows: &[u64],
     keys: &[u8],
     used: usize,
     prefixes: &[u8],
-    days: &[u64],
-    near: &mut [u8],
-    periods: &mut [u64],
-    start: KeyRules,
+    numbers: &[u64],
+    n: usize,
     instant: u64,
     midnight: u64,
     fates: &mut [u8],
-)
-    requires { ⌜ Readable (now rows) (now keys) used × Rules (now prefixes) (now days) 8 × (used ≤ length (now fates)) × (midnight ≡ dayStart instant) ⌝ }
-    requires { ⌜ all fewDays (rulesIn (now prefixes) (now days) 8) ≡ true ⌝ }
-    requires { ⌜ LastRules (rulesIn (now prefixes) (now days) 8) none (now near) (now periods) start ⌝ }
-    ensures { λ _. ⌜ JudgedAll (rulesIn (now (prefixes .entry)) (now (days .entry)) 8) instant (rowsOf (now (rows .entry)) (now (keys .entry)) used) used (now (fates .entry)) (now (fates .exit)) ⌝ }
+) -> u64
+    requires { ⌜ Readable (now rows) (now keys) used × (used ≤ length (now fates)) × (midnight ≡ dayStart instant) ⌝ }
+    requires { ⌜ Rules (now prefixes) (now numbers) n × (n ≤ 8) × (all fewDays (rulesIn (now prefixes) (now numbers) n) ≡ true) ⌝ }
+    ensures { λ r. ⌜ JudgedAll (rulesIn (now (prefixes .entry)) (now (numbers .entry)) n) instant (rowsOf (now (rows .entry)) (now (keys .entry)) used) used (now (fates .entry)) (now (fates .exit)) r ⌝ }
 {
-    let mut last = start;
+    let mut expected = 1;
+    let mut comparisons = 0;
     let mut i = 0;
     while i < used {
-        last = judge_row(
+        let key = judge_key(
             rows,
             keys,
+            used,
             i,
+            expected,
             prefixes,
-            days,
-            near,
-            periods,
-            last,
+            numbers,
+            n,
+            comparisons,
             instant,
             midnight,
             fates,
         );
-        i += 1;
+        comparisons = key.comparisons;
+        expected = key.end - i;
+        i = key.end;
     }
+    comparisons
 }
 
 // How many rows a fate removes.
@@ -236,7 +366,7 @@ fn count(fates: &[u8], used: usize) -> Counts
     Counts { removed, added }
 }
 
-// Judges every row, each key's rules once, and counts. The day's midnight stands for all of its instants, so that no row's days are rounded by a division.
+// Judges every row by the rules that are set, and counts. The day's midnight stands for all of its instants, so that no row's days are rounded by a division.
 pub fn judge_table(
     rows: &[u64],
     keys: &[u8],
@@ -244,37 +374,31 @@ pub fn judge_table(
     rules: [Rule; 8],
     instant: u64,
     fates: &mut [u8],
-) -> Counts
+) -> Judged
     requires { ⌜ Judgeable (now rows) (now keys) used rules ⌝ }
     requires { ⌜ used ≤ length (now fates) ⌝ }
-    ensures { λ r. ⌜ JudgedRows (rulesMean rules) instant (rowsOf (now (rows .entry)) (now (keys .entry)) used) used (now (fates .entry)) (now (fates .exit)) r ⌝ }
+    ensures { λ r. ⌜ JudgedRows (rulesMean rules) instant (rowsOf (now (rows .entry)) (now (keys .entry)) used) used (now (fates .entry)) (now (fates .exit)) (r .counts) ⌝ }
+    ensures { λ r. ⌜ r .comparisons ≡ comparisons (rulesMean rules) (rowsOf (now (rows .entry)) (now (keys .entry)) used) ⌝ }
 {
     let midnight = calendar::day_start(instant);
     let mut prefixes = rules::no_prefixes();
-    let mut days = rules::no_days();
-    rules::lay_rules(rules, &mut prefixes, &mut days);
-    let mut near = rules::no_prefixes();
-    let mut periods = rules::no_days();
-    let n = rules::choose(&prefixes, &days, 0, &mut near, &mut periods);
-    let start = KeyRules {
-        limits: Limits {
-            current: 0,
-            noncurrent: 0,
-        },
-        chosen: Chosen { first: 0, count: n },
-    };
-    judge_rows(
+    let mut numbers = rules::no_numbers();
+    let n = rules::lay_rules(rules, &mut prefixes, &mut numbers);
+    rules::lay_bounds(&prefixes, &mut numbers, n);
+    let comparisons = judge_rows(
         rows,
         keys,
         used,
         &prefixes,
-        &days,
-        &mut near,
-        &mut periods,
-        start,
+        &numbers,
+        n,
         instant,
         midnight,
         fates,
     );
-    count(fates, used)
+    let counts = count(fates, used);
+    Judged {
+        counts,
+        comparisons,
+    }
 }

@@ -14,6 +14,7 @@ pub mod Sound
 pub mod Retries
 pub mod Room
 pub mod Expiry
+pub mod Comparisons
 pub mod Facts
 pub mod Examples
 pub mod Runs

@@ -1,16 +1,16 @@
 -- The order of keys and of rows, and that each change of the table keeps it.
-use Prim.Native.Nat.{ℕ, zero, suc}
+use Prim.Native.Nat.{ℕ, zero, suc, _<_}
 use mathlib.Core.Path.{_≡_, refl, sym, _∙_}
 use mathlib.Core.Logic.{_⊎_, inl, inr}
 use mathlib.Core.Bool.{Bool, true, false, true≢false, false≢true}
 use mathlib.Core.List.{List, [], _∷_}
 use native.Mathlib.Omega.{arith}
 use lib.Dec.{eqb, ltb}
-use lib.ListN.{drop}
+use lib.ListN.{length, getD, drop}
 use borrow.Author.Tests.{eqb-true, eqb-false, eq-eqb, ltb-true, ltb-false, lt-ltb, le-ltb}
 use Rattle.buffers.specs.Lists.{all, keep, change, same}
 use Rattle.buffers.proofs.Tests.{either, clash, and-i, and-l, and-r, or-l, or-r, or-one, or-none}
-use Rattle.buffers.proofs.Lists.{same-path, same-refl, all-as, all-keep, all-change}
+use Rattle.buffers.proofs.Lists.{same-path, same-refl, all-as, all-at, all-keep, all-change}
 use Rattle.model.specs.Rows.{Row, before, ahead, ordered}
 use Rattle.model.specs.Effects.{insertByKey}
 
@@ -89,6 +89,13 @@ ahead-asym x y e =
       | inl f ↦ absurd (clash (ahead x x) (ahead-trans x y x e f) (ahead-irrefl x))
       | inr f ↦ f
     ]
+
+-- Of ordered rows an earlier one is ahead of a later one.
+pub ordered-at : (xs : List Row) (i j : ℕ) (d : Row) → ordered xs ≡ true → i < j → j < length xs → ahead (getD xs i d) (getD xs j d) ≡ true
+ordered-at [] i j d o h g = absurd (omega arith)
+ordered-at (x ∷ xs) i zero d o h g = absurd (omega arith)
+ordered-at (x ∷ xs) zero (suc j) d o h g = all-at (ahead x) xs j d (omega arith) (and-l _ _ o)
+ordered-at (x ∷ xs) (suc i) (suc j) d o h g = ordered-at xs i j d (and-r (all (ahead x) xs) _ o) (omega arith) (omega arith)
 
 -- the row of a key's version, its other numbers 0
 abbrev pub versionRow : List ℕ → ℕ → Row

@@ -8,6 +8,7 @@ pub mod Locks
 pub mod Sweep
 pub mod Effects
 pub mod Expiry
+pub mod Comparisons
 pub mod Retries
 pub mod Refusals
 pub mod Answers

@@ -1,9 +1,13 @@
 -- What a readable line asks for, by its word.
 use Prim.Native.Nat.{ℕ}
-use mathlib.Core.Path.{_≡_, sym, _∙_}
+use mathlib.Core.Path.{_≡_, refl, sym, _∙_}
+use mathlib.Core.Bool.{true}
 use mathlib.Core.List.{List}
 use mathlib.Core.Option.{Option, some}
+use native.Mathlib.Omega.{arith}
+use Rattle.buffers.specs.Lists.{same}
 use Rattle.buffers.specs.Texts.{bytes}
+use Rattle.buffers.proofs.Lists.{same-path}
 use Rattle.text.specs.declared.Place.{Place}
 use Rattle.text.specs.Fields.{fieldOf}
 use Rattle.text.specs.Numbers.{numberOf}
@@ -15,10 +19,11 @@ use Rattle.fields.specs.Fields.{readKey}
 use Rattle.fields.specs.Meaning.{termsMeans}
 use Rattle.request.specs.declared.Verb.{Verb}
 use Rattle.request.specs.declared.Verb.the-variants.{Act}
-use Rattle.request.specs.declared.Action.the-variants.{Put}
+use Rattle.request.specs.declared.Action.{Action}
+use Rattle.request.specs.declared.Action.the-variants.{Put, Copy, Retain, SetHold, AddMarker, DeleteVersion}
 use Rattle.request.specs.declared.Request.{Request}
-use Rattle.request.specs.Meaning.{verbMeans}
-use Rattle.request.specs.Grammar.{putOf, sweepOf, otherByWord, verbByWord, requestIn, Said, readLine}
+use Rattle.request.specs.Meaning.{actionMeans, verbMeans}
+use Rattle.request.specs.Grammar.{putOf, copyOf, retainOf, setHoldOf, deleteOf, defaultOf, ruleOf, sweepOf, getOf, listOf, otherByWord, verbByWord, requestIn, Said, readLine}
 use Rattle.request.proofs.Ranges.{Passes, ways, key-field}
 
 -- What holds of every verb that a word's reader gives, holds of the verb of a readable line with that word.
@@ -73,3 +78,39 @@ module _ (s : List ℕ) where
   pub asks-sweep : (q : Said) → fieldOf s 2 ≡ bytes "SWEEP" → readLine s ≡ some q → q .verb ≡ model.Sweep
   unfolding verbByWord otherByWord sweepOf
   asks-sweep q e = line-asks s (λ v. v ≡ model.Sweep) (sweepOf s) (rw e) (search ways depth 16) q
+
+  -- where the verb is SWEEP, that is the word
+  abbrev SaysSweep : model.Verb → Type 0
+  SaysSweep v = v ≡ model.Sweep → fieldOf s 2 ≡ bytes "SWEEP"
+
+  -- No action is one,
+  action-says : (a : Action) → SaysSweep (actionMeans s a)
+  action-says (Put k body size t) e = let z : _≡_ {A = ℕ} 0 1 = cc in absurd (omega arith)
+  action-says (Copy n k t) e = let z : _≡_ {A = ℕ} 0 1 = cc in absurd (omega arith)
+  action-says (Retain n r y) e = let z : _≡_ {A = ℕ} 0 1 = cc in absurd (omega arith)
+  action-says (SetHold n on) e = let z : _≡_ {A = ℕ} 0 1 = cc in absurd (omega arith)
+  action-says (AddMarker k y) e = let z : _≡_ {A = ℕ} 0 1 = cc in absurd (omega arith)
+  action-says (DeleteVersion k n y) e = let z : _≡_ {A = ℕ} 0 1 = cc in absurd (omega arith)
+
+  -- no setting,
+  setting-says : (a : model.Setting) → SaysSweep (model.Set a)
+  setting-says a e = let z : _≡_ {A = ℕ} 0 1 = cc in absurd (omega arith)
+
+  -- and no query.
+  query-says : (a : model.Query) → SaysSweep (model.Ask a)
+  query-says a e = let z : _≡_ {A = ℕ} 0 1 = cc in absurd (omega arith)
+
+  sweep-says : same (fieldOf s 2) (bytes "SWEEP") ≡ true → SaysSweep model.Sweep
+  sweep-says e _ = same-path (fieldOf s 2) (bytes "SWEEP") e
+
+  other-says : Passes Verb (λ v. SaysSweep (verbMeans s v)) (otherByWord (fieldOf s 2) s)
+  unfolding otherByWord defaultOf ruleOf sweepOf getOf listOf
+  other-says = search (ways, setting-says, query-says, sweep-says) depth 24
+
+  verb-says : Passes Verb (λ v. SaysSweep (verbMeans s v)) (verbByWord (fieldOf s 2) s)
+  unfolding verbByWord putOf copyOf retainOf setHoldOf deleteOf
+  verb-says = search (ways, action-says, other-says) depth 24
+
+  -- A readable line asks for a SWEEP by that word only.
+  pub sweep-asked : (q : Said) → readLine s ≡ some q → q .verb ≡ model.Sweep → fieldOf s 2 ≡ bytes "SWEEP"
+  sweep-asked = line-asks s SaysSweep (verbByWord (fieldOf s 2) s) refl verb-says

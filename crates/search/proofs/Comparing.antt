@@ -86,7 +86,7 @@ rank-sum b i r0 r1 r2 r3 r4 r5 r6 r7 h w7 w6 w5 w4 w3 w2 w1 w0 =
     let e8 = no-rank (drop (i + 8) b) in
     omega arith
 
-rank-bound : (k : ℕ) (s : List ℕ) → AllBytes s → rank k s < 256 ^ k
+pub rank-bound : (k : ℕ) (s : List ℕ) → AllBytes s → rank k s < 256 ^ k
 unfolding rank
 rank-bound zero s h = omega arith
 rank-bound (suc k) [] h = omega (arith, pow-succ' 256 k, rank-bound k [] (λ j. h j))
@@ -95,7 +95,7 @@ rank-bound (suc k) (x ∷ s) h =
     omega (arith, suc-mul x (256 ^ k), rank-bound k s (λ j. h (suc j)), pow-succ' 256 k)
 
 -- A greater first byte is a greater number.
-greater : (x y p q r : ℕ) → p < r → x < y → x * r + p < y * r + q
+pub greater : (x y p q r : ℕ) → p < r → x < y → x * r + p < y * r + q
 greater x y p q r h l = let m : suc x * r ≤ y * r = mul-le-mul-right r l in omega (arith, suc-mul x r)
 
 -- A smaller number is that of the key before; behind a shorter key zeros count.
@@ -117,7 +117,7 @@ rank-less (suc k) (x ∷ s) (y ∷ t) p q l =
     ]
 
 -- Equal numbers are those of equal bytes.
-rank-same : (k : ℕ) (s t : List ℕ) → AllBytes s → AllBytes t → k ≤ length s → k ≤ length t → rank k s ≡ rank k t → take k s ≡ take k t
+pub rank-same : (k : ℕ) (s t : List ℕ) → AllBytes s → AllBytes t → k ≤ length s → k ≤ length t → rank k s ≡ rank k t → take k s ≡ take k t
 unfolding rank
 rank-same zero s t p q h g l = refl
 rank-same (suc k) [] t p q h g l = absurd (omega arith)

@@ -1,5 +1,5 @@
 -- A stored key and a key by their first eight bytes.
-use Prim.Native.Nat.{ℕ, zero, suc, _+_, _*_, _^_, _≤_, _<_}
+use Prim.Native.Nat.{ℕ, zero, suc, _+_, _-_, _*_, _^_, _≤_, _<_}
 use mathlib.Core.Path.{_≡_, refl, sym, ap, _∙_}
 use mathlib.Core.Bool.{true}
 use mathlib.Core.List.{List, [], _∷_, _++_}
@@ -12,6 +12,8 @@ use Rattle.buffers.specs.Words.{AllBytes}
 use Rattle.buffers.specs.Writes.{Wrote}
 use Rattle.buffers.proofs.Lists.{drop-take}
 use Rattle.buffers.proofs.Words.{bytes-take, bytes-drop}
+use Rattle.blocks.specs.Blocks.{blockOf, keyIn, isBlock}
+use Rattle.blocks.proofs.Blocks.{block-path}
 use Rattle.table.specs.Places.{keyAt}
 use Rattle.search.specs.Keys.{isOrder, rank}
 use Rattle.search.specs.declared.Order.the-variants.{Before, After}
@@ -42,13 +44,26 @@ rank-take (suc k) zero s h = absurd (omega arith)
 rank-take (suc k) (suc n) [] h = refl
 rank-take (suc k) (suc n) (x ∷ s) h = ap (λ (r : ℕ). x * 256 ^ k + r) (rank-take k n s (omega arith))
 
+pub stored-bytes : (b : List ℕ) (i : ℕ) → ((j : ℕ) → Fits w8 (getD b j 0)) → AllBytes (keyAt b i)
+stored-bytes b i p =
+    let block = take 64 (drop (64 * i) b) in
+    bytes-take (getD block 0 0) (drop 1 block) (bytes-drop 1 block (bytes-take 64 (drop (64 * i) b) (bytes-drop (64 * i) b (all-bytes b p))))
+
+-- Behind a block's key stand zeros, so that its bytes have the key's rank.
+pub block-rank : (b : List ℕ) → isBlock b ≡ true → rank 8 (drop 1 b) ≡ rank 8 (keyIn b)
+unfolding blockOf
+block-rank b e =
+    let k = keyIn b in
+    let z : take 63 k ++ replicate (63 - length (take 63 k)) 0 ≡ take 63 k ++ drop 0 (replicate (63 - length (take 63 k)) 0) = refl in
+    ap (λ (l : List ℕ). rank 8 (drop 1 l)) (block-path b e) ∙ ap (rank 8) z ∙ rank-padded 8 (take 63 k) 0 (63 - length (take 63 k)) ∙ rank-take 8 63 k (omega arith)
+
+pub key-rank : (b : List ℕ) (i : ℕ) → isBlock (take 64 (drop (64 * i) b)) ≡ true → rank 8 (drop (64 * i + 1) b) ≡ rank 8 (keyAt b i)
+key-rank b i e =
+    ap (rank 8) (sym (drop-drop 1 (64 * i) b)) ∙ sym (rank-take 8 63 (drop 1 (drop (64 * i) b)) (omega arith))
+    ∙ ap (rank 8) (sym (drop-take 1 64 (drop (64 * i) b))) ∙ block-rank (take 64 (drop (64 * i) b)) e
+
 -- The key in a row's block, where it has eight bytes or more.
 module _ (b k : List ℕ) (i x y : ℕ) (ex : x ≡ rank 8 (drop (64 * i + 1) b)) (ey : y ≡ rank 8 k) (h : 8 ≤ getD b (64 * i) 0) (p : (j : ℕ) → Fits w8 (getD b j 0)) (q : (j : ℕ) → Fits w8 (getD k j 0)) where
-  stored-bytes : AllBytes (keyAt b i)
-  stored-bytes =
-      let block = take 64 (drop (64 * i) b) in
-      bytes-take (getD block 0 0) (drop 1 block) (bytes-drop 1 block (bytes-take 64 (drop (64 * i) b) (bytes-drop (64 * i) b (all-bytes b p))))
-
   stored-rank : x ≡ rank 8 (keyAt b i)
   stored-rank =
       let z : 64 * i + 0 ≡ 64 * i = omega arith in
@@ -58,9 +73,9 @@ module _ (b k : List ℕ) (i x y : ℕ) (ex : x ≡ rank 8 (drop (64 * i + 1) b)
       ∙ sym (rank-take 8 (getD (take 64 (drop (64 * i) b)) 0 0) (drop 1 (take 64 (drop (64 * i) b))) (omega arith))
 
   pub first-less : x < y → isOrder Before (keyAt b i) k ≡ true
-  first-less d = rank-less 8 (keyAt b i) k stored-bytes (all-bytes k q) (omega (arith, stored-rank))
+  first-less d = rank-less 8 (keyAt b i) k (stored-bytes b i p) (all-bytes k q) (omega (arith, stored-rank))
 
   pub first-more : y < x → isOrder After (keyAt b i) k ≡ true
-  first-more d = rank-less 8 k (keyAt b i) (all-bytes k q) stored-bytes (omega (arith, stored-rank))
+  first-more d = rank-less 8 k (keyAt b i) (all-bytes k q) (stored-bytes b i p) (omega (arith, stored-rank))
 
 pub ruleset first-cases = (first-padded, first-less, first-more)

@@ -1,5 +1,6 @@
 -- `serve_sweep` meets its contract: each way through it is one of the cited laws.
 use Rattle.engine.proofs.Serving.{swept-lines}
+use Rattle.engine.proofs.Counting.{sweep-counts}
 use borrow.Author.Needs.{needs}
 use Rattle.engine.proofs.serve_sweep.Statement.{statement}
 use Rattle.engine.proofs.serve_sweep.Tie as tie
@@ -14,4 +15,4 @@ serve-sweep-spec =
     (λ c. search needs)
     (λ c. search needs)
     (λ c. search needs)
-    (λ c. search (needs, swept-lines)))
+    (λ c. (search (needs, swept-lines), search (needs, sweep-counts))))

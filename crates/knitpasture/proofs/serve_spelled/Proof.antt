@@ -1,5 +1,5 @@
 -- `serve_spelled` meets its contract: each way through it is one of the cited laws.
-use Rattle.knitpasture.proofs.Serving.{spelled-cases}
+use Rattle.knitpasture.proofs.Serving.{spelled-cases, spelled-count}
 use borrow.Author.Needs.{needs}
 use Rattle.knitpasture.proofs.serve_spelled.Statement.{statement}
 use Rattle.knitpasture.proofs.serve_spelled.Tie as tie
@@ -15,11 +15,11 @@ serve-spelled-spec =
     (λ c. search needs)
     (λ c. search needs)
     (λ c. search needs)
-    (λ c. search (needs, spelled-cases))
+    (λ c. (search (needs, spelled-cases), search spelled-count))
     (λ c κs. search needs)
     (λ c. search needs)
     (λ c. search needs)
     (λ c. search needs)
     (λ c. search needs)
     (λ c. search needs)
-    (λ c. search (needs, spelled-cases)))
+    (λ c. (search (needs, spelled-cases), search spelled-count)))

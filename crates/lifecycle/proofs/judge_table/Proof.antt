@@ -1,5 +1,5 @@
 -- `judge_table` meets its contract.
-use Rattle.lifecycle.proofs.Judging.{laid-cases, laid-few, left-first}
+use Rattle.lifecycle.proofs.Judging.{laid-cases}
 use borrow.Author.Needs.{needs}
 use Rattle.lifecycle.proofs.judge_table.Statement.{statement}
 use Rattle.lifecycle.proofs.judge_table.Tie as tie
@@ -14,18 +14,12 @@ judge-table-spec =
     (λ c. search needs)
     (λ c. search needs)
     (λ c κs. search needs)
-    (λ c κs. search needs)
-    (λ c κs. search needs)
-    (λ c. search needs)
-    (λ c. search needs)
     (λ c. search needs)
     (λ c. search needs)
     (λ c κs. search needs)
     (λ c. search needs)
     (λ c. search needs)
-    (λ c. search needs)
-    (λ c. search needs)
-    (λ c κs. ((search needs, search needs, search needs, search needs), (search (needs, laid-few), search (needs, left-first))))
+    (λ c κs. search (needs, laid-cases))
     (λ c κs. search needs)
     (λ c. search needs)
     (λ c. search (needs, laid-cases)))

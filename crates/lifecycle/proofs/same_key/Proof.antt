@@ -1,17 +1,13 @@
 -- `same_key` meets its contract.
-use Rattle.lifecycle.proofs.Judging.{same-cases}
-use Rattle.buffers.proofs.Choices.{picks}
-use Rattle.lifecycle.specs.Judging.{sameKey}
+use Rattle.lifecycle.proofs.KeyRows.{same-cases}
 use borrow.Author.Needs.{needs}
 use Rattle.lifecycle.proofs.same_key.Statement.{statement}
 use Rattle.lifecycle.proofs.same_key.Tie as tie
 
 pub same-key-spec : {M : Type 1} → statement M
-unfolding sameKey
 same-key-spec =
     tie.close
     (tie.spec
-    (λ c. search (needs, picks))
     (λ c. search needs)
     (λ c. search needs)
     (λ c. search needs)
@@ -23,4 +19,4 @@ same-key-spec =
     (λ c. search needs)
     (λ c. search needs)
     (λ c κs. search (needs, same-cases))
-    (λ c. search (needs, picks, same-cases)))
+    (λ c. search (needs, same-cases)))

@@ -1,18 +1,16 @@
 -- `lay_rules` meets its contract.
+use Prim.Native.Nat.{_-_}
+use Rattle.lifecycle.proofs.Laying.{Laying}
 use Rattle.lifecycle.proofs.Laying.{lay-cases}
-use Prim.Native.Nat.{_-_, _≤_}
-use lib.ListN.{drop}
-use Rattle.settings.specs.Meaning.{rulesMean}
-use Rattle.lifecycle.specs.Flat.{Laid}
 use borrow.Author.Needs.{needs}
 use Rattle.lifecycle.proofs.rules.lay_rules.Statement.{statement}
 use Rattle.lifecycle.proofs.rules.lay_rules.Tie as tie
 
 abbrev Inv-loop : tie.InvT-loop
-Inv-loop prefixes₀ days₀ rules n₀ prefixes days n = (n ≤ 8) × Laid prefixes days n (rulesMean (drop (8 - n) rules))
+Inv-loop prefixes₀ numbers₀ rules n₀ i₀ prefixes numbers n i = Laying rules prefixes numbers n i
 
 abbrev μ-loop : tie.MeasureT-loop
-μ-loop prefixes₀ days₀ rules n₀ prefixes days n = 8 - n
+μ-loop prefixes₀ numbers₀ rules n₀ i₀ prefixes numbers n i = 8 - i
 
 pub lay-rules-spec : {M : Type 1} → statement M
 lay-rules-spec =
@@ -25,7 +23,10 @@ lay-rules-spec =
     (λ c. search (needs, lay-cases))
     (λ c. search (needs, lay-cases))
     (λ c. search (needs, lay-cases))
+    (λ c. search (needs, lay-cases))
     (λ c κs. search (needs, lay-cases))
+    (λ c. search (needs, lay-cases))
+    (λ c. search (needs, lay-cases))
     (λ c. search (needs, lay-cases))
     (λ c. search (needs, lay-cases))
     (λ c. search (needs, lay-cases))

@@ -1,7 +1,5 @@
 -- `write_rule` meets its contract.
-use Rattle.lifecycle.proofs.Laying.{rule-put}
-use native.Mathlib.Omega.{arith}
-use lib.ListN.{length-set}
+use Rattle.lifecycle.proofs.Laying.{put-cases}
 use borrow.Author.Needs.{needs}
 use Rattle.lifecycle.proofs.rules.write_rule.Statement.{statement}
 use Rattle.lifecycle.proofs.rules.write_rule.Tie as tie
@@ -16,9 +14,7 @@ write-rule-spec =
     (λ c. search needs)
     (λ c. search needs)
     (λ c. search needs)
+    (λ c. search (needs, put-cases))
     (λ c. search needs)
     (λ c. search needs)
-    (λ c. simp length-set (omega arith))
-    (λ c. search needs)
-    (λ c. search needs)
-    (λ c. search (needs, rule-put)))
+    (λ c. search needs))
