@@ -1,5 +1,5 @@
 /* What modem firmware does, through each entry: lend three buffers, serve lines, send a PUT again, follow pages, save, load
- * and go on. */
+ * and go on; and what a sweep counts. */
 #include "../../samples/page.h"
 #include "../../samples/save.h"
 
@@ -41,11 +41,25 @@ static size_t lent = CAPACITY;
 #define WORDS(bucket) (uint64_t *)(bucket)->rows, lent * KNITPASTURE_ROW_WORDS
 #define KEYS(bucket) (bucket)->keys, lent * KNITPASTURE_KEY_BYTES
 
-/* The entries, which take turns by the form of rows and settings. */
-static enum { AS_BYTES, AS_WORDS, AS_STRUCT, FORMS } form;
+/* The entries, which take turns by the form of rows and settings, with the one that counts between them. */
+static enum { AS_BYTES, COUNTED, AS_WORDS, AS_STRUCT, FORMS } form;
+
+/* What stands where comparisons are counted, and what it is before a line. */
+#define BEFORE UINT64_C(0xEEEEEEEEEEEEEEEE)
+static uint64_t comparisons = BEFORE;
+
+static uint64_t serve_counted(struct bucket *bucket, const uint8_t *line, size_t count, uint8_t *answer, size_t length) {
+    comparisons = BEFORE;
+    uint64_t number = knitpasture_serve_counted(SETTINGS(bucket), ROWS(bucket), KEYS(bucket), line, count, answer, length,
+                                                &comparisons);
+    check((comparisons == BEFORE) == (number != 0), "an accepted line writes its count, a refusal leaves what was there");
+    return number;
+}
 
 static uint64_t serve_bytes(struct bucket *bucket, const uint8_t *line, size_t count, uint8_t *answer, size_t length) {
     switch (form) {
+    case COUNTED:
+        return serve_counted(bucket, line, count, answer, length);
     case AS_WORDS:
         return knitpasture_serve_words(SETTINGS(bucket), WORDS(bucket), KEYS(bucket), line, count, answer, length);
     case AS_STRUCT:
@@ -174,6 +188,66 @@ static void sent_again_full(struct bucket *bucket) {
     lent = CAPACITY;
 }
 
+/* A line by the entry that counts, and what then stands where comparisons are counted. */
+struct counted_step {
+    struct step step;
+    uint64_t comparisons;
+};
+
+static void take_counted(struct bucket *bucket, const struct counted_step *steps, size_t count) {
+    form = COUNTED;
+    for (size_t i = 0; i < count; i++) {
+        take(bucket, &steps[i].step);
+        if (comparisons != steps[i].comparisons) {
+            fprintf(stderr, "client: %s\n  counted %llu\n  expected %llu\n", steps[i].step.line,
+                    (unsigned long long)comparisons, (unsigned long long)steps[i].comparisons);
+            exit(1);
+        }
+        checks++;
+    }
+}
+
+#define TAKE_COUNTED(bucket, steps) take_counted(bucket, steps, sizeof steps / sizeof steps[0])
+
+/* An accepted sweep counts the rules set times the different keys, however many rows a key has and whether or not a prefix
+ * begins it; every other accepted line counts 0, and a refused one leaves what was there. */
+static void sweeps_count(struct bucket *bucket) {
+    static const struct counted_step steps[] = {
+        {{"2024-09-01T00:00:00Z|c|SWEEP", "ok|0|0"}, 0},
+        {{"2024-09-01T00:00:00Z|c|RULE|2|gauge/1|1|1", "ok"}, 0},
+        {{"2024-09-01T00:00:00Z|c|SWEEP", "ok|0|0"}, 0},
+        {{"2024-09-01T00:00:00Z|w|PUT|gauge/1|7|70|-|-|-", "ok|1"}, 0},
+        {{"2024-09-01T00:00:00Z|c|SWEEP", "ok|0|0"}, 1},
+        {{"2024-09-01T00:00:00Z|w|PUT|gauge/1|8|80|-|-|-", "ok|2"}, 0},
+        {{"2024-09-01T00:00:00Z|c|SWEEP", "ok|0|0"}, 1},
+        {{"2024-09-01T00:00:00Z|w|PUT|gauge/2|9|90|-|-|-", "ok|3"}, 0},
+        {{"2024-09-01T00:00:00Z|d|DELETE|level|-|no", "ok|4|marker"}, 0},
+        {{"2024-09-01T00:00:00Z|c|SWEEP", "ok|0|0"}, 3},
+        {{"2024-09-01T00:00:00Z|c|RULE|7|zz|0|36500", "ok"}, 0},
+        {{"2024-09-01T00:00:00Z|-|SWEEP", "no|5"}, BEFORE},
+        {{"2024-09-01T00:00:00Z|c|SWEEP|", "no|3"}, BEFORE},
+        {{"2024-09-01T00:00:00Z|r|GET|gauge/3|-", "no|7"}, BEFORE},
+        {{"2024-09-01T00:00:00Z|c|SWEEP", "ok|0|0"}, 6},
+        {{"2024-09-02T00:00:00Z|c|SWEEP", "ok|1|1"}, 6},
+        {{"2024-09-02T00:00:00Z|c|SWEEP", "ok|0|0"}, 6},
+        {{"2024-09-02T00:00:00Z|c|RULE|2|gauge/1|0|0", "ok"}, 0},
+        {{"2024-09-02T00:00:00Z|c|SWEEP", "ok|0|0"}, 3},
+        {{"2024-09-02T00:00:00Z|r|GET|gauge/2|-", "ok|3|9|90|-|-|OFF"}, 0},
+    };
+    static const struct counted_step full[] = {
+        {{"2024-09-01T00:00:00Z|w|PUT|gauge/1|7|70|-|-|-", "ok|1"}, 0},
+        {{"2024-09-01T00:00:00Z|c|RULE|0||1|0", "ok"}, 0},
+        {{"2024-09-01T00:00:00Z|c|SWEEP", "ok|0|0"}, 1},
+        {{"2024-09-02T00:00:00Z|c|SWEEP", "no|12"}, BEFORE},
+    };
+    make_fresh(bucket);
+    TAKE_COUNTED(bucket, steps);
+    lent = 1;
+    make_fresh(bucket);
+    TAKE_COUNTED(bucket, full);
+    lent = CAPACITY;
+}
+
 /* A file under COMPLIANCE stays through a reload and goes at its date. */
 static void kept_through_reload(struct bucket *bucket, const char *folder) {
     static const struct step before[] = {
@@ -210,6 +284,11 @@ static void wrong_lengths(struct bucket *bucket) {
     check(knitpasture_serve_words(bucket->settings, KNITPASTURE_SETTINGS_BYTES - 1, WORDS(bucket), KEYS(bucket), sweep,
                                   line, answer, sizeof answer) == 1,
           "with rows as words too");
+    comparisons = BEFORE;
+    check(knitpasture_serve_counted(bucket->settings, KNITPASTURE_SETTINGS_BYTES - 1, ROWS(bucket), KEYS(bucket), sweep,
+                                    line, answer, sizeof answer, &comparisons) == 1,
+          "and by the entry that counts");
+    check(comparisons == BEFORE, "which then writes no count");
     check(knitpasture_serve(SETTINGS(bucket), bucket->rows, sizeof bucket->rows - KNITPASTURE_ROW_BYTES, KEYS(bucket),
                             sweep, line, answer, sizeof answer) == 1,
           "a row too few meets 1");
@@ -381,6 +460,7 @@ int main(int count, char **words) {
         wrong_lengths(bucket);
     }
     grown(bucket);
+    sweeps_count(bucket);
     texts();
     free(bucket);
     printf("client: %u checks passed\n", checks);

@@ -18,6 +18,7 @@ static uint8_t settings[KNITPASTURE_SETTINGS_BYTES];
 static uint64_t rows[KNITPASTURE_MAX_ROWS * KNITPASTURE_ROW_WORDS];
 static uint8_t keys[KNITPASTURE_MAX_ROWS * KNITPASTURE_KEY_BYTES];
 static uint8_t answer[KNITPASTURE_PAGE_ROOM(8)];
+static uint64_t comparisons;
 static size_t capacity;
 static const char *line;
 
@@ -29,6 +30,7 @@ static const char *line;
 
 static void nothing(void) {}
 static void serve(void) { knitpasture_serve(SETTINGS, ROW_BYTES, KEYS, LINE); }
+static void serve_counted(void) { knitpasture_serve_counted(SETTINGS, ROW_BYTES, KEYS, LINE, &comparisons); }
 static void serve_words(void) { knitpasture_serve_words(SETTINGS, ROW_WORDS, KEYS, LINE); }
 static void serve_lent(void) { knitpasture_serve_lent((struct knitpasture_settings *)settings, ROW_WORDS, KEYS, LINE); }
 static void key(void) { knitpasture_key(SETTINGS, ROW_BYTES, KEYS, 0); }
@@ -41,6 +43,7 @@ static const struct entry {
     size_t stated;
 } entries[] = {
     {"knitpasture_serve", serve, KNITPASTURE_STACK_SERVE},
+    {"knitpasture_serve_counted", serve_counted, KNITPASTURE_STACK_SERVE},
     {"knitpasture_serve_words", serve_words, KNITPASTURE_STACK_SERVE_WORDS},
     {"knitpasture_serve_lent", serve_lent, KNITPASTURE_STACK_SERVE_LENT},
     {"knitpasture_key", key, KNITPASTURE_STACK_KEY},

@@ -3,6 +3,7 @@ use crate::bucket::{Block, Bucket, Row, BODY, CREATED, DATA, HOLD, KIND, LENGTH,
 use crate::dates;
 use crate::pages::Page;
 use crate::requests::{COMPLIANCE, GOVERNANCE};
+use crate::sweep::Counts;
 
 /// The least bytes that an answer buffer must have.
 pub const LEAST_BUFFER: usize = 256;
@@ -18,9 +19,19 @@ pub enum Answer {
     Added(u64),
     Marked(u64),
     Removed { number: u64, marker: bool },
-    Swept { removed: usize, added: usize },
+    Swept(Counts),
     Got(Row),
     Listed(Page),
+}
+
+impl Answer {
+    /// How often the line compared a rule's prefix with a key: only sweeps do.
+    pub fn comparisons(&self) -> u64 {
+        match self {
+            Answer::Swept(counts) => counts.comparisons,
+            _ => 0,
+        }
+    }
 }
 
 /// A buffer that is filled from its start.
@@ -116,9 +127,9 @@ pub fn write(answer: &Answer, bucket: &Bucket, buffer: &mut [u8]) -> usize {
             writer.number(*number);
             writer.word(if *marker { b"removed-marker" } else { b"removed" });
         }
-        Answer::Swept { removed, added } => {
-            writer.number(*removed as u64);
-            writer.number(*added as u64);
+        Answer::Swept(counts) => {
+            writer.number(counts.removed as u64);
+            writer.number(counts.added as u64);
         }
         Answer::Got(row) => writer.row(row),
         Answer::Listed(page) => writer.number(page.rows as u64),

@@ -8,16 +8,29 @@ use crate::settings::{self, word, Settings};
 /// The bytes of a row, of its numbers and of its key alike.
 pub const ROW_BYTES: usize = 64;
 
+/// What an accepted line gives: its answer's length, and how often it compared a rule's prefix with a key.
+#[derive(Clone, Copy, Debug, PartialEq, Eq)]
+pub struct Served {
+    pub length: usize,
+    pub comparisons: u64,
+}
+
 impl Bucket {
     /// Serves a line on a sound bucket: the length of the answer, or the refusal.
     pub fn serve(&mut self, line: &[u8], answer: &mut [u8]) -> Result<usize, u64> {
+        self.serve_counted(line, answer).map(|served| served.length)
+    }
+
+    /// Serves a line on a sound bucket, and gives the comparisons beside the answer's length.
+    #[inline]
+    pub fn serve_counted(&mut self, line: &[u8], answer: &mut [u8]) -> Result<Served, u64> {
         refuse(answer.len() < LEAST_BUFFER, SHORT_ANSWER)?;
         let request = requests::read(line).ok_or(UNREADABLE)?;
         let now = self.settings.time.max(request.clock);
         screen(&request, now, answer.len())?;
         let said = self.carry_out(&request.verb, now)?;
         self.settings.time = now;
-        Ok(answers::write(&said, self, answer))
+        Ok(Served { length: answers::write(&said, self, answer), comparisons: said.comparisons() })
     }
 
     /// The bucket that bytes say, sound or not, if their lengths fit one capacity.
@@ -66,16 +79,21 @@ pub fn serve_bytes(
     line: &[u8],
     answer: &mut [u8],
 ) -> u64 {
-    let Some(mut bucket) = Bucket::from_bytes(settings, rows, keys).filter(Bucket::sound) else {
-        return UNSOUND;
-    };
-    match bucket.serve(line, answer) {
-        Ok(_) => {
-            bucket.to_bytes(settings, rows, keys);
-            0
-        }
-        Err(refusal) => refusal,
-    }
+    serve_bytes_counted(settings, rows, keys, line, answer).err().unwrap_or(0)
+}
+
+/// Serves a line on bytes of any contents and length: how often it compared a rule's prefix with a key, or the refusal.
+pub fn serve_bytes_counted(
+    settings: &mut [u8],
+    rows: &mut [u8],
+    keys: &mut [u8],
+    line: &[u8],
+    answer: &mut [u8],
+) -> Result<u64, u64> {
+    let mut bucket = Bucket::from_bytes(settings, rows, keys).filter(Bucket::sound).ok_or(UNSOUND)?;
+    let served = bucket.serve_counted(line, answer)?;
+    bucket.to_bytes(settings, rows, keys);
+    Ok(served.comparisons)
 }
 
 /// Makes bytes a fresh bucket: 0, or 1 where their lengths don't fit.

@@ -17,4 +17,4 @@ pub mod sweep;
 pub mod verbs;
 
 pub use bucket::Bucket;
-pub use entry::{fresh_bytes, keys_in_bytes, serve_bytes};
+pub use entry::{fresh_bytes, keys_in_bytes, serve_bytes, serve_bytes_counted};

@@ -47,13 +47,17 @@ pub struct Rule {
 impl Rule {
     pub const ABSENT: Rule = Rule { prefix: [0; 64], current: 0, noncurrent: 0 };
 
+    /// Whether the rule has an action.
+    pub fn is_set(&self) -> bool {
+        self.current > 0 || self.noncurrent > 0
+    }
+
     /// A rule with neither count is absent, and then its prefix is zero too.
     fn sound(&self) -> bool {
-        let absent = self.current == 0 && self.noncurrent == 0;
         bucket::sound_block(&self.prefix, 0)
             && self.current <= MAX_DAYS
             && self.noncurrent <= MAX_DAYS
-            && (!absent || *self == Rule::ABSENT)
+            && (self.is_set() || *self == Rule::ABSENT)
     }
 
     /// Whether the rule's prefix begins the key.

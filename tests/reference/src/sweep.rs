@@ -2,13 +2,46 @@
 use crate::bucket::{Block, Bucket, Row, CREATED, DATA, KIND, MARKER, MAX_CAPACITY};
 use crate::dates::{up_to_midnight, DAY};
 use crate::locks::locked;
-use crate::settings::Settings;
+use crate::settings::{word, Rule, Settings};
 
-/// The rows that a sweep takes out and the markers that it adds.
-#[derive(Clone, Copy, Debug, PartialEq, Eq)]
+/// The rows that a sweep takes out, the markers that it adds, and how often it compares a rule's prefix with a key.
+#[derive(Clone, Copy, Debug, Default, PartialEq, Eq)]
 pub struct Counts {
     pub removed: usize,
     pub added: usize,
+    pub comparisons: u64,
+}
+
+/// A rule that is set, with the first eight bytes of its prefix and a mask of those that it has: most keys differ there.
+#[derive(Clone, Copy)]
+struct SetRule<'a> {
+    rule: &'a Rule,
+    first: u64,
+    mask: u64,
+}
+
+impl<'a> SetRule<'a> {
+    fn of(rule: &'a Rule) -> SetRule<'a> {
+        let length = u32::from(rule.prefix[0].min(8));
+        let mask = u64::MAX.checked_shr(64 - 8 * length).unwrap_or(0);
+        SetRule { rule, first: word(&rule.prefix[1..9]), mask }
+    }
+
+    /// Whether the rule's prefix begins a key: a sweep compares the two only here, so that each comparison is counted.
+    fn compare(&self, key: &Block, comparisons: &mut u64) -> bool {
+        *comparisons += 1;
+        (self.first ^ word(&key[1..9])) & self.mask == 0 && self.rule.covers(key)
+    }
+}
+
+/// The rules that are set, laid side by side once for a sweep; a rule that isn't is never compared.
+fn set_rules<'a>(settings: &'a Settings, room: &'a mut [SetRule<'a>; 8]) -> &'a [SetRule<'a>] {
+    let mut count = 0;
+    for rule in settings.rules.iter().filter(|rule| rule.is_set()) {
+        room[count] = SetRule::of(rule);
+        count += 1;
+    }
+    &room[..count]
 }
 
 /// The fewest days of the rules that cover a key, `NEVER` where no rule has an action.
@@ -33,11 +66,14 @@ fn fewest(least: u64, days: u64) -> u64 {
 impl Days {
     const NONE: Days = Days { current: NEVER, noncurrent: NEVER };
 
-    fn of(settings: &Settings, key: &Block) -> Days {
+    /// The days of a key, by one comparison with each of the rules.
+    fn of(rules: &[SetRule], key: &Block, comparisons: &mut u64) -> Days {
         let mut days = Days::NONE;
-        for rule in settings.rules.iter().filter(|rule| rule.covers(key)) {
-            days.current = fewest(days.current, rule.current);
-            days.noncurrent = fewest(days.noncurrent, rule.noncurrent);
+        for set in rules {
+            if set.compare(key, comparisons) {
+                days.current = fewest(days.current, set.rule.current);
+                days.noncurrent = fewest(days.noncurrent, set.rule.noncurrent);
+            }
         }
         days
     }
@@ -67,14 +103,17 @@ enum Fate {
 }
 
 impl Bucket {
-    /// Each row's fate in a sweep at this now, and what the sweep comes to.
+    /// Each row's fate in a sweep at this now, and what the sweep comes to. A key's rows stand together, so that the rules are
+    /// compared with it at its first row alone.
     fn judge(&self, now: u64, fates: &mut [Fate; MAX_CAPACITY]) -> Counts {
-        let mut counts = Counts { removed: 0, added: 0 };
+        let mut room = [SetRule::of(&Rule::ABSENT); 8];
+        let rules = set_rules(&self.settings, &mut room);
+        let mut counts = Counts::default();
         let mut days = Days::NONE;
         for at in 0..self.used() {
             let (row, key) = (&self.rows[at], &self.keys[at]);
             if at == 0 || self.keys[at - 1] != *key {
-                days = Days::of(&self.settings, key);
+                days = Days::of(rules, key, &mut counts.comparisons);
                 if gains(row, days, now) {
                     fates[at] = Fate::Gains;
                     counts.added += 1;

@@ -42,12 +42,11 @@ impl Bucket {
             },
             Verb::Default { mode, period } => Ok(self.set_default(mode, period)),
             Verb::Rule { number, prefix, current, noncurrent } => {
-                let set = Rule { prefix: block(prefix), current, noncurrent };
-                let absent = current == 0 && noncurrent == 0;
-                self.settings.rules[number] = if absent { Rule::ABSENT } else { set };
+                let rule = Rule { prefix: block(prefix), current, noncurrent };
+                self.settings.rules[number] = if rule.is_set() { rule } else { Rule::ABSENT };
                 Ok(Answer::Plain)
             }
-            Verb::Sweep => self.sweep_line(now),
+            Verb::Sweep => self.sweep(now).map(Answer::Swept),
             Verb::Get { name } => Ok(Answer::Got(self.rows[self.named_data(name)?])),
             Verb::List { prefix, after, count } => Ok(Answer::Listed(self.page(prefix, after, count))),
         }
@@ -146,10 +145,5 @@ impl Bucket {
             _ => DefaultRetention::default(),
         };
         Answer::Plain
-    }
-
-    fn sweep_line(&mut self, now: u64) -> Result<Answer, u64> {
-        let counts = self.sweep(now)?;
-        Ok(Answer::Swept { removed: counts.removed, added: counts.added })
     }
 }

@@ -1,10 +1,14 @@
 //! Writes a load: request lines that fill a table and then go on around so many rows, the same for each run.
 //!
 //! `loads NAME ROWS LINES` prints the lines; the share that the reference accepts goes to standard error.
+//!
+//! `loads swept ROWS LINES KEYS RULES` prints 0 to 8 rules, then ROWS lines that spread rows evenly over so many different keys,
+//! and then LINES sweeps, which change no row: with LINES 0 it is what stands before the sweeps.
 use reference::answers::page_buffer;
 use reference::bucket::{DATA, KIND, UNTIL, VERSION};
 use reference::locks::locked;
 use reference::{dates, Bucket};
+use std::collections::BTreeSet;
 use std::io::{self, BufWriter, Write};
 
 #[path = "compare/random.rs"]
@@ -16,6 +20,8 @@ const CAPACITY: usize = 1024;
 const START: u64 = 1704067200000;
 const PREFIXES: [&str; 8] =
     ["gauge/", "hub-7/", "level/east/", "level/west/", "log/2024/", "q/", "rain/", "calib."];
+const USAGE: &str =
+    "usage: loads NAME ROWS LINES, or loads swept ROWS LINES KEYS RULES (1 to ROWS keys, 0 to 8 rules)";
 const LETTERS: &[u8; 36] = b"abcdefghijklmnopqrstuvwxyz0123456789";
 
 /// What a load needs to name rows that are there: the bucket that its lines have made so far.
@@ -27,6 +33,8 @@ struct Load {
     /// The milliseconds between two lines.
     step: u64,
     rows: usize,
+    /// The rules that a load of sweeps alone sets.
+    rules: usize,
 }
 
 fn key(random: &mut Random) -> String {
@@ -56,7 +64,21 @@ impl Load {
         let keys = (0..count).map(|_| key(&mut random)).collect();
         // Days expire at midnight, so a sweep finds something to do where one has passed since the last.
         let step = if name == "sweeps" { 8 * 3600000 } else { 2000 };
-        Load { bucket: Bucket::fresh(CAPACITY), random, keys, clock: START, step, rows }
+        Load { bucket: Bucket::fresh(CAPACITY), random, keys, clock: START, step, rows, rules: 0 }
+    }
+
+    /// A load of sweeps alone, whose keys all differ, if that many rows fit the table and that many keys the rows.
+    fn swept(rows: usize, keys: usize, rules: usize) -> Option<Load> {
+        if rows > CAPACITY || keys > rows || (keys == 0) != (rows == 0) || rules > PREFIXES.len() {
+            return None;
+        }
+        let mut load = Load { rows, rules, ..Load::new("swept", 0) };
+        let mut different = BTreeSet::new();
+        while different.len() < keys {
+            different.insert(key(&mut load.random));
+        }
+        load.keys = different.into_iter().collect();
+        Some(load)
     }
 
     /// A date after now, up to so many days.
@@ -66,6 +88,10 @@ impl Load {
 
     fn put(&mut self) -> String {
         let key = self.random.below(self.keys.len());
+        self.put_to(key)
+    }
+
+    fn put_to(&mut self, key: usize) -> String {
         let (body, length) = (self.random.next(), self.random.below(1 << 24));
         let until = date(self.later(2));
         let (rights, lock) = match self.random.below(8) {
@@ -158,6 +184,23 @@ impl Load {
         format!("c\tRULE\t{number}\t{prefix}\t{}\t{}", 48 * current, 48 * noncurrent)
     }
 
+    /// A rule whose days last longer than the load; every other prefix ends in a byte that no key has there.
+    fn lasting_rule(&self, number: usize) -> String {
+        let end = ["", "!"][number % 2];
+        format!("c\tRULE\t{number}\t{}{end}\t36500\t36500", PREFIXES[number])
+    }
+
+    /// A line of a load of sweeps alone: its rules, its rows by turns of its keys, then sweeps.
+    fn swept_line(&mut self, number: usize) -> String {
+        if number < self.rules {
+            return self.lasting_rule(number);
+        }
+        match number - self.rules {
+            row if row < self.rows => self.put_to(row % self.keys.len()),
+            _ => "c\tSWEEP".to_string(),
+        }
+    }
+
     /// Adds or removes a row, so that the table stays between two sizes.
     fn turn(&mut self, least: usize, most: usize, marks: usize) -> String {
         let used = self.bucket.used();
@@ -171,6 +214,9 @@ impl Load {
     }
 
     fn line(&mut self, name: &str, number: usize) -> Option<String> {
+        if name == "swept" {
+            return Some(self.swept_line(number));
+        }
         if name == "sweeps" && number < 8 {
             return Some(self.rule(number));
         }
@@ -196,8 +242,7 @@ impl Load {
 }
 
 /// Writes the lines and returns how many of them the reference accepts, if the load is known.
-fn write(name: &str, rows: usize, lines: usize, out: &mut impl Write) -> io::Result<Option<usize>> {
-    let mut load = Load::new(name, rows);
+fn write(mut load: Load, name: &str, lines: usize, out: &mut impl Write) -> io::Result<Option<usize>> {
     let mut answer = vec![0; page_buffer(200)];
     let mut accepted = 0;
     for number in 0..lines {
@@ -217,11 +262,18 @@ fn main() -> io::Result<()> {
     let words: Vec<String> = std::env::args().skip(1).collect();
     let number = |at: usize| words.get(at).and_then(|word| word.parse::<usize>().ok());
     let (Some(name), Some(rows), Some(lines)) = (words.first(), number(1), number(2)) else {
-        return Err(io::Error::other("usage: loads NAME ROWS LINES"));
+        return Err(io::Error::other(USAGE));
     };
+    let load = match (name.as_str(), number(3), number(4)) {
+        ("swept", Some(keys), Some(rules)) => Load::swept(rows, keys, rules),
+        ("swept", _, _) => None,
+        _ => Some(Load::new(name, rows)),
+    };
+    let Some(load) = load else { return Err(io::Error::other(USAGE)) };
+    let lines = if name == "swept" { load.rules + rows + lines } else { lines };
     let mut out = BufWriter::new(io::stdout().lock());
-    let Some(accepted) = write(name, rows, lines, &mut out)? else {
-        return Err(io::Error::other("the loads are mixed, churn, retention, sweeps and pages"));
+    let Some(accepted) = write(load, name, lines, &mut out)? else {
+        return Err(io::Error::other("the loads are mixed, churn, retention, sweeps, pages and swept"));
     };
     out.flush()?;
     eprintln!("{name}: {:.1} % of the lines accepted", 100.0 * accepted as f64 / lines as f64);

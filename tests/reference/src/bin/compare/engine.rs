@@ -14,6 +14,19 @@ extern "C" {
         answer: *mut u8,
         answer_length: usize,
     ) -> u64;
+    fn knitpasture_serve_counted(
+        settings: *mut u8,
+        settings_length: usize,
+        rows: *mut u8,
+        rows_length: usize,
+        keys: *mut u8,
+        keys_length: usize,
+        line: *const u8,
+        line_length: usize,
+        answer: *mut u8,
+        answer_length: usize,
+        comparisons: *mut u64,
+    ) -> u64;
     fn knitpasture_serve_words(
         settings: *mut u8,
         settings_length: usize,
@@ -72,20 +85,32 @@ fn words(bytes: &mut [u8]) -> &mut [u64] {
     words
 }
 
-/// Calls an entry with the pointer and the length of each slice: those of the bucket, and of a line and its answer.
+/// Calls an entry with the pointer and the length of each slice, those of the bucket, and of a line and its answer, and with
+/// the pointers of single numbers behind them.
 macro_rules! call {
     ($entry:ident($($bucket:ident),*)) => {
         // SAFETY: each pointer comes with the length of the slice that it is taken from.
         unsafe { $entry($($bucket.as_mut_ptr(), $bucket.len()),*) }
     };
-    ($entry:ident($($bucket:ident),*), $line:ident, $answer:ident) => {
-        // SAFETY: as above.
-        unsafe { $entry($($bucket.as_mut_ptr(), $bucket.len(),)* $line.as_ptr(), $line.len(), $answer.as_mut_ptr(), $answer.len()) }
+    ($entry:ident($($bucket:ident),*), $line:ident, $answer:ident $(, $number:ident)*) => {
+        // SAFETY: as above, and each number is lent for the call.
+        unsafe { $entry($($bucket.as_mut_ptr(), $bucket.len(),)* $line.as_ptr(), $line.len(), $answer.as_mut_ptr(), $answer.len() $(, $number)*) }
     };
 }
 
 pub fn serve(settings: &mut [u8], rows: &mut [u8], keys: &mut [u8], line: &[u8], answer: &mut [u8]) -> u64 {
     call!(knitpasture_serve(settings, rows, keys), line, answer)
+}
+
+pub fn serve_counted(
+    settings: &mut [u8],
+    rows: &mut [u8],
+    keys: &mut [u8],
+    line: &[u8],
+    answer: &mut [u8],
+    comparisons: &mut u64,
+) -> u64 {
+    call!(knitpasture_serve_counted(settings, rows, keys), line, answer, comparisons)
 }
 
 pub fn serve_words(

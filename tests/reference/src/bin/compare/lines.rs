@@ -221,7 +221,8 @@ impl Maker<'_> {
     }
 
     fn rule(&mut self) -> String {
-        let (number, prefix) = (self.random.below(8), self.random.pick(&PREFIXES));
+        let number = self.random.below(8);
+        let prefix = if self.random.once_in(3) { self.prefix() } else { self.random.pick(&PREFIXES).into() };
         format!("RULE\t{number}\t{prefix}\t{}\t{}", self.days(), self.days())
     }
 

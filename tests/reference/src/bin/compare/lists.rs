@@ -1,7 +1,8 @@
 //! One list of lines, from a fresh bucket or a filled one.
+use crate::comparisons::Comparisons;
 use crate::damage;
 use crate::lines::{near_midnight, some_day, Maker, START};
-use crate::midnights::Midnights;
+use crate::midnights::{Midnights, Sweep};
 use crate::mutate::mutated;
 use crate::random::Random;
 use crate::sides::{asks_for, put_in, Fault, Put, Side, Sides};
@@ -115,9 +116,10 @@ impl List<'_> {
         }
     }
 
-    /// An answer buffer of a length that is full of junk.
+    /// An answer buffer of a length that is full of junk, and a number that is junk for the count of comparisons.
     fn lend_answer(&mut self, length: usize) {
         let junk = self.random.next();
+        self.sides.engine.comparisons = junk;
         let answer = &mut self.sides.engine.answer;
         answer.refill(length, junk as u8);
         for (at, byte) in answer.bytes().iter_mut().take(400).enumerate() {
@@ -135,11 +137,7 @@ impl List<'_> {
         let served = self.sides.serve(line).map_err(|difference| format!("{}\n{difference}", shown(line)))?;
         self.tally.count(line, served.number);
         if let Some(sweep) = &served.swept {
-            let midnights = Midnights::of(sweep);
-            if !self.sides.engine.answer.seen().starts_with(midnights.answer().as_bytes()) {
-                return Err(format!("{}\nthe rows whose midnights have come are others", shown(line)));
-            }
-            self.tally.count_sweep(&midnights, sweep.now);
+            self.check_sweep(sweep, served.comparisons).map_err(|said| format!("{}\n{said}", shown(line)))?;
         }
         match put_in(line) {
             Some(put) if served.retried => {
@@ -152,6 +150,21 @@ impl List<'_> {
             _ => {}
         }
         Ok(served.number)
+    }
+
+    /// Judges a sweep a second time: the rows whose midnights have come, and how many comparisons it was to make.
+    fn check_sweep(&mut self, sweep: &Sweep, counted: u64) -> Result<(), String> {
+        let midnights = Midnights::of(sweep);
+        if !self.sides.engine.answer.seen().starts_with(midnights.answer().as_bytes()) {
+            return Err("the rows whose midnights have come are others".into());
+        }
+        let comparisons = Comparisons::of(&sweep.bucket);
+        if comparisons.count() != counted {
+            return Err(format!("{counted} are counted, rules times keys are {}", comparisons.count()));
+        }
+        self.tally.count_sweep(&midnights, sweep.now);
+        self.tally.count_comparisons(&comparisons);
+        Ok(())
     }
 
     fn bucket(&self) -> Bucket {

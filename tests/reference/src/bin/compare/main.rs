@@ -1,4 +1,5 @@
-//! Compares the engine, through its C entries, with the reference: each number and each byte.
+//! Compares the engine, through its C entries, with the reference: each number, each byte and each count of comparisons.
+mod comparisons;
 mod damage;
 mod engine;
 mod lines;
@@ -55,6 +56,7 @@ fn lacking(tally: &Tally) -> Vec<String> {
         (tally.dropped == 0, "no retry named a lock that its row didn't have".into()),
         (tally.lacks_midnights(), "rounding to midnight did not decide rows of every kind".into()),
         (!tally.undecided().is_empty(), format!("rounding decided no sweep on: {:?}", tally.undecided())),
+        (!tally.uncompared().is_empty(), format!("counts that no sweep had: {:?}", tally.uncompared())),
     ];
     tests.into_iter().filter(|(lacks, _)| *lacks).map(|(_, said)| said).collect()
 }
@@ -62,7 +64,7 @@ fn lacking(tally: &Tally) -> Vec<String> {
 fn main() -> ExitCode {
     let Some(options) = options() else {
         eprintln!(
-            "usage: compare [--seconds N] [--seed S] [--lists N] [--break answer|page|following|retry|midnight]"
+            "usage: compare [--seconds N] [--seed S] [--lists N] [--break answer|page|following|retry|midnight|count]"
         );
         return ExitCode::from(2);
     };

@@ -1,4 +1,5 @@
-//! The two sides that are compared: equal buffers, lent to the engine and to the reference.
+//! The sides that are compared: equal buffers, lent to two entries of the engine and to the reference.
+use crate::comparisons::Comparisons;
 use crate::midnights::Sweep;
 use crate::{engine, pages};
 use reference::requests::{self, Retention, Verb};
@@ -60,19 +61,51 @@ impl Lent {
     }
 }
 
-/// A bucket in bytes, and the answer buffer.
+/// A bucket in bytes, the answer buffer, and the number that is lent for the count of comparisons.
 #[derive(Clone, PartialEq, Eq)]
 pub struct Side {
     pub settings: Lent,
     pub rows: Lent,
     pub keys: Lent,
     pub answer: Lent,
+    pub comparisons: u64,
 }
 
 impl Side {
     pub fn new(capacity: usize) -> Side {
         let table = Lent::new(64 * capacity);
-        Side { settings: Lent::new(BYTES), rows: table.clone(), keys: table, answer: Lent::new(256) }
+        let (settings, answer) = (Lent::new(BYTES), Lent::new(256));
+        Side { settings, rows: table.clone(), keys: table, answer, comparisons: 0 }
+    }
+
+    /// Has an entry that doesn't count serve a line.
+    fn serve(&mut self, serve: Serve, line: &[u8]) -> u64 {
+        serve(self.settings.bytes(), self.rows.bytes(), self.keys.bytes(), line, self.answer.bytes())
+    }
+
+    /// Has the engine's entry that counts serve a line.
+    fn serve_counted(&mut self, line: &[u8]) -> u64 {
+        engine::serve_counted(
+            self.settings.bytes(),
+            self.rows.bytes(),
+            self.keys.bytes(),
+            line,
+            self.answer.bytes(),
+            &mut self.comparisons,
+        )
+    }
+
+    /// Has the reference serve a line: a refusal leaves the count as it was.
+    fn serve_reference(&mut self, line: &[u8]) -> u64 {
+        let counted = reference::serve_bytes_counted(
+            self.settings.bytes(),
+            self.rows.bytes(),
+            self.keys.bytes(),
+            line,
+            self.answer.bytes(),
+        );
+        self.comparisons = counted.unwrap_or(self.comparisons);
+        counted.err().unwrap_or(0)
     }
 
     /// The next version number that the settings say.
@@ -111,7 +144,7 @@ impl Side {
     }
 }
 
-/// The entries that serve a line, by name.
+/// The entries that serve a line and don't count, by name: they take turns, and the one that counts serves each line too.
 pub const ENTRIES: [(&str, Serve); 3] =
     [("serve", engine::serve), ("serve_words", engine::serve_words), ("serve_lent", engine::serve_lent)];
 type Serve = fn(&mut [u8], &mut [u8], &mut [u8], &[u8], &mut [u8]) -> u64;
@@ -130,6 +163,8 @@ pub enum Fault {
     Retry,
     /// In the reference's sweeps, which don't round.
     Midnight,
+    /// In the reference's counts, by a comparison of the rules with the key of each row.
+    Count,
 }
 
 impl Fault {
@@ -140,6 +175,7 @@ impl Fault {
             "following" => Some(Fault::Following),
             "retry" => Some(Fault::Retry),
             "midnight" => Some(Fault::Midnight),
+            "count" => Some(Fault::Count),
             _ => None,
         }
     }
@@ -152,6 +188,7 @@ impl Fault {
             (Fault::Retry, _) if served.retried => answer[0] ^= 1,
             (Fault::Page, _) if asks_for(line).is_some() => spoil_last_row(answer),
             (Fault::Midnight, Some(sweep)) => side.sweep_unrounded(sweep),
+            (Fault::Count, Some(sweep)) => side.comparisons = Comparisons::of(&sweep.bucket).by_rows(),
             _ => {}
         }
     }
@@ -196,27 +233,31 @@ fn spoil_last_row(answer: &mut [u8]) {
     }
 }
 
-/// What both sides made of a line.
+/// What all sides made of a line.
 pub struct Served {
     pub number: u64,
+    /// What stands where its comparisons are counted.
+    pub comparisons: u64,
     /// Whether it is a PUT that was accepted and took no version number.
     pub retried: bool,
     /// The sweep that it is, if it was accepted as one.
     pub swept: Option<Sweep>,
 }
 
-/// The engine's bytes; the reference works on a copy of them.
+/// The engine's bytes; the entry that counts and the reference work on copies of them.
 pub struct Sides {
     pub engine: Side,
+    counted: Side,
     reference: Side,
     pub fault: Fault,
-    /// How often each entry has served a line.
+    /// How often each entry that takes turns has served a line.
     pub served: [u64; ENTRIES.len()],
 }
 
 impl Sides {
     pub fn new(side: Side, fault: Fault) -> Sides {
-        Sides { engine: side.clone(), reference: side, fault, served: [0; ENTRIES.len()] }
+        let [engine, counted] = [side.clone(), side.clone()];
+        Sides { engine, counted, reference: side, fault, served: [0; ENTRIES.len()] }
     }
 
     /// The entry whose turn it is, of those that such lengths can be lent to.
@@ -230,31 +271,28 @@ impl Sides {
         self.served.iter().sum::<u64>() as usize % fitting
     }
 
-    /// Has both serve a line: what they made of it, or what differs.
+    /// Has all sides serve a line: what they made of it, or what differs.
     pub fn serve(&mut self, line: &[u8]) -> Result<Served, String> {
         self.reference.clone_from(&self.engine);
+        self.counted.clone_from(&self.engine);
         let entry = self.entry();
         self.served[entry] += 1;
         let (name, serve) = ENTRIES[entry];
         let next = self.engine.next_number();
         let swept = self.sweep(line);
-        let (one, two) = (&mut self.engine, &mut self.reference);
-        let engine =
-            serve(one.settings.bytes(), one.rows.bytes(), one.keys.bytes(), line, one.answer.bytes());
-        let reference = reference::serve_bytes(
-            two.settings.bytes(),
-            two.rows.bytes(),
-            two.keys.bytes(),
-            line,
-            two.answer.bytes(),
-        );
-        let retried = reference == 0 && two.next_number() == next && put_in(line).is_some();
-        let served = Served { number: reference, retried, swept: swept.filter(|_| reference == 0) };
-        if reference == 0 {
-            self.fault.spoil(line, &served, two);
+        let engine = self.engine.serve(serve, line);
+        let counted = self.counted.serve_counted(line);
+        let number = self.reference.serve_reference(line);
+        let retried = number == 0 && self.reference.next_number() == next && put_in(line).is_some();
+        let comparisons = self.counted.comparisons;
+        let served = Served { number, comparisons, retried, swept: swept.filter(|_| number == 0) };
+        if number == 0 {
+            self.fault.spoil(line, &served, &mut self.reference);
         }
-        let agreed = self.agreed(engine, reference).map_err(|difference| format!("{name}: {difference}"));
-        agreed.map(|_| served)
+        self.agreed(&self.engine, engine, number).map_err(|said| format!("{name}: {said}"))?;
+        let agreed = self.agreed(&self.counted, counted, number).and_then(|_| self.counted_alike());
+        agreed.map_err(|said| format!("serve_counted: {said}"))?;
+        Ok(served)
     }
 
     /// The sweep that a line is, if it can be read as one and the bucket is sound.
@@ -272,7 +310,7 @@ impl Sides {
         let (one, two) = (&mut self.engine, &mut self.reference);
         let engine = fresh(one.settings.bytes(), one.rows.bytes(), one.keys.bytes());
         let reference = reference::fresh_bytes(two.settings.bytes(), two.rows.bytes(), two.keys.bytes());
-        self.agreed(engine, reference)
+        self.agreed(&self.engine, engine, reference)
     }
 
     /// Has both say the key at each position of the table, at those behind it and at the last of all: how many are keys.
@@ -291,10 +329,22 @@ impl Sides {
         Ok(expected.len())
     }
 
-    fn agreed(&self, engine: u64, reference: u64) -> Result<u64, String> {
+    /// The number that a side of the engine and the reference returned, or what differs in it or in their bytes.
+    fn agreed(&self, side: &Side, engine: u64, reference: u64) -> Result<u64, String> {
         if engine != reference {
             return Err(format!("the engine returned {engine}, the reference {reference}"));
         }
-        self.engine.difference(&self.reference).map_or(Ok(engine), Err)
+        side.difference(&self.reference).map_or(Ok(engine), Err)
+    }
+
+    /// Whether the counts are alike: after a refusal both are what was lent.
+    fn counted_alike(&self) -> Result<(), String> {
+        let [engine, reference] = [&self.counted, &self.reference].map(|side| side.comparisons);
+        if engine != reference {
+            return Err(format!(
+                "the engine's count of comparisons is {engine}, the reference's {reference}"
+            ));
+        }
+        Ok(())
     }
 }

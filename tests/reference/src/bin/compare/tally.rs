@@ -1,4 +1,5 @@
 //! How often each number came, by verb, and each entry was called.
+use crate::comparisons::Comparisons;
 use crate::midnights::Midnights;
 use crate::sides::ENTRIES;
 use reference::dates;
@@ -8,6 +9,8 @@ const VERBS: [&str; 11] =
 const NUMBERS: usize = 14;
 /// The first days of years, 28 and 29 February, 1 March and the last day of all, as they stand in a printed date.
 const TELLING_DAYS: [&str; 5] = ["-01-01T", "-02-28T", "-02-29T", "-03-01T", "9999-12-31T"];
+/// The kinds of sweeps that tell a count from others: see `Comparisons::kinds`.
+const TELLING_COUNTS: [&str; 3] = ["above 0", "a key with several rows", "a rule not set between set ones"];
 
 #[derive(Default)]
 pub struct Tally {
@@ -27,6 +30,8 @@ pub struct Tally {
     rounded: u64,
     telling: [u64; TELLING_DAYS.len()],
     midnights: Midnights,
+    /// The sweeps with each telling count.
+    compared: [u64; TELLING_COUNTS.len()],
     entries: [u64; ENTRIES.len()],
     counts: [[u64; NUMBERS]; VERBS.len()],
 }
@@ -68,6 +73,15 @@ impl Tally {
         }
     }
 
+    pub fn count_comparisons(&mut self, comparisons: &Comparisons) {
+        self.compared.iter_mut().zip(comparisons.kinds()).for_each(|(sum, is)| *sum += u64::from(is));
+    }
+
+    /// The telling counts that no sweep had.
+    pub fn uncompared(&self) -> Vec<&str> {
+        uncounted(TELLING_COUNTS, &self.compared)
+    }
+
     /// The telling days on which rounding decided no sweep.
     pub fn undecided(&self) -> Vec<&str> {
         uncounted(TELLING_DAYS, &self.telling)
@@ -104,6 +118,7 @@ impl Tally {
         for ((name, _), count) in ENTRIES.iter().zip(&self.entries) {
             println!("{name}: {count} lines");
         }
+        println!("serve_counted: {} lines", self.lines);
         println!("fresh buckets: {} made, {} refused; {} keys", self.fresh[0], self.fresh[1], self.keys);
         println!("followed to their end: {} pages with {} rows", self.pages, self.rows);
         let [late, spent, full] = self.spared;
@@ -118,6 +133,7 @@ impl Tally {
         );
         println!("current and other rows that it left: {left:?}, of which for ever: {never:?};");
         println!("rows that went exactly at their midnight: {exact:?}");
+        println!("sweeps by their count of comparisons, {TELLING_COUNTS:?}: {:?}", self.compared);
         print!("{:8}", "number");
         (0..NUMBERS).for_each(|number| print!("{number:>9}"));
         println!();
