@@ -11,8 +11,8 @@ use Rattle.buffers.specs.Choices.{pick}
 use Rattle.buffers.specs.Ranges.{Within, Span}
 use Rattle.calendar.specs.declared.Civil.{Civil}
 use Rattle.calendar.specs.Calendar.{Bounded, leap, yearLength, yearStart, monthStart, monthLength, validDay, daysOf, yearOf, monthOf, dateIn, civilOf}
-use Rattle.calendar.proofs.Years.{year-most, year-next, year-is, year-end}
-use Rattle.calendar.proofs.Months.{month-31, month-in-year, MonthIs, month-is}
+use Rattle.calendar.proofs.Years.{year-most, year-next, YearIs, year-is, year-from, year-once, furthest-end, year-end, year-by-9999}
+use Rattle.calendar.proofs.Months.{month-31, month-in-year, MonthIs, month-is, month-again}
 
 -- ## Valid days
 
@@ -55,10 +55,10 @@ valid-bounds c r e t = valid-is c (sym e ∙ t) .bounds
 pub valid-last : (l : Bool) (y m d r : ℕ) → l ≡ leap y → r ≡ monthLength l m → leb d r ≡ leb d (monthLength (leap y) m)
 valid-last l y m d r el er = cc
 
-pub days-is : (c : Civil) (l : Bool) (s y : ℕ) → Bounded c → l ≡ leap (c .year) → Within s (monthStart l (c .month)) 335 → Within y (yearStart (c .year)) 2932897
+pub days-is : (c : Civil) (l : Bool) (s y : ℕ) → Bounded c → l ≡ leap (c .year) → Within s (monthStart l (c .month)) 335 → Within y (yearStart (c .year)) 16264249
     → Within (y + s + (c .day - 1)) (daysOf c) 2933262
 unfolding daysOf
-days-is c l s y d el es ey = record { is = simp (es .is, el, ey .is); most = omega arith }
+days-is c l s y d el es ey = record { is = simp (es .is, el, ey .is); most = omega (arith, year-next (c .year) (d .from), year-end (c .year) (d .from) (d .to)) }
 
 -- Each valid day is one of the days.
 pub days-most : (c : Civil) → validDay c ≡ true → daysOf c ≤ 2932896
@@ -76,12 +76,12 @@ days-most c v =
 
 -- ## The date of a day
 
-in-year : (n : ℕ) → n ≤ 2932896 → n - yearStart (yearOf n) < yearLength (leap (yearOf n))
+pub in-year : (n : ℕ) → n ≤ 16264248 → n - yearStart (yearOf n) < yearLength (leap (yearOf n))
 in-year n h = let y = year-is n h in omega (arith, year-next (yearOf n) (y .from), y .low, y .high)
 
 pub civil-valid : (n : ℕ) → n ≤ 2932896 → validDay (civilOf n) ≡ true
 unfolding validDay civilOf dateIn
-civil-valid n h = valid (yearOf n) (n - yearStart (yearOf n)) (year-is n h .from) (year-is n h .to) (in-year n h)
+civil-valid n h = valid (yearOf n) (n - yearStart (yearOf n)) (year-from n) (year-by-9999 n h) (in-year n (omega arith))
   where
     valid : (y k : ℕ) → 1970 ≤ y → y ≤ 9999 → k < yearLength (leap y) → validDay (dateIn y k) ≡ true
     valid y k from to lt =
@@ -95,12 +95,41 @@ civil-valid n h = valid (yearOf n) (n - yearStart (yearOf n)) (year-is n h .from
         )
         (le-leb (k - monthStart (leap y) (monthOf (leap y) k) + 1) (monthLength (leap y) (monthOf (leap y) k)) (omega (arith, m .low, m .high)))
 
-pub civil-days : (n : ℕ) → n ≤ 2932896 → daysOf (civilOf n) ≡ n
+pub civil-days : (n : ℕ) → n ≤ 16264248 → daysOf (civilOf n) ≡ n
 unfolding daysOf civilOf dateIn
 civil-days n h =
     let y = year-is n h in
     let m = month-is (leap (yearOf n)) (n - yearStart (yearOf n)) (in-year n h) in
     omega (arith, y .low, m .low)
+
+-- a date that its year has, up to the last year in which a period may end, were its largest count, 36500, one of years
+pub record IsDate (c : Civil) : Type 0 where
+  pub from : 1970 ≤ c .year
+  pub to : c .year ≤ 46499
+  pub first : 1 ≤ c .month
+  pub last : c .month ≤ 12
+  pub one : 1 ≤ c .day
+  pub fits : c .day ≤ monthLength (leap (c .year)) (c .month)
+
+pub civil-is-date : (n : ℕ) → n ≤ 2932896 → IsDate (civilOf n)
+civil-is-date n h =
+    let v = valid-is (civilOf n) (civil-valid n h) in
+    let b = v .bounds in
+    record { from = b .from; to = omega (arith, b .to); first = b .first; last = b .last; one = b .one; fits = v .fits }
+
+-- It is the date of its day.
+pub days-civil : (c : Civil) → IsDate c → civilOf (daysOf c) ≡ c
+unfolding daysOf civilOf dateIn
+days-civil c d =
+    let y = c .year in
+    let l = leap y in
+    let k = monthStart l (c .month) + (c .day - 1) in
+    let ends = month-in-year l (c .month) (d .last) in
+    let within : YearIs (daysOf c) y = record { from = d .from; low = omega arith; high = omega (arith, year-next y (d .from), ends, d .fits) } in
+    let there : yearOf (daysOf c) ≡ y = year-once (daysOf c) _ y (year-is (daysOf c) (omega (arith, within .high, furthest-end y (d .from) (d .to)))) within in
+    let since : daysOf c - yearStart y ≡ k = omega arith in
+    let in-day : k - monthStart l (c .month) + 1 ≡ c .day = omega arith in
+    rw (there, since, month-again l (c .month) (c .day) (d .first) (d .last) (d .one) (d .fits), in-day)
 
 -- ## `date_in`
 
@@ -129,20 +158,23 @@ pub ruleset dates-in = (date-days, date-span, date-low, date-fits, date-is)
 -- ## `civil_from_days`
 
 module _ (n y : ℕ) (ey : y ≡ yearOf n) (h : n ≤ 2932896) where
-  pub civil-span : Span 1970 y 10000
-  civil-span = omega (arith, year-is n h)
+  in-time : n ≤ 16264248
+  in-time = omega arith
 
-  pub civil-low : (s : ℕ) → Within s (yearStart y) 2932897 → s ≤ n
-  civil-low s es = rw (es .is, ey) (year-is n h .low)
+  pub civil-span : Span 1970 y 46500
+  civil-span = omega (arith, year-from n, year-by-9999 n h)
 
-  pub civil-in-year : (s : ℕ) → Within s (yearStart y) 2932897 → n - s < yearLength (leap y)
-  civil-in-year s es = rw (es .is, ey) (in-year n h)
+  pub civil-low : (s : ℕ) → Within s (yearStart y) 16264249 → s ≤ n
+  civil-low s es = rw (es .is, ey) (year-is n in-time .low)
 
-  pub civil-is : (s : ℕ) (r : Civil) → Within s (yearStart y) 2932897 → r ≡ dateIn y (n - s) → r ≡ civilOf n
+  pub civil-in-year : (s : ℕ) → Within s (yearStart y) 16264249 → n - s < yearLength (leap y)
+  civil-in-year s es = rw (es .is, ey) (in-year n in-time)
+
+  pub civil-is : (s : ℕ) (r : Civil) → Within s (yearStart y) 16264249 → r ≡ dateIn y (n - s) → r ≡ civilOf n
   unfolding civilOf
   civil-is s r es er = er ∙ rw (es .is, ey)
 
-  pub civil-bounds : (s : ℕ) (r : Civil) → Within s (yearStart y) 2932897 → r ≡ dateIn y (n - s) → Bounded r
+  pub civil-bounds : (s : ℕ) (r : Civil) → Within s (yearStart y) 16264249 → r ≡ dateIn y (n - s) → Bounded r
   civil-bounds s r es er = rw (civil-is s r es er) (valid-is (civilOf n) (civil-valid n h) .bounds)
 
 pub ruleset civils = (civil-span, civil-low, civil-in-year, civil-is, civil-bounds)

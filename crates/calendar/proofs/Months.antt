@@ -1,19 +1,20 @@
 -- Months: their days by the twelve-entry table, and the month of a day is the right one.
-use Prim.Native.Nat.{ℕ, zero, suc, _+_, _≤_, _<_, zero-le}
+use Prim.Native.Nat.{ℕ, zero, suc, _+_, _-_, _≤_, _<_, zero-le}
 use mathlib.Core.Path.{_≡_, refl}
-use mathlib.Core.Bool.{Bool, true, false, _&&_}
+use mathlib.Core.Bool.{Bool, true, false, _&&_, _||_}
 use mathlib.Core.List.{List, [], _∷_}
 use native.Mathlib.Omega.{arith}
 use lib.ListN.{getD}
 use mir.Val.{Fits}
 use mir.Syntax.{w64}
-use lib.Dec.{leb, ltb}
-use borrow.Author.Tests.{leb-true, ltb-true}
+use lib.Dec.{leb, ltb, eqb}
+use borrow.Author.Tests.{leb-true, ltb-true, eqb-true, le-ltb}
 use Rattle.buffers.specs.Lists.{all}
 use Rattle.buffers.specs.Ranges.{Within}
 use Rattle.buffers.proofs.Tests.{and-l, and-r}
 use Rattle.calendar.specs.Calendar.{yearLength, monthStart, monthLength, monthOf}
-use Rattle.calendar.proofs.Tables.{upto-at}
+use Rattle.calendar.specs.Periods.{dayIn}
+use Rattle.calendar.proofs.Tables.{upto, upto-at}
 use Rattle.calendar.proofs.Years.{year-least}
 
 -- ## The table
@@ -93,3 +94,36 @@ pub month-is : (l : Bool) (n : ℕ) → n < yearLength l → MonthIs l n (monthO
 unfolding monthOf monthStart monthLength
 month-is true n h = in-month true n (monthOf true n) (upto-at 366 (λ k. inMonth true k (monthOf true k)) refl n h)
 month-is false n h = in-month false n (monthOf false n) (upto-at 365 (λ k. inMonth false k (monthOf false k)) refl n h)
+
+-- ## The days of every month, one by one
+
+module _ (f : ℕ → ℕ → Bool) (t : upto 13 (λ m. upto 32 (λ d. f m d)) ≡ true) where
+  -- What passes at each passes at a day of a month.
+  every-day : (m d : ℕ) → m ≤ 12 → d ≤ 31 → f m d ≡ true
+  every-day m d h k = upto-at 32 (λ d. f m d) (upto-at 13 (λ m. upto 32 (λ d. f m d)) t m (omega arith)) d (omega arith)
+
+-- a day of a month has that month again, counted from the year's first day
+abbrev again : Bool → ℕ → ℕ → Bool
+again l m d = ltb m 1 || (ltb d 1 || (ltb (monthLength l m) d || eqb (monthOf l (monthStart l m + (d - 1))) m))
+
+every-again : (l : Bool) (m d : ℕ) → m ≤ 12 → d ≤ 31 → again l m d ≡ true
+unfolding monthOf monthStart monthLength
+every-again true = every-day (again true) refl
+every-again false = every-day (again false) refl
+
+pub month-again : (l : Bool) (m d : ℕ) → 1 ≤ m → m ≤ 12 → 1 ≤ d → d ≤ monthLength l m → monthOf l (monthStart l m + (d - 1)) ≡ m
+month-again l m d f h o k = eqb-true _ m (simp (le-ltb m 1 f, le-ltb d 1 o, le-ltb (monthLength l m) d k) at (every-again l m d h (omega (arith, month-31 l m h))))
+
+-- a day of a month is one in another year too
+abbrev kept : Bool → Bool → ℕ → ℕ → Bool
+kept l k m d = ltb (monthLength l m) d || leb (dayIn k m d) (monthLength k m)
+
+every-kept : (l k : Bool) (m d : ℕ) → m ≤ 12 → d ≤ 31 → kept l k m d ≡ true
+unfolding monthStart monthLength
+every-kept true true = every-day (kept true true) refl
+every-kept true false = every-day (kept true false) refl
+every-kept false true = every-day (kept false true) refl
+every-kept false false = every-day (kept false false) refl
+
+pub day-kept : (l k : Bool) (m d : ℕ) → m ≤ 12 → d ≤ monthLength l m → dayIn k m d ≤ monthLength k m
+day-kept l k m d h f = leb-true _ _ (simp (le-ltb (monthLength l m) d f) at (every-kept l k m d h (omega (arith, month-31 l m h))))

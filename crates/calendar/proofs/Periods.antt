@@ -1,17 +1,24 @@
--- A period's end is after its start; days expire at the first midnight from their end on.
-use Prim.Native.Nat.{ℕ, _+_, _*_, _%_, _≤_, _<_}
+-- Years end in the later year at the same month, day and time of day; days expire at the first midnight from their end on.
+use Prim.Native.Nat.{ℕ, _+_, _*_, _%_, _≤_}
 use mathlib.Core.Path.{_≡_}
 use mathlib.Core.Logic.{inl, inr}
 use native.Mathlib.Omega.{arith}
 use lib.Dec.{eqb, leb}
 use borrow.Author.Tests.{eqb-true, eqb-false}
 use Rattle.buffers.proofs.Tests.{either, leb-same}
-use Rattle.calendar.specs.Calendar.{day}
-use Rattle.calendar.specs.Periods.{periodEnd, dayStart, expiresAt, FirstMidnight, MidnightBetween}
+use Rattle.calendar.specs.Calendar.{latest, day}
+use Rattle.calendar.specs.Periods.{YearsEnd, periodEnd, dayStart, expiresAt, FirstMidnight, MidnightBetween}
+use Rattle.calendar.proofs.Later.{years-end, later-positive}
 
-pub period-positive : (from count unit : ℕ) → 1 ≤ count → from < periodEnd from count unit
+-- For every instant.
+pub period-years : (from years : ℕ) → from ≤ latest → 1 ≤ years → years ≤ 36500 → YearsEnd years from (periodEnd from years 2)
 unfolding periodEnd
-period-positive from count unit h = elim (either (eqb unit 2)) [ inl e ↦ rw e (omega arith) | inr e ↦ rw e (omega arith) ]
+period-years from years h some most = years-end from years h most some
+
+-- No period ends at instant 0.
+pub period-positive : (from count unit : ℕ) → 1 ≤ count → 1 ≤ periodEnd from count unit
+unfolding periodEnd
+period-positive from count unit h = elim (either (eqb unit 2)) [ inl e ↦ rw e (later-positive from count h) | inr e ↦ rw e (omega arith) ]
 
 -- ## Expiry
 

@@ -1,11 +1,12 @@
 -- Years: the closed formula of their first days agrees with the leap rule, and the year of a day is the right one.
 use Prim.Native.Nat.{ℕ, zero, suc, _+_, _-_, _*_, _/_, _%_, _≤_, _<_}
-use mathlib.Core.Path.{_≡_, refl, sym, ap, _∙_}
+use mathlib.Core.Path.{_≡_, refl, sym, ap, _∙_, subst}
 use mathlib.Core.Logic.{inl, inr}
 use mathlib.Core.Bool.{Bool, true, false}
 use native.Mathlib.Omega.{arith}
-use lib.Dec.{ltb, eqb}
-use borrow.Author.Tests.{eqb-true, eqb-false, ltb-true, ltb-false}
+use native.Mathlib.Nat.{le-antisymm}
+use lib.Dec.{ltb, leb, eqb}
+use borrow.Author.Tests.{eqb-true, eqb-false, ltb-true, ltb-false, leb-true, leb-false}
 use Rattle.buffers.specs.Choices.{pick}
 use Rattle.buffers.specs.Ranges.{Within, Span}
 use Rattle.buffers.proofs.Tests.{either}
@@ -74,48 +75,76 @@ year-start-closed y h =
 pub year-next : (y : ℕ) → 1970 ≤ y → yearStart (y + 1) ≡ yearStart y + yearLength (leap y)
 year-next y h = rw (year-start-closed y h, year-start-closed (y + 1) (omega arith)) (closed-next y h)
 
-pub year-start-is : (y : ℕ) → Span 1970 y 10000 → Within (closedStart y) (yearStart y) 2932897
+pub year-start-is : (y : ℕ) → Span 1970 y 46500 → Within (closedStart y) (yearStart y) 16264249
 year-start-is y s = record { is = sym (year-start-closed y (s .from)); most = omega arith }
+
+-- A later year starts no earlier,
+pub years-rise : (y k : ℕ) → 1970 ≤ y → yearStart y ≤ yearStart (y + k)
+years-rise y zero h = let q : y + 0 ≡ y = omega arith in rw q (omega arith)
+years-rise y (suc k) h = let q : y + suc k ≡ y + k + 1 = omega arith in rw q (omega (arith, year-next (y + k) (omega arith), years-rise y k h))
+
+-- and none before the next.
+pub year-rises : (y z : ℕ) → 1970 ≤ y → y < z → yearStart (y + 1) ≤ yearStart z
+year-rises y z h k = let q : y + 1 + (z - (y + 1)) ≡ z = omega arith in subst (λ (v : ℕ). yearStart (y + 1) ≤ yearStart v) q (years-rise (y + 1) (z - (y + 1)) (omega arith))
 
 -- ## The year of a day
 
--- a year starts at most 75 days before as many mean Julian years
-closed-low : (y : ℕ) → 1970 ≤ y → y ≤ 10001 → 1461 * (y - 1970) ≤ 4 * closedStart y + 300
+-- a year starts at most 334 days before as many mean Julian years
+closed-low : (y : ℕ) → 1970 ≤ y → y ≤ 46501 → 1461 * (y - 1970) ≤ 4 * closedStart y + 1336
 closed-low y h k = omega arith
 
-pub guess-range : (n : ℕ) → n ≤ 2932896 → Span 1970 (guessOf n) 9999
+guess-low : (n : ℕ) → yearStart (guessOf n) ≤ n
 unfolding guessOf
-guess-range n h = record { from = omega arith; to = omega arith }
+guess-low n = rw (year-start-closed (guessOf n) (omega arith)) (omega arith)
 
-guess-low : (n : ℕ) → n ≤ 2932896 → yearStart (guessOf n) ≤ n
-unfolding guessOf
-guess-low n h = rw (year-start-closed (guessOf n) (omega arith)) (omega arith)
-
-guess-high : (n : ℕ) → n ≤ 2932896 → n < yearStart (guessOf n + 1 + 1)
+guess-high : (n : ℕ) → n ≤ 16264248 → n < yearStart (guessOf n + 1 + 1)
 unfolding guessOf
 guess-high n h = rw (year-start-closed (guessOf n + 1 + 1) (omega arith)) (omega (arith, closed-low (guessOf n + 1 + 1) (omega arith) (omega arith)))
-
--- year 10000 starts after the last day
-before-10000 : (y n : ℕ) → 1970 ≤ y → n ≤ 2932896 → yearStart y ≤ n → y ≤ 9999
-before-10000 y n f h l = let k : closedStart y ≤ n = rw (year-start-closed y f) at l in omega arith
 
 -- day n lies in year y
 pub record YearIs (n y : ℕ) : Type 0 where
   pub from : 1970 ≤ y
-  pub to : y ≤ 9999
   pub low : yearStart y ≤ n
   pub high : n < yearStart (y + 1)
 
-pub year-is : (n : ℕ) → n ≤ 2932896 → YearIs n (yearOf n)
-unfolding yearOf
+-- For every day up to the end of 46499.
+pub year-is : (n : ℕ) → n ≤ 16264248 → YearIs n (yearOf n)
+unfolding yearOf guessOf
 year-is n h =
-    let g = guess-range n h in
     elim (either (ltb n (yearStart (guessOf n + 1)))) [
-      | inl e ↦ rw e (record { from = g .from; to = g .to; low = guess-low n h; high = ltb-true _ _ e })
-      | inr e ↦ let l = ltb-false n (yearStart (guessOf n + 1)) e in
-          rw e (record { from = omega arith; to = before-10000 (guessOf n + 1) n (omega arith) h l; low = l; high = guess-high n h })
+      | inl e ↦ rw e (record { from = omega arith; low = guess-low n; high = ltb-true _ _ e })
+      | inr e ↦ rw e (record { from = omega arith; low = ltb-false n (yearStart (guessOf n + 1)) e; high = guess-high n h })
     ]
 
--- No year up to 9999 ends after the last day.
+pub year-from : (n : ℕ) → 1970 ≤ yearOf n
+unfolding yearOf guessOf
+year-from n = elim (either (ltb n (yearStart (guessOf n + 1)))) [ inl e ↦ rw e (omega arith) | inr e ↦ rw e (omega arith) ]
+
+-- A day lies in one year.
+pub year-once : (n y z : ℕ) → YearIs n y → YearIs n z → y ≡ z
+year-once n y z p q = le-antisymm (no-later y z p q) (no-later z y q p)
+  where
+    no-later : (a b : ℕ) → YearIs n a → YearIs n b → a ≤ b
+    no-later a b p q = elim (either (leb a b)) [ inl e ↦ leb-true a b e | inr e ↦ absurd (omega (arith, year-rises b a (q .from) (leb-false a b e), p .low, q .high)) ]
+
+-- ## The ends of years
+
+-- Only the first year starts on day 0.
+pub year-some : (y : ℕ) → 1970 < y → 1 ≤ yearStart y
+year-some y h = rw (year-start-closed y (omega arith)) (omega arith)
+
+-- No year up to 46499, in which 36500 years from 9999 on end, ends after its last day,
+pub furthest-end : (y : ℕ) → 1970 ≤ y → y ≤ 46499 → yearStart (y + 1) ≤ 16264249
+furthest-end y h k = rw (year-start-closed (y + 1) (omega arith)) (omega arith)
+
+-- none up to 9999 after the last day,
 pub year-end : (y : ℕ) → 1970 ≤ y → y ≤ 9999 → yearStart (y + 1) ≤ 2932897
 year-end y h k = rw (year-start-closed (y + 1) (omega arith)) (omega arith)
+
+-- and none above 9999 starts before its end.
+pub year-past : (y : ℕ) → 9999 < y → 2932897 ≤ yearStart y
+year-past y h = rw (year-start-closed y (omega arith)) (omega arith)
+
+-- The last day and those before it lie in years up to 9999.
+pub year-by-9999 : (n : ℕ) → n ≤ 2932896 → yearOf n ≤ 9999
+year-by-9999 n h = elim (either (leb (yearOf n) 9999)) [ inl e ↦ leb-true _ _ e | inr e ↦ absurd (omega (arith, year-past (yearOf n) (leb-false _ _ e), year-is n (omega arith) .low)) ]

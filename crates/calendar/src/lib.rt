@@ -4,7 +4,7 @@ ghost use Prim.Native.Nat.{_+_, _-_, _*_, _%_, _≤_, _<_};
 ghost use lib.Dec.{leb};
 ghost use Rattle.buffers.specs.Ranges.{Within, Span};
 ghost use Rattle.calendar.specs.Calendar.{Bounded, latest, day, leap, yearLength, yearStart, monthStart, monthLength, validDay, daysOf, yearOf, monthOf, dateIn, civilOf};
-ghost use Rattle.calendar.specs.Periods.{periodEnd, dayStart, expiresAt};
+ghost use Rattle.calendar.specs.Periods.{yearsLater, turningYear, periodEnd, dayStart, expiresAt};
 
 // A date of the Gregorian calendar.
 pub struct Civil {
@@ -53,8 +53,8 @@ fn year_length(leap_year: bool) -> u64
 
 // The days from 1970-01-01 to a year's first day.
 fn year_start(year: u64) -> u64
-    requires { ⌜ Span 1970 year 10000 ⌝ }
-    ensures { λ r. ⌜ Within r (yearStart year) 2932897 ⌝ }
+    requires { ⌜ Span 1970 year 46500 ⌝ }
+    ensures { λ r. ⌜ Within r (yearStart year) 16264249 ⌝ }
 {
     let p = year - 1;
     365 * (year - 1970) + p / 4 + p / 400 - (p / 100 + 477)
@@ -174,13 +174,34 @@ pub fn civil_from_days(days: u64) -> Civil
     date_in(year, days - year_start(year))
 }
 
+// The year from whose first day a date is as far as some years later: its own before 29 February, else the next.
+fn turning_year(days: u64) -> u64
+    requires { ⌜ days ≤ 2932896 ⌝ }
+    ensures { λ r. ⌜ Within r (turningYear days) 10000 ⌝ }
+{
+    let year = year_of(days);
+    if days - year_start(year) < 59 {
+        return year;
+    }
+    year + 1
+}
+
+// The same date some years later, at the same time of day.
+fn years_later(from: u64, years: u64) -> u64
+    requires { ⌜ (from ≤ latest) × (years ≤ 36500) ⌝ }
+    ensures { λ r. ⌜ r ≡ yearsLater from years ⌝ }
+{
+    let turn = turning_year(from / DAY);
+    from + (year_start(turn + years) - year_start(turn)) * DAY
+}
+
 // The end of a period of days (unit 1) or years (unit 2).
 pub fn period_end(from: u64, count: u64, unit: u64) -> u64
     requires { ⌜ (from ≤ latest) × (count ≤ 36500) ⌝ }
     ensures { λ r. ⌜ r ≡ periodEnd from count unit ⌝ }
 {
     if unit == 2 {
-        return from + count * 365 * DAY;
+        return years_later(from, count);
     }
     from + count * DAY
 }

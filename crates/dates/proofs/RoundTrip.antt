@@ -40,16 +40,22 @@ fraction-back a b d n ha hb hd e =
 -- ## The text
 
 module _ (c : Civil) (t : ℕ) where
+  pub year-back : c .year ≤ 9999 → fourDigits (dateText c t) 0 ≡ some (c .year)
+  unfolding dateText
+  year-back h =
+      let y : ℕ = c .year in
+      let s : List ℕ = dateText c t in
+      four-printed s 0 y (y / 100) (y % 100)
+      (two-printed s 0 (y / 100) (y / 1000 % 10) (y / 100 % 10) refl refl (omega arith) (omega arith) (omega arith))
+      (two-printed s 2 (y % 100) (y / 10 % 10) (y % 10) refl refl (omega arith) (omega arith) (omega arith))
+      (omega arith)
+
   day-back : c .year ≤ 9999 → c .month ≤ 99 → c .day ≤ 99 → dayAt (dateText c t) ≡ dayNumber c
   unfolding dayAt dateText
   day-back hy hm hd =
-      let y : ℕ = c .year in
       let s : List ℕ = dateText c t in
       rw (
-        four-printed s 0 y (y / 100) (y % 100)
-            (two-printed s 0 (y / 100) (y / 1000 % 10) (y / 100 % 10) refl refl (omega arith) (omega arith) (omega arith))
-            (two-printed s 2 (y % 100) (y / 10 % 10) (y % 10) refl refl (omega arith) (omega arith) (omega arith))
-            (omega arith),
+        year-back hy,
         two-back s 5 (c .month) refl refl hm,
         two-back s 8 (c .day) refl refl hd,
       )
@@ -80,7 +86,7 @@ module _ (c : Civil) (t : ℕ) where
 
 number-back : (n : ℕ) → n ≤ 2932896 → dayNumber (civilOf n) ≡ some n
 unfolding dayNumber
-number-back n h = rw (civil-valid n h, civil-days n h)
+number-back n h = rw (civil-valid n h, civil-days n (omega arith))
 
 pub round-trip : (t : ℕ) → t ≤ latest → readDate (printDate t) ≡ some t
 unfolding printDate

@@ -1,9 +1,14 @@
 -- The text of an instant, as `2020-08-10T21:46:00.000Z`: 24 bytes.
 use Prim.Native.Nat.{ℕ, _+_, _/_, _%_}
+use mathlib.Core.Path.{_≡_}
+use mathlib.Core.Bool.{true, false}
 use mathlib.Core.List.{List, [], _∷_, _++_}
+use mathlib.Core.Option.{some}
+use lib.ListN.{take, drop}
 use Rattle.buffers.specs.Texts.{bytes}
 use Rattle.calendar.specs.declared.Civil.{Civil}
-use Rattle.calendar.specs.Calendar.{day, civilOf}
+use Rattle.calendar.specs.Calendar.{day, leap, civilOf}
+use Rattle.dates.specs.Reading.{fourDigits}
 
 -- the last digit of n, as a byte
 abbrev pub lastDigit : ℕ → ℕ
@@ -31,3 +36,12 @@ dateText c t =
 -- the text of an instant
 unfoldable pub printDate : ℕ → List ℕ
 printDate t = dateText (civilOf (t / day)) (t % day)
+
+-- The text `to` is what a contract calls some years after the text `from`.
+pub record PrintedYearsAfter (years : ℕ) (from to : List ℕ) : Type 0 where
+  -- The first four digits are the later year's.
+  pub later-year : (y : ℕ) → fourDigits from 0 ≡ some y → fourDigits to 0 ≡ some (y + years)
+  -- All behind them stays, also on 29 February where the later year has one;
+  pub same-rest : (y : ℕ) → fourDigits to 0 ≡ some y → (take 6 (drop 4 from) ≡ bytes "-02-29" → leap y ≡ true) → drop 4 to ≡ drop 4 from
+  -- where it has none, it is 28 February.
+  pub no-leap-day : (y : ℕ) → fourDigits to 0 ≡ some y → take 6 (drop 4 from) ≡ bytes "-02-29" → leap y ≡ false → drop 4 to ≡ bytes "-02-28" ++ drop 10 from

@@ -1,5 +1,5 @@
 -- The statements at work, computed: 01's starred examples as one table, its printed run, and a use of each demand on bytes and buffers.
-use Prim.Native.Nat.{ℕ, _*_}
+use Prim.Native.Nat.{ℕ, _*_, _<_}
 use mathlib.Core.Path.{_≡_, refl, ap}
 use mathlib.Core.Bool.{Bool, true, false, _||_}
 use mathlib.Core.List.{List, [], _∷_, _++_}
@@ -17,7 +17,7 @@ use Rattle.text.specs.Keys.{isKeyByte, isPrefix, isKey}
 use Rattle.text.specs.Numbers.{isDigit, digitMore, leadingZero, numberOf, positiveOf}
 use Rattle.text.specs.Printing.{digits}
 use Rattle.calendar.specs.Calendar.{leap, yearsLength, monthStart, monthLength, validDay, daysOf, guessOf, yearOf, monthOf, dateIn, civilOf}
-use Rattle.calendar.specs.Periods.{periodEnd, expiresAt}
+use Rattle.calendar.specs.Periods.{sameDateIn, dateLater, yearsLater, periodEnd, expiresAt}
 use Rattle.dates.specs.Examples.{Starred as Dates, starred as dates}
 use Rattle.dates.specs.Printing.{dateText, printDate}
 use Rattle.dates.specs.Reading.{digitOf, twoDigits, fourDigits, dayNumber, dayAt, secondOfDay, secondAt, fractionDigit, milliseconds, fractionOf, readDate}
@@ -35,6 +35,7 @@ use Rattle.model.specs.Refusals.{halfGiven, needs, granted, lacksRight, shortFo
 use Rattle.model.specs.Requests.{inRange}
 use Rattle.model.specs.Rows.{Row, soundRow}
 use Rattle.model.specs.Comparisons.{comparisons, comparisonsBy}
+use Rattle.model.specs.Years.{laterYear, MadeForYears}
 use Rattle.model.specs.Settings.{largestNumber, soundRules, soundConfig, fits, sound}
 use Rattle.model.specs.Time.{defaultEnd}
 use Rattle.blocks.specs.Blocks.{blockOf, isBlock}
@@ -56,11 +57,13 @@ use Rattle.guarantee.specs.Promise.{Hub, Demand1, Demand2}
 use Rattle.guarantee.specs.Bytes.{freshBytes, byteStep, byteEvents}
 use Rattle.guarantee.specs.Exchanges.{exchange}
 use Rattle.guarantee.specs.Retries.{atTime, isPut, lineIn, sameFile}
+use Rattle.guarantee.specs.Years.{EndIsShown}
 use Rattle.guarantee.proofs.Demands.{only-hub}
 use Rattle.guarantee.proofs.Bytes.{demand-3-bytes}
 use Rattle.guarantee.proofs.Retries.{sent-twice, sent-twice-bytes, sent-later}
 use Rattle.guarantee.proofs.Expiry.{sweeps-by-midnights-bytes}
 use Rattle.guarantee.proofs.Comparisons.{counts-once-bytes}
+use Rattle.guarantee.proofs.Years.{kept-for-years-bytes, shows-years-bytes, years-meet-ten-bytes}
 
 -- A call of a line with an answer buffer of zeros.
 abbrev asks : List ℕ → Call
@@ -258,6 +261,33 @@ either-order true false = refl
 either-order false true = refl
 either-order false false = refl
 
+-- ## Years by the calendar
+
+-- A bucket of one row with a default, set on 29 February 2024.
+abbrev keptFor : List ℕ → Bytes
+keptFor period = byteStep (freshBytes oneRow) (asks (bytes "2024-02-29T10:30:00Z\tc\tDEFAULT\tCOMPLIANCE\t" ++ period))
+
+-- A PUT that takes it, with this clock, and what GET shows then.
+abbrev putAt : List ℕ → Call
+putAt clock = asks (clock ++ bytes "\tw\tPUT\tq/7\t41\t300\t-\t-\t-")
+
+abbrev leapDay : List ℕ
+leapDay = bytes "2024-02-29T10:30:00Z"
+
+abbrev shownFor : List ℕ → List ℕ
+shownFor period = lineIn ((hubServed (byteStep (keptFor period) (putAt leapDay)) get) .answer)
+
+pub record ByYears : Type 0 where
+  pub no-leap-day : shownFor (bytes "1y") ≡ bytes "ok\t1\t41\t300\tCOMPLIANCE\t2025-02-28T10:30:00.000Z\tOFF\n"
+  pub leap-day : shownFor (bytes "4y") ≡ bytes "ok\t1\t41\t300\tCOMPLIANCE\t2028-02-29T10:30:00.000Z\tOFF\n"
+  pub no-leap-century : shownFor (bytes "76y") ≡ bytes "ok\t1\t41\t300\tCOMPLIANCE\t2100-02-28T10:30:00.000Z\tOFF\n"
+  pub too-late : (hubServed (keptFor (bytes "100y")) (putAt (bytes "9900-01-01T00:00:00Z"))) .number ≡ 10
+  pub last-end : (hubServed (keptFor (bytes "100y")) (putAt (bytes "9899-12-31T23:59:59.999Z"))) .number ≡ 0
+  -- By the promises: the row, what GET shows of it, and the year of a line that met 10.
+  pub kept : MadeForYears 1709202600000 (bucketOf (lentOf (keptFor (bytes "1y")))) (bytes "q/7") (bucketOf (lentOf (byteStep (keptFor (bytes "1y")) (putAt leapDay))))
+  pub shows : EndIsShown 1 1709202600000 ((hubServed (byteStep (keptFor (bytes "1y")) (putAt leapDay)) get) .answer)
+  pub beyond : 9999 < laterYear 250246627200000 (bucketOf (lentOf (keptFor (bytes "100y"))))
+
 -- ## The examples, computed
 
 pub record Examples : Type 0 where
@@ -271,10 +301,11 @@ pub record Examples : Type 0 where
   pub sent-again : SentAgain
   pub by-midnights : ByMidnights
   pub counted : CountedKeys
+  pub by-years : ByYears
   pub no-first-line-only : Demand1 (firstLineOnly (lockedPut ∷ [])) withLocked hold → Demand2 (firstLineOnly (lockedPut ∷ [])) withLocked hold → ⊥
 
 pub examples : Examples
-unfolding fieldOf placeOf isKeyByte isPrefix isKey isDigit digitMore leadingZero numberOf positiveOf digits leap yearsLength monthStart monthLength validDay daysOf guessOf yearOf monthOf dateIn civilOf periodEnd expiresAt dateText printDate digitOf twoDigits fourDigits dayNumber dayAt secondOfDay secondAt fractionDigit milliseconds fractionOf readDate reply added removed rowsAfter setConfig configAfter locked admits halfGiven needs granted lacksRight shortForPage pastDate missing namesMarker barred tooLate spends full inRange soundRow soundRules soundConfig fits sound defaultEnd blockOf isBlock whole rightsIn readRights readKey readPrefix readVersion readMode readUntil readSwitch readHold readBypass readPeriod nameAt retentionAt termsAt putOf copyOf retainOf setHoldOf deleteOf defaultOf ruleOf sweepOf getOf otherByWord verbByWord requestIn readLine fieldsText okText modeText untilText holdText refusalOf outcome number numbersFrom numbersBytes spelled settingsOf settingsBytes hubServed hubComparisons hubCounted fitRows hubFresh settingsSound comparisons comparisonsBy comparisonsOf
+unfolding fieldOf placeOf isKeyByte isPrefix isKey isDigit digitMore leadingZero numberOf positiveOf digits leap yearsLength monthStart monthLength validDay daysOf guessOf yearOf monthOf dateIn civilOf sameDateIn dateLater yearsLater periodEnd expiresAt dateText printDate digitOf twoDigits fourDigits dayNumber dayAt secondOfDay secondAt fractionDigit milliseconds fractionOf readDate reply added removed rowsAfter setConfig configAfter locked admits halfGiven needs granted lacksRight shortForPage pastDate missing namesMarker barred tooLate spends full inRange soundRow soundRules soundConfig fits sound defaultEnd blockOf isBlock whole rightsIn readRights readKey readPrefix readVersion readMode readUntil readSwitch readHold readBypass readPeriod nameAt retentionAt termsAt putOf copyOf retainOf setHoldOf deleteOf defaultOf ruleOf sweepOf getOf otherByWord verbByWord requestIn readLine fieldsText okText modeText untilText holdText refusalOf outcome number numbersFrom numbersBytes spelled settingsOf settingsBytes hubServed hubComparisons hubCounted fitRows hubFresh settingsSound comparisons comparisonsBy comparisonsOf
 examples =
     record {
       starred = record {
@@ -320,6 +351,16 @@ examples =
         no-right = refl;
         by-keys = (counts-once-bytes twoKeys (sweepAt (bytes "2024-05-04T00:00:00Z")) 7) .sweep refl (bytes "q/8" ∷ bytes "q/7" ∷ [])
             (record { same-keys = λ k. either-order (same k (bytes "q/7")) (same k (bytes "q/8")); once = refl });
+      };
+      by-years = record {
+        no-leap-day = refl;
+        leap-day = refl;
+        no-leap-century = refl;
+        too-late = refl;
+        last-end = refl;
+        kept = kept-for-years-bytes (keptFor (bytes "1y")) (putAt leapDay) 1709202600000 (record { word = refl; no-mode = refl; clock-read = refl; counts-years = refl }) refl;
+        shows = shows-years-bytes (keptFor (bytes "1y")) (putAt leapDay) get 1709202600000 (record { word = refl; no-mode = refl; clock-read = refl; counts-years = refl }) refl refl;
+        beyond = (years-meet-ten-bytes (keptFor (bytes "100y")) (putAt (bytes "9900-01-01T00:00:00Z")) 250246627200000 (record { word = refl; no-mode = refl; clock-read = refl; counts-years = refl })) .only-there refl;
       };
       no-first-line-only = λ d e. let z : _≡_ {A = ℕ} 0 1 = ap (λ (o : Outcome). getD (o .bucket .numbers) 7 0) (only-hub (firstLineOnly (lockedPut ∷ [])) withLocked hold d e) in absurd (omega arith);
     }

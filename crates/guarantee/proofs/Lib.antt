@@ -13,4 +13,5 @@ pub mod PagesFollowed
 pub mod Retries
 pub mod Expiry
 pub mod Comparisons
+pub mod Years
 pub mod Examples

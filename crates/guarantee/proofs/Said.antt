@@ -27,8 +27,8 @@ pub record Read (g : Call) : Type 0 where
   pub reads : readLine bytes ≡ some said
   pub hears : heard g ≡ says (asked (length (g .answer)) said)
 
-pub accepted-read : (b : Lent) (g : Call) → (outcome b g) .number ≡ 0 → Read g
-accepted-read b g z = let a = accepts b g (sym (outcome-number b g) ∙ z) in by-sent (g .sent) refl (a .request) (a .hears)
+pub heard-read : (g : Call) (q : Request) → heard g ≡ says q → Read g
+heard-read g q h = by-sent (g .sent) refl q h
   where
     by-said : (s : List ℕ) → g .sent ≡ line s → (o : Option Said) → readLine s ≡ o → (q : Request) → thenSome o (unreadable (length (g .answer))) (λ x. says (asked (length (g .answer)) x)) ≡ says q → Read g
     by-said s t none r q h = let z : _≡_ {A = ℕ} 0 1 = cc in absurd (omega arith)
@@ -36,6 +36,9 @@ accepted-read b g z = let a = accepts b g (sym (outcome-number b g) ∙ z) in by
 
     by-sent : (t : Sent) → g .sent ≡ t → (q : Request) → heard g ≡ says q → Read g
     by-sent (line s) t q h = by-said s t (readLine s) refl q (sym (ap (heardOf (length (g .answer))) t) ∙ h)
+
+pub accepted-read : (b : Lent) (g : Call) → (outcome b g) .number ≡ 0 → Read g
+accepted-read b g z = let a = accepts b g (sym (outcome-number b g) ∙ z) in heard-read g (a .request) (a .hears)
 
 -- A field of what was sent is the line's.
 pub read-field : {g : Call} (r : Read g) (i : ℕ) → sentField (g .sent) i ≡ fieldOf (r .bytes) i

@@ -7,3 +7,4 @@ pub mod Pages
 pub mod Retries
 pub mod Expiry
 pub mod Comparisons
+pub mod Years

@@ -1,6 +1,7 @@
 -- An accepted line meets none of the conditions, as it is written and as it is meant, and a line that meets none is accepted.
 use Prim.Native.Nat.{ℕ, suc}
 use mathlib.Core.Path.{_≡_, refl}
+use mathlib.Core.Logic.{_⊎_, inl, inr}
 use mathlib.Core.Bool.{Bool, true, false}
 use mathlib.Core.List.{List}
 use mathlib.Core.Option.{Option, some, none}
@@ -35,6 +36,10 @@ meant-either xs (DeleteVersion k v y) P p r = p
 meant-either xs (Set s) P p r = p
 meant-either xs Sweep P p r = p
 meant-either xs (Ask q) P p r = p
+
+-- A verb means itself, or it is a retry.
+pub meant-ways : (xs : List Row) (v : Verb) → (meant xs v ≡ v) ⊎ ((n : Version) × (meant xs v ≡ Ask (Repeat n)))
+meant-ways xs v = meant-either xs v (λ w. (w ≡ v) ⊎ ((n : Version) × (w ≡ Ask (Repeat n)))) (inl refl) (λ n. inr (n, refl))
 
 -- ## The conditions
 

@@ -2,13 +2,14 @@
 use Prim.Native.Nat.{ℕ, _≤_}
 use mathlib.Core.Path.{_≡_, refl, sym, _∙_, ap, ap₂}
 use mathlib.Core.Logic.{_⊎_, inl, inr}
-use mathlib.Core.Bool.{Bool, true, not}
+use mathlib.Core.Bool.{Bool, true, false, not, _&&_}
 use mathlib.Core.List.{List, [], _∷_, cons≢nil, tail-eq-of-cons-eq}
 use native.Mathlib.Omega.{arith}
 use lib.Dec.{eqb, leb}
 use borrow.Author.Tests.{eq-eqb, leb-true}
-use Rattle.buffers.specs.Lists.{all}
-use Rattle.buffers.proofs.Tests.{either, and-i, and-l, and-r}
+use Rattle.buffers.specs.Choices.{pick}
+use Rattle.buffers.specs.Lists.{all, any}
+use Rattle.buffers.proofs.Tests.{either, and-i, and-l, and-r, or-r}
 use Rattle.model.specs.Rows.{Row}
 use Rattle.model.specs.Settings.{fresh}
 use Rattle.model.specs.Requests.{Heard}
@@ -42,6 +43,36 @@ first-holds (x ∷ xs) n e z =
           let s = first-holds xs n (rw h at e) z in
           record { before = x ∷ s .before; after = s .after; at = ap (λ (ys : List Check). x ∷ ys) (s .at); none-before = rw h (s .none-before) }
     ]
+
+-- The number of the first that holds is that of one that holds.
+pub first-among : (xs : List Check) (n : ℕ) → firstOf xs ≡ n → (n ≡ 0 → ⊥) → any (λ x. eqb (x .number) n && x .holds) xs ≡ true
+first-among [] n e z = absurd (z (sym e))
+first-among (x ∷ xs) n e z =
+    elim (either (x .holds)) [
+      | inl h ↦ simp (eq-eqb (x .number) n (rw h at e), h)
+      | inr h ↦ or-r (eqb (x .number) n && x .holds) _ (first-among xs n (rw h at e) z)
+    ]
+
+-- the conditions before the one of number n
+abbrev until : ℕ → List Check → List Check
+until n [] = []
+until n (x ∷ xs) = pick (eqb (x .number) n) [] (x ∷ until n xs)
+
+-- No condition before the first that holds does, whatever its number k.
+pub first-passed : (xs : List Check) (k n : ℕ) → firstOf xs ≡ n → (n ≡ 0 → ⊥) → all (λ x. not (eqb (x .number) k && x .holds)) (until n xs) ≡ true
+first-passed [] k n e z = refl
+first-passed (x ∷ xs) k n e z =
+    elim (either (x .holds)) [
+      | inl h ↦ rw (eq-eqb (x .number) n (rw h at e))
+      | inr h ↦ elim (either (eqb (x .number) n)) [
+        | inl t ↦ rw t
+        | inr t ↦ rw t (and-i _ _ (fails (eqb (x .number) k) (x .holds) h) (first-passed xs k n (rw h at e) z))
+      ]
+    ]
+  where
+    fails : (a b : Bool) → b ≡ false → not (a && b) ≡ true
+    fails true b e = rw e
+    fails false b e = refl
 
 -- ## Version numbers
 

@@ -16,5 +16,6 @@ pub mod Room
 pub mod Expiry
 pub mod Comparisons
 pub mod Facts
+pub mod Years
 pub mod Examples
 pub mod Runs

@@ -80,7 +80,7 @@ retry-accepted c b g now v n p =
 -- ## A PUT sent again
 
 -- A new row is its key's current one.
-current-new : (x : Row) (xs : List Row) → rowOf (insertByKey x xs) (name (x .key) none) ≡ some x
+pub current-new : (x : Row) (xs : List Row) → rowOf (insertByKey x xs) (name (x .key) none) ≡ some x
 current-new x [] = simp (same-refl (x .key))
 current-new x (y ∷ ys) =
     elim (either (before (y .key) (x .key))) [

@@ -136,7 +136,7 @@ hold-sound n t o x e k f =
 
 -- ## The retention of a new row
 
-mode-not-zero : (m : ℕ) → isMode m ≡ true → eqb m 0 ≡ false
+pub mode-not-zero : (m : ℕ) → isMode m ≡ true → eqb m 0 ≡ false
 mode-not-zero m e =
     elim (or-one (eqb m governance) _ e) [
       | inl f ↦ ne-eqb m 0 (λ q. omega (arith, eqb-true m governance f))
@@ -163,10 +163,10 @@ default-sound s now d o =
       | inr z ↦
           let some-default : (isMode (s .default .mode) && isPeriod (s .default .count) (s .default .unit)) ≡ true = rw z at d in
           let counted : 1 ≤ s .default .count = leb-true 1 (s .default .count) (and-l _ _ (and-r (isMode (s .default .mode)) _ some-default)) in
-          let end : now < defaultEnd s now = period-positive now (s .default .count) (s .default .unit) counted in
+          let end : 1 ≤ defaultEnd s now = period-positive now (s .default .count) (s .default .unit) counted in
           let over : ltb latest (defaultEnd s now) ≡ false = rw z at o in
           let fits : leb (defaultEnd s now) latest ≡ true = le-leb (defaultEnd s now) latest (ltb-false latest (defaultEnd s now) over) in
-          rw z (and-i (isMode (s .default .mode)) _ (and-l _ _ some-default) (and-i (leb 1 (defaultEnd s now)) _ (le-leb 1 (defaultEnd s now) (omega arith)) fits))
+          rw z (and-i (isMode (s .default .mode)) _ (and-l _ _ some-default) (and-i (leb 1 (defaultEnd s now)) _ (le-leb 1 (defaultEnd s now) end) fits))
     ]
 
 new-retention : (s : Config) (now : ℕ) (r : Retention) (o : Option ℕ) → r .mode ≡ o → soundDefault (s .default) ≡ true → isRetention r ≡ true → retentionHalf r ≡ false → thenSome (r .date) false (λ t. leb t now) ≡ false → defaultTooLate s now r ≡ false → soundRetention (newMode s r) (newUntil s now r) ≡ true

@@ -9,6 +9,7 @@ pub mod Sweep
 pub mod Effects
 pub mod Expiry
 pub mod Comparisons
+pub mod Years
 pub mod Retries
 pub mod Refusals
 pub mod Answers

@@ -1,9 +1,9 @@
 -- What a readable line asks for, by its word.
 use Prim.Native.Nat.{ℕ}
-use mathlib.Core.Path.{_≡_, refl, sym, _∙_}
+use mathlib.Core.Path.{_≡_, refl, sym, _∙_, ap}
 use mathlib.Core.Bool.{true}
 use mathlib.Core.List.{List}
-use mathlib.Core.Option.{Option, some}
+use mathlib.Core.Option.{Option, some, none}
 use native.Mathlib.Omega.{arith}
 use Rattle.buffers.specs.Lists.{same}
 use Rattle.buffers.specs.Texts.{bytes}
@@ -14,16 +14,24 @@ use Rattle.text.specs.Numbers.{numberOf}
 use Rattle.dates.specs.Reading.{readDate}
 use Rattle.model.specs.Rows.{largestSize}
 use Rattle.model.specs.Requests as model
+use Rattle.model.specs.Years.{targetOf}
+use Rattle.fields.specs.declared.Version.{Version}
+use Rattle.fields.specs.declared.Version.the-variants.{Current}
+use Rattle.fields.specs.declared.Mode.{Mode}
+use Rattle.fields.specs.declared.Mode.the-variants.{Missing}
+use Rattle.fields.specs.declared.Retention.{Retention}
 use Rattle.fields.specs.declared.Terms.{Terms}
-use Rattle.fields.specs.Fields.{readKey}
-use Rattle.fields.specs.Meaning.{termsMeans}
+use Rattle.fields.specs.Fields.{dash, readKey, readVersion, readMode}
+use Rattle.fields.specs.Meaning.{modeMeans, termsMeans}
+use Rattle.request.specs.declared.Name.{Name}
 use Rattle.request.specs.declared.Verb.{Verb}
-use Rattle.request.specs.declared.Verb.the-variants.{Act}
+use Rattle.request.specs.declared.Verb.the-variants.{Act, Ask}
+use Rattle.request.specs.declared.Query.the-variants.{Get}
 use Rattle.request.specs.declared.Action.{Action}
 use Rattle.request.specs.declared.Action.the-variants.{Put, Copy, Retain, SetHold, AddMarker, DeleteVersion}
 use Rattle.request.specs.declared.Request.{Request}
-use Rattle.request.specs.Meaning.{actionMeans, verbMeans}
-use Rattle.request.specs.Grammar.{putOf, copyOf, retainOf, setHoldOf, deleteOf, defaultOf, ruleOf, sweepOf, getOf, listOf, otherByWord, verbByWord, requestIn, Said, readLine}
+use Rattle.request.specs.Meaning.{nameMeans, actionMeans, verbMeans}
+use Rattle.request.specs.Grammar.{nameAt, retentionAt, termsAt, putOf, copyOf, retainOf, setHoldOf, deleteOf, defaultOf, ruleOf, sweepOf, getOf, listOf, otherByWord, verbByWord, requestIn, Said, readLine}
 use Rattle.request.proofs.Ranges.{Passes, ways, key-field}
 
 -- What holds of every verb that a word's reader gives, holds of the verb of a readable line with that word.
@@ -73,6 +81,71 @@ module _ (s : List ℕ) where
       asks : (k : Place) (body size : ℕ) (t : Terms) → readKey s 3 ≡ some k → numberOf 18446744073709551615 (fieldOf s 4) ≡ some body → numberOf largestSize (fieldOf s 5) ≡ some size
           → AsksPut (verbMeans s (Act (Put k body size t)))
       asks k body size t ek eb es = record { body = body; size = size; terms = termsMeans t; verb-is = rw (key-field s 3 k ek); body-is = eb; size-is = es }
+
+  -- The verb makes a row of this key, and gives no mode where field 6 is `-`.
+  pub record AsksRow (key : List ℕ) (v : model.Verb) : Type 0 where
+    pub terms : model.Terms
+    pub terms-are : model.termsOf v ≡ some terms
+    pub key-is : targetOf v ≡ key
+    pub no-mode : fieldOf s 6 ≡ dash → terms .retention .mode ≡ none
+
+  -- the mode in field 6
+  mode-read : (t : Terms) → termsAt s ≡ some t → readMode (fieldOf s 6) ≡ some (t .retention .mode)
+  unfolding termsAt retentionAt
+  mode-read = terms .holds
+    where
+      retention : Passes Retention (λ r. readMode (fieldOf s 6) ≡ some (r .mode)) (retentionAt s 6 7)
+      retention = search ways depth 16
+
+      terms : Passes Terms (λ t. readMode (fieldOf s 6) ≡ some (t .retention .mode)) (termsAt s)
+      terms = search (ways, retention .holds) depth 16
+
+  row-asked : (v : model.Verb) (key : List ℕ) (t : Terms) → model.termsOf v ≡ some (termsMeans t) → targetOf v ≡ key → termsAt s ≡ some t → AsksRow key v
+  unfolding readMode
+  row-asked v key t e k r = record { terms = termsMeans t; terms-are = e; key-is = k; no-mode = λ d. ap modeMeans (missing d) }
+    where
+      missing : fieldOf s 6 ≡ dash → t .retention .mode ≡ Missing
+      missing d =
+          let q : _≡_ {A = Option Mode} (some Missing) (some (t .retention .mode)) = rw d at (mode-read t r) in
+          let m : t .retention .mode ≡ Missing = cc in
+          m
+
+  -- A readable line with the word PUT asks for a row of the key in field 3, one with COPY of that in field 5.
+  pub put-asks-row : (q : Said) → fieldOf s 2 ≡ bytes "PUT" → readLine s ≡ some q → AsksRow (fieldOf s 3) (q .verb)
+  unfolding verbByWord putOf
+  put-asks-row q e = line-asks s (AsksRow (fieldOf s 3)) (putOf s) (rw e) (search (ways, row) depth 16) q
+    where
+      row : (k : Place) (body size : ℕ) (t : Terms) → readKey s 3 ≡ some k → termsAt s ≡ some t → AsksRow (fieldOf s 3) (verbMeans s (Act (Put k body size t)))
+      row k body size t ek et = row-asked _ (fieldOf s 3) t refl (key-field s 3 k ek) et
+
+  pub copy-asks-row : (q : Said) → fieldOf s 2 ≡ bytes "COPY" → readLine s ≡ some q → AsksRow (fieldOf s 5) (q .verb)
+  unfolding verbByWord copyOf
+  copy-asks-row q e = line-asks s (AsksRow (fieldOf s 5)) (copyOf s) (rw e) (search (ways, row) depth 16) q
+    where
+      row : (n : Name) (k : Place) (t : Terms) → readKey s 5 ≡ some k → termsAt s ≡ some t → AsksRow (fieldOf s 5) (verbMeans s (Act (Copy n k t)))
+      row n k t ek et = row-asked _ (fieldOf s 5) t refl (key-field s 5 k ek) et
+
+  -- `-` names the key's current row
+  current-name : fieldOf s 4 ≡ dash → (n : Name) → nameAt s 3 4 ≡ some n → nameMeans s n ≡ model.name (fieldOf s 3) none
+  unfolding nameAt readVersion
+  current-name d = names .holds
+    where
+      name-is : (k : Place) (v : Version) → readKey s 3 ≡ some k → readVersion (fieldOf s 4) ≡ some v → nameMeans s (record { key = k; version = v }) ≡ model.name (fieldOf s 3) none
+      name-is k v ek ev =
+          let q : _≡_ {A = Option Version} (some Current) (some v) = rw d at ev in
+          let c : v ≡ Current = cc in
+          rw (key-field s 3 k ek, c)
+
+      names : Passes Name (λ n. nameMeans s n ≡ model.name (fieldOf s 3) none) (nameAt s 3 4)
+      names = search (ways, name-is) depth 16
+
+  -- One with GET and `-` as its version asks for the current row of the key in field 3.
+  pub asks-current : (q : Said) → fieldOf s 2 ≡ bytes "GET" → fieldOf s 4 ≡ dash → readLine s ≡ some q → q .verb ≡ model.Ask (model.Get (model.name (fieldOf s 3) none))
+  unfolding verbByWord otherByWord getOf
+  asks-current q e d = line-asks s (λ v. v ≡ model.Ask (model.Get (model.name (fieldOf s 3) none))) (getOf s) (rw e) (search (ways, current) depth 16) q
+    where
+      current : (n : Name) → nameAt s 3 4 ≡ some n → verbMeans s (Ask (Get n)) ≡ model.Ask (model.Get (model.name (fieldOf s 3) none))
+      current n h = ap (λ (m : model.Name). model.Ask (model.Get m)) (current-name d n h)
 
   -- One with the word SWEEP asks for that.
   pub asks-sweep : (q : Said) → fieldOf s 2 ≡ bytes "SWEEP" → readLine s ≡ some q → q .verb ≡ model.Sweep

@@ -10,9 +10,7 @@ unfolding periodEnd
 period-end-spec =
     tie.close
     (tie.spec
-    (λ c. search needs)
-    (λ c. search needs)
-    (λ c. search needs)
+    (λ c κs. search needs)
     (λ c. search (needs, picks))
     (λ c. search needs)
     (λ c. search needs)
