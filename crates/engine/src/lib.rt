@@ -306,7 +306,7 @@ fn serve_query(
     }
 }
 
-// Serves a line on a bucket that is whole, and counts the comparisons of a prefix with a key: SWEEP alone makes any. The count is lent, so that what is returned isn't copied with it.
+// Serves a line on a bucket that is whole, and counts the comparisons of a prefix with a key: SWEEP alone makes any. The count is lent, so that what is returned stays as it was.
 fn serve_line(
     s: Settings,
     rows: &mut [u64],

@@ -124,7 +124,7 @@ fn same_key(keys: &[u8], at: usize, other: usize) -> bool
     same_block(&keys[own..own_end], &keys[its..its_end])
 }
 
-// Where to look between two positions: at the guess, or next to it if it lies before them; halfway if it lies behind them.
+// Where to look between two positions: at the guess, or at the first of them if it lies before them; halfway if it lies behind them.
 fn probe(low: usize, high: usize, guess: usize) -> usize
     requires { ⌜ low < high ⌝ }
     ensures { λ r. ⌜ Between low high r ⌝ }

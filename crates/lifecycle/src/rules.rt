@@ -105,7 +105,7 @@ fn bounds_of(block: &[u8]) -> Bounds
     Bounds { low, high }
 }
 
-// Writes the bounds of the first n prefixes. A loop of its own, so that laying the rules stays so short that the compiler unrolls it and copies no array of rules.
+// Writes the bounds of the first n prefixes. A loop of its own: in one with the rules, their arrays were copied.
 pub fn lay_bounds(prefixes: &[u8], numbers: &mut [u64], n: usize)
     requires { ⌜ Places (now prefixes) (now numbers) n ⌝ }
     ensures { λ _. ⌜ BoundsLaid (now (prefixes .entry)) (now (numbers .entry)) n (now (numbers .exit)) ⌝ }
