@@ -1,5 +1,5 @@
 /* What modem firmware does, through each entry: lend three buffers, serve lines, send a PUT again, follow pages, save, load
- * and go on; and what a sweep counts. */
+ * and go on, also with what an earlier release left; and what a sweep counts. */
 #include "../../samples/page.h"
 #include "../../samples/save.h"
 
@@ -186,6 +186,39 @@ static void sent_again_full(struct bucket *bucket) {
     take(bucket, &(struct step){"2024-08-01T00:00:00Z|w|PUT|gauge/1|7|71|-|-|-", "no|12"});
     take(bucket, &(struct step){"2024-08-01T00:00:00Z|rw|COPY|gauge/1|-|gauge/1|-|-|-", "no|12"});
     lent = CAPACITY;
+}
+
+/* Where the default retention stands in the settings. */
+enum { DEFAULT_MODE = 24, DEFAULT_COUNT = 32, DEFAULT_UNIT = 40, DEFAULT_BYTES = 24 };
+
+/* A default of one year that an earlier release has set stays as it is and ends by the calendar from now on; the row that
+ * got its date from it when a year had 365 days keeps that. */
+static void years_from_before(struct bucket *bucket) {
+    static const struct step steps[] = {
+        {"2024-02-28T12:00:00Z|w|PUT|gauge/1|8|80|-|-|-", "ok|2"},
+        {"2024-02-28T12:00:00Z|r|GET|gauge/1|2", "ok|2|8|80|COMPLIANCE|2025-02-28T12:00:00.000Z|OFF"},
+        {"2024-02-29T12:00:00Z|w|PUT|gauge/2|9|90|-|-|-", "ok|3"},
+        {"2024-02-29T12:00:00Z|r|GET|gauge/2|3", "ok|3|9|90|COMPLIANCE|2025-02-28T12:00:00.000Z|OFF"},
+        {"2024-03-01T12:00:00Z|rw|COPY|gauge/2|-|gauge/1|-|-|-", "ok|4"},
+        {"2024-03-01T12:00:00Z|r|GET|gauge/1|4", "ok|4|9|90|COMPLIANCE|2025-03-01T12:00:00.000Z|OFF"},
+        {"2024-03-01T12:00:00Z|r|GET|gauge/1|1", "ok|1|7|70|COMPLIANCE|2025-02-27T12:00:00.000Z|OFF"},
+        {"2025-02-27T11:59:59.999Z|d|DELETE|gauge/1|1|no", "no|9"},
+        {"2025-02-27T12:00:00Z|d|DELETE|gauge/1|1|no", "ok|1|removed"},
+        {"2025-02-28T11:59:59.999Z|d|DELETE|gauge/2|3|no", "no|9"},
+        {"2025-02-28T12:00:00Z|d|DELETE|gauge/2|3|no", "ok|3|removed"},
+        {"9998-12-31T23:59:59.999Z|w|PUT|gauge/2|9|90|-|-|-", "ok|5"},
+        {"9998-12-31T23:59:59.999Z|r|GET|gauge/2|5", "ok|5|9|90|COMPLIANCE|9999-12-31T23:59:59.999Z|OFF"},
+        {"9999-01-01T00:00:00Z|w|PUT|gauge/2|9|91|-|-|-", "no|10"},
+    };
+    make_fresh(bucket);
+    take(bucket, &(struct step){"2024-02-28T12:00:00Z|wt|PUT|gauge/1|7|70|COMPLIANCE|2025-02-27T12:00:00Z|-", "ok|1"});
+    bucket->settings[DEFAULT_MODE] = 2;
+    bucket->settings[DEFAULT_COUNT] = 1;
+    bucket->settings[DEFAULT_UNIT] = 2;
+    struct bucket before = *bucket;
+    TAKE(bucket, steps);
+    check(memcmp(before.settings + DEFAULT_MODE, bucket->settings + DEFAULT_MODE, DEFAULT_BYTES) == 0,
+          "a stored default keeps its mode, count and unit");
 }
 
 /* A line by the entry that counts, and what then stands where comparisons are counted. */
@@ -456,6 +489,7 @@ int main(int count, char **words) {
         whole_run(bucket);
         sent_again(bucket);
         sent_again_full(bucket);
+        years_from_before(bucket);
         kept_through_reload(bucket, words[1]);
         wrong_lengths(bucket);
     }

@@ -1,4 +1,4 @@
-//! "Time and dates": instants, and dates read and printed.
+//! "Time and dates": instants, dates read and printed, midnights, and years by the calendar.
 
 /// The last instant, 9999-12-31T23:59:59.999Z.
 pub const LAST: u64 = 253402300799999;
@@ -38,6 +38,49 @@ fn days_of_month(year: u64, month: u64) -> u64 {
         4 | 6 | 9 | 11 => 30,
         _ => 31,
     }
+}
+
+/// A day of the calendar; its month and its day of the month count from 1.
+struct CalendarDay {
+    year: u64,
+    month: u64,
+    day: u64,
+}
+
+impl CalendarDay {
+    /// The day that comes so many days after 1970-01-01; inlined, since pages print many dates.
+    #[inline(always)]
+    fn after(days: u64) -> CalendarDay {
+        let mut year = 1970 + days * 400 / 146097;
+        while days_before_year(year) > days {
+            year -= 1;
+        }
+        while days_before_year(year + 1) <= days {
+            year += 1;
+        }
+        let left = days - days_before_year(year);
+        let mut month = 1 + left / 32;
+        while month < 12 && days_before_month(year, month + 1) <= left {
+            month += 1;
+        }
+        CalendarDay { year, month, day: left - days_before_month(year, month) + 1 }
+    }
+
+    /// The days from 1970-01-01 to this one.
+    fn days(&self) -> u64 {
+        days_before_year(self.year) + days_before_month(self.year, self.month) + self.day - 1
+    }
+
+    /// The same month and day so many years later; 29 February becomes the 28th where the later year has none.
+    fn years_later(&self, years: u64) -> CalendarDay {
+        let (year, month) = (self.year + years, self.month);
+        CalendarDay { year, month, day: self.day.min(days_of_month(year, month)) }
+    }
+}
+
+/// An instant so many years later by the calendar, at the same time of day; it may be after the last instant.
+pub fn years_after(instant: u64, years: u64) -> u64 {
+    CalendarDay::after(instant / DAY).years_later(years).days() * DAY + instant % DAY
 }
 
 fn digits(text: &[u8]) -> Option<u64> {
@@ -81,7 +124,7 @@ pub fn read(text: &[u8]) -> Option<u64> {
     if hour > 23 || minute > 59 || second > 59 {
         return None;
     }
-    let days = days_before_year(year) + days_before_month(year, month) + day - 1;
+    let days = CalendarDay { year, month, day }.days();
     Some(days * DAY + ((hour * 60 + minute) * 60 + second) * 1000 + thousandths)
 }
 
@@ -103,25 +146,13 @@ pub fn put_two(out: &mut [u8], value: u64) {
 
 /// The date of an instant, with exactly three fraction digits.
 pub fn print(instant: u64) -> [u8; PRINTED] {
-    let (days, within) = (instant / DAY, instant % DAY);
-    let mut year = 1970 + days * 400 / 146097;
-    while days_before_year(year) > days {
-        year -= 1;
-    }
-    while days_before_year(year + 1) <= days {
-        year += 1;
-    }
-    let mut left = days - days_before_year(year);
-    let mut month = 1 + left / 32;
-    while month < 12 && days_before_month(year, month + 1) <= left {
-        month += 1;
-    }
-    left -= days_before_month(year, month);
+    let within = instant % DAY;
+    let CalendarDay { year, month, day } = CalendarDay::after(instant / DAY);
     let mut out = *b"0000-00-00T00:00:00.000Z";
     put_two(&mut out[0..2], year / 100);
     put_two(&mut out[2..4], year % 100);
     put_two(&mut out[5..7], month);
-    put_two(&mut out[8..10], left + 1);
+    put_two(&mut out[8..10], day);
     put_two(&mut out[11..13], within / 3600000);
     put_two(&mut out[14..16], within / 60000 % 60);
     put_two(&mut out[17..19], within / 1000 % 60);
@@ -161,6 +192,19 @@ mod tests {
         assert_eq!(up_to_midnight(86400000), 86400000);
         assert_eq!(up_to_midnight(86400001), 172800000);
         assert_eq!(up_to_midnight(LAST), LAST + 1);
+    }
+
+    #[test]
+    fn years() {
+        let later =
+            |date: &[u8], years| String::from_utf8(print(years_after(read(date).unwrap(), years)).into());
+        assert_eq!(later(b"2024-02-29T12:34:56.789Z", 1).unwrap(), "2025-02-28T12:34:56.789Z");
+        assert_eq!(later(b"2024-02-29T12:34:56.789Z", 4).unwrap(), "2028-02-29T12:34:56.789Z");
+        assert_eq!(later(b"2023-02-28T00:00:00Z", 1).unwrap(), "2024-02-28T00:00:00.000Z");
+        assert_eq!(later(b"2023-03-01T00:00:00Z", 1).unwrap(), "2024-03-01T00:00:00.000Z");
+        assert_eq!(years_after(0, 1), 365 * DAY);
+        assert_eq!(years_after(read(b"9899-12-31T23:59:59.999Z").unwrap(), 100), LAST);
+        assert_eq!(years_after(read(b"9900-01-01T00:00:00Z").unwrap(), 100), LAST + 1);
     }
 
     #[test]

@@ -20,10 +20,13 @@ pub struct DefaultRetention {
 }
 
 impl DefaultRetention {
-    /// The period in milliseconds.
-    pub fn period(&self) -> u64 {
-        let days = if self.unit == YEARS { self.count * 365 } else { self.count };
-        days * dates::DAY
+    /// The end of the period from an instant on: years go by the calendar, and it may be after the last instant.
+    pub fn end(&self, from: u64) -> u64 {
+        if self.unit == YEARS {
+            dates::years_after(from, self.count)
+        } else {
+            from + self.count * dates::DAY
+        }
     }
 
     fn sound(&self) -> bool {

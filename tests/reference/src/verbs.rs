@@ -101,7 +101,7 @@ impl Bucket {
         if default.mode == 0 {
             return Ok([0, 0]);
         }
-        let date = now + default.period();
+        let date = default.end(now);
         refuse(date > dates::LAST, DATE_TOO_FAR)?;
         Ok([default.mode, date])
     }

@@ -51,7 +51,7 @@ fn set_limits(side: &mut Side, random: &mut Random) {
     match random.below(3) {
         0 => {
             side.settings.set_word(24, random.pick(&[0, 1, 1, 2, 2, 3]));
-            side.settings.set_word(32, random.pick(&[0, 1, 100, 101, 36500, 36501]));
+            side.settings.set_word(32, random.pick(&[0, 1, 4, 100, 101, 36500, 36501]));
             side.settings.set_word(40, random.pick(&[0, 1, 1, 2, 2, 3]));
         }
         1 => side.settings.set_word(16, random.pick(&[0, 1, SPENT, SPENT + 1])),

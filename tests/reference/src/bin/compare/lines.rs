@@ -1,9 +1,10 @@
 //! Request lines that fit the bucket's state often enough to reach every number.
 use crate::random::Random;
 use crate::sides::Side;
+use crate::years::year_of;
 use reference::bucket::{CREATED, MAX_LENGTH, MAX_VERSION, UNTIL, VERSION};
 use reference::dates::{self, up_to_midnight, DAY, LAST};
-use reference::settings::DefaultRetention;
+use reference::settings::{MAX_YEARS, YEARS};
 
 const KEYS: [&str; 8] = ["a", "b", "a/1", "a/2", "a/", "-", "!", "~"];
 /// The key and version fields of the place before every row.
@@ -22,6 +23,11 @@ const SOME_DAYS: [&[u8]; 8] = [
     b"9999-12-31T00:00:00Z",
 ];
 
+/// The days of a year that tell how years are counted.
+const DAYS_OF_YEARS: [&str; 6] = ["-01-01", "-02-28", "-02-29", "-02-29", "-03-01", "-12-31"];
+/// Leap and common years, among them centuries, and some of the last.
+const SOME_YEARS: [u64; 10] = [1996, 1999, 2000, 2024, 2096, 2100, 2396, 9896, 9900, 9999];
+
 /// One of these days, or a day or two before it.
 pub fn some_day(random: &mut Random) -> u64 {
     let day = dates::read(random.pick(&SOME_DAYS)).expect("a date");
@@ -32,6 +38,16 @@ pub fn some_day(random: &mut Random) -> u64 {
 pub fn near_midnight(instant: u64, random: &mut Random) -> u64 {
     let midnight = instant - instant % DAY;
     random.pick(&[midnight, midnight + 1, midnight + DAY - 1, instant])
+}
+
+/// The year that an instant is in.
+fn year_in(instant: u64) -> u64 {
+    year_of(&String::from_utf8_lossy(&dates::print(instant)))
+}
+
+/// The last instant of a year.
+fn last_instant(year: u64) -> u64 {
+    dates::read(format!("{year}-12-31T23:59:59.999Z").as_bytes()).expect("a date")
 }
 
 /// A random line over the state of a bucket.
@@ -106,10 +122,9 @@ impl Maker<'_> {
 
     /// The clock at which the default's date is the last instant or 1 ms after it, where that is not far.
     fn last_default(&mut self) -> u64 {
-        let words = [24, 32, 40].map(|at| self.side.settings.word(at));
-        let [mode, count, unit] = words;
-        let clock =
-            LAST.saturating_sub(DefaultRetention { mode, count, unit }.period()) + self.random.next() % 2;
+        let [count, unit] = [32, 40].map(|at| self.side.settings.word(at));
+        let last = if unit == YEARS { last_instant(9999 - count) } else { LAST - count * DAY };
+        let clock = last + self.random.next() % 2;
         if (self.time()..LAST.min(self.time() + 5 * DAY)).contains(&clock) {
             clock
         } else {
@@ -215,9 +230,18 @@ impl Maker<'_> {
 
     fn default(&mut self) -> String {
         let mode = self.random.pick(&["GOVERNANCE", "COMPLIANCE", "-"]);
-        let period = self.random.pick(&["1d", "2d", "36500d", "1y", "100y"]);
+        let period = if self.random.once_in(2) {
+            self.random.pick(&["1d", "2d", "36500d"]).into()
+        } else {
+            format!("{}y", self.some_years())
+        };
         let odd = self.random.once_in(12);
-        format!("DEFAULT\t{mode}\t{}", if (mode == "-") != odd { "-" } else { period })
+        format!("DEFAULT\t{mode}\t{}", if (mode == "-") != odd { "-" } else { &period })
+    }
+
+    fn some_years(&mut self) -> u64 {
+        let any = 1 + self.random.next() % MAX_YEARS;
+        self.random.pick(&[1, 4, 100, any])
     }
 
     fn rule(&mut self) -> String {
@@ -327,6 +351,51 @@ impl Maker<'_> {
             verbs.extend([end - 1, end, midnight - 1, midnight].map(|clock| (clock, "SWEEP".into())));
         }
         verbs.push((newer, format!("RULE\t{rule}\t\t0\t0")));
+        let line = |(clock, verb): (u64, String)| format!("{}\trwdthbc\t{verb}", self.date(clock.min(LAST)));
+        verbs.into_iter().map(line).collect()
+    }
+
+    /// A clock on a day that tells how years are counted, of the year of the bucket's time or of a later one, and years.
+    fn telling_years(&mut self) -> (u64, u64) {
+        let soon = year_in(self.time()) + self.random.below(5) as u64;
+        let year = if self.random.once_in(2) { soon } else { self.random.pick(&SOME_YEARS).max(soon) };
+        let day = self.random.pick(&DAYS_OF_YEARS);
+        let mut dates = (year..year + 8).map(|year| format!("{year}{day}T12:34:56.789Z"));
+        let instant = dates.find_map(|date| dates::read(date.as_bytes())).unwrap_or(self.time());
+        (near_midnight(instant, self.random), self.some_years())
+    }
+
+    /// A clock in the last hundred years, and the years from it that end in 9999, at the last instant or after it.
+    fn last_years(&mut self) -> (u64, u64) {
+        let first = year_in(self.time()).clamp(9899, 9998);
+        let year = first + self.random.next() % (9999 - first);
+        let (last, any) = (last_instant(year), self.random.next() % (365 * DAY));
+        (last - any * self.random.pick(&[0, 1]) + self.random.pick(&[0, 1]), 9999 - year)
+    }
+
+    /// Lines under a default of years: a PUT, a COPY and the PUT again on a day that tells, another PUT soon after it, and
+    /// mostly what takes all of that away.
+    pub fn contract(&mut self) -> Vec<String> {
+        let (clock, years) = if self.random.once_in(5) { self.last_years() } else { self.telling_years() };
+        let later = clock + self.random.pick(&[0, 1, DAY, DAY, 366 * DAY]);
+        let mode = self.random.pick(&["GOVERNANCE", "GOVERNANCE", "GOVERNANCE", "COMPLIANCE"]);
+        let (key, target, body) = (self.key(), self.key(), self.random.next() % 100);
+        let put = |length| format!("PUT\t{key}\t{body}\t{length}\t-\t-\t-");
+        let mut verbs = vec![
+            (clock, format!("DELETE\t{}\tyes", self.name())),
+            (clock, format!("DEFAULT\t{mode}\t{years}y")),
+            (clock, put(7)),
+            (clock, format!("COPY\t{key}\t-\t{target}\t-\t-\t-")),
+            (later, put(7)),
+            (later, put(8)),
+            (later, format!("GET\t{key}\t-")),
+        ];
+        if !self.random.once_in(4) {
+            let next = self.side.settings.word(16);
+            let made = [(&key, next), (&target, next + 1), (&key, next + 2)];
+            verbs.extend(made.map(|(key, number)| (later, format!("DELETE\t{key}\t{number}\tyes"))));
+            verbs.push((later, "DEFAULT\t-\t-".into()));
+        }
         let line = |(clock, verb): (u64, String)| format!("{}\trwdthbc\t{verb}", self.date(clock.min(LAST)));
         verbs.into_iter().map(line).collect()
     }

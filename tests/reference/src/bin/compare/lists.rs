@@ -63,7 +63,7 @@ fn spared(bucket: &Bucket, put: &Put) -> [bool; 3] {
     let settings = &bucket.settings;
     let takes_default = settings.default.mode != 0 && put.retention.mode.is_none();
     [
-        takes_default && settings.time + settings.default.period() > LAST,
+        takes_default && settings.default.end(settings.time) > LAST,
         settings.next == SPENT,
         bucket.used() == bucket.capacity(),
     ]
@@ -138,6 +138,11 @@ impl List<'_> {
         self.tally.count(line, served.number);
         if let Some(sweep) = &served.swept {
             self.check_sweep(sweep, served.comparisons).map_err(|said| format!("{}\n{said}", shown(line)))?;
+        }
+        if let Some(contract) = &served.contract {
+            let checked = contract.check(served.number, &self.sides.engine);
+            checked.map_err(|said| format!("{}\n{said}", shown(line)))?;
+            self.tally.count_years(contract, served.number);
         }
         match put_in(line) {
             Some(put) if served.retried => {
@@ -218,6 +223,17 @@ impl List<'_> {
         self.maker().night().iter().try_for_each(|line| self.serve(line.as_bytes()))
     }
 
+    /// Passes days that tell how years are counted; some of the lines are served on a damaged bucket too.
+    fn pass_years(&mut self) -> Result<(), String> {
+        for line in self.maker().contract() {
+            if self.random.once_in(10) {
+                self.serve_changed(damage::bucket, line.as_bytes())?;
+            }
+            self.serve(line.as_bytes())?;
+        }
+        Ok(())
+    }
+
     /// Serves a line on a bucket that something was done to, and then puts the bucket back.
     fn serve_changed(&mut self, change: fn(&mut Side, &mut Random), line: &[u8]) -> Result<(), String> {
         let before = self.sides.engine.clone();
@@ -251,6 +267,7 @@ impl List<'_> {
             4 if self.random.once_in(3) => damage::sound_change(&mut self.sides.engine, &mut self.random),
             5 if self.random.once_in(3) => self.follow()?,
             6 if self.random.once_in(3) => self.pass_midnight()?,
+            7 if self.random.once_in(3) => self.pass_years()?,
             _ => {}
         }
         self.serve(&line)

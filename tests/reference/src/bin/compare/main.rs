@@ -11,6 +11,7 @@ mod plain;
 mod random;
 mod sides;
 mod tally;
+mod years;
 
 use sides::Fault;
 use std::env;
@@ -57,6 +58,7 @@ fn lacking(tally: &Tally) -> Vec<String> {
         (tally.lacks_midnights(), "rounding to midnight did not decide rows of every kind".into()),
         (!tally.undecided().is_empty(), format!("rounding decided no sweep on: {:?}", tally.undecided())),
         (!tally.uncompared().is_empty(), format!("counts that no sweep had: {:?}", tally.uncompared())),
+        (!tally.unended().is_empty(), format!("lines under years that never came: {:?}", tally.unended())),
     ];
     tests.into_iter().filter(|(lacks, _)| *lacks).map(|(_, said)| said).collect()
 }
@@ -64,7 +66,7 @@ fn lacking(tally: &Tally) -> Vec<String> {
 fn main() -> ExitCode {
     let Some(options) = options() else {
         eprintln!(
-            "usage: compare [--seconds N] [--seed S] [--lists N] [--break answer|page|following|retry|midnight|count]"
+            "usage: compare [--seconds N] [--seed S] [--lists N] [--break answer|page|following|retry|midnight|count|years]"
         );
         return ExitCode::from(2);
     };

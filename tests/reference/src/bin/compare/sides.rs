@@ -1,6 +1,7 @@
 //! The sides that are compared: equal buffers, lent to two entries of the engine and to the reference.
 use crate::comparisons::Comparisons;
 use crate::midnights::Sweep;
+use crate::years::Contract;
 use crate::{engine, pages};
 use reference::requests::{self, Retention, Verb};
 use reference::settings::{word, BYTES};
@@ -165,6 +166,8 @@ pub enum Fault {
     Midnight,
     /// In the reference's counts, by a comparison of the rules with the key of each row.
     Count,
+    /// In the dates that the reference takes from a default of years, which have 365 days.
+    Years,
 }
 
 impl Fault {
@@ -176,6 +179,7 @@ impl Fault {
             "retry" => Some(Fault::Retry),
             "midnight" => Some(Fault::Midnight),
             "count" => Some(Fault::Count),
+            "years" => Some(Fault::Years),
             _ => None,
         }
     }
@@ -183,12 +187,13 @@ impl Fault {
     /// Spoils what an accepted line left.
     fn spoil(self, line: &[u8], served: &Served, side: &mut Side) {
         let answer = side.answer.bytes();
-        match (self, &served.swept) {
-            (Fault::Answer, _) => answer[0] ^= 1,
-            (Fault::Retry, _) if served.retried => answer[0] ^= 1,
-            (Fault::Page, _) if asks_for(line).is_some() => spoil_last_row(answer),
-            (Fault::Midnight, Some(sweep)) => side.sweep_unrounded(sweep),
-            (Fault::Count, Some(sweep)) => side.comparisons = Comparisons::of(&sweep.bucket).by_rows(),
+        match (self, &served.swept, &served.contract) {
+            (Fault::Answer, _, _) => answer[0] ^= 1,
+            (Fault::Retry, _, _) if served.retried => answer[0] ^= 1,
+            (Fault::Page, _, _) if asks_for(line).is_some() => spoil_last_row(answer),
+            (Fault::Midnight, Some(sweep), _) => side.sweep_unrounded(sweep),
+            (Fault::Count, Some(sweep), _) => side.comparisons = Comparisons::of(&sweep.bucket).by_rows(),
+            (Fault::Years, _, Some(contract)) => contract.spoil(side),
             _ => {}
         }
     }
@@ -242,6 +247,8 @@ pub struct Served {
     pub retried: bool,
     /// The sweep that it is, if it was accepted as one.
     pub swept: Option<Sweep>,
+    /// What it is under a default of years, if 10 to 12 could meet it.
+    pub contract: Option<Contract>,
 }
 
 /// The engine's bytes; the entry that counts and the reference work on copies of them.
@@ -285,7 +292,10 @@ impl Sides {
         let number = self.reference.serve_reference(line);
         let retried = number == 0 && self.reference.next_number() == next && put_in(line).is_some();
         let comparisons = self.counted.comparisons;
-        let served = Served { number, comparisons, retried, swept: swept.filter(|_| number == 0) };
+        let swept = swept.filter(|_| number == 0);
+        let judged = !retried && matches!(number, 0 | 10..=12);
+        let contract = if judged { Contract::of(line, &self.reference) } else { None };
+        let served = Served { number, comparisons, retried, swept, contract };
         if number == 0 {
             self.fault.spoil(line, &served, &mut self.reference);
         }

@@ -2,6 +2,7 @@
 use crate::comparisons::Comparisons;
 use crate::midnights::Midnights;
 use crate::sides::ENTRIES;
+use crate::years::{Contract, TELLING_YEARS};
 use reference::dates;
 
 const VERBS: [&str; 11] =
@@ -32,6 +33,8 @@ pub struct Tally {
     midnights: Midnights,
     /// The sweeps with each telling count.
     compared: [u64; TELLING_COUNTS.len()],
+    /// The lines under a default of years of each kind.
+    years: [u64; TELLING_YEARS.len()],
     entries: [u64; ENTRIES.len()],
     counts: [[u64; NUMBERS]; VERBS.len()],
 }
@@ -75,6 +78,15 @@ impl Tally {
 
     pub fn count_comparisons(&mut self, comparisons: &Comparisons) {
         self.compared.iter_mut().zip(comparisons.kinds()).for_each(|(sum, is)| *sum += u64::from(is));
+    }
+
+    pub fn count_years(&mut self, contract: &Contract, number: u64) {
+        self.years.iter_mut().zip(contract.kinds(number)).for_each(|(sum, is)| *sum += u64::from(is));
+    }
+
+    /// The kinds of lines under a default of years that never came.
+    pub fn unended(&self) -> Vec<&str> {
+        uncounted(TELLING_YEARS, &self.years)
     }
 
     /// The telling counts that no sweep had.
@@ -134,6 +146,10 @@ impl Tally {
         println!("current and other rows that it left: {left:?}, of which for ever: {never:?};");
         println!("rows that went exactly at their midnight: {exact:?}");
         println!("sweeps by their count of comparisons, {TELLING_COUNTS:?}: {:?}", self.compared);
+        println!("lines under a default of years:");
+        for (kind, count) in TELLING_YEARS.iter().zip(&self.years) {
+            println!("  {kind}: {count}");
+        }
         print!("{:8}", "number");
         (0..NUMBERS).for_each(|number| print!("{number:>9}"));
         println!();
