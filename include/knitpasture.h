@@ -25,9 +25,9 @@
 extern "C" {
 #endif
 
-#define KNITPASTURE_VERSION "1.4.0"
+#define KNITPASTURE_VERSION "1.5.0"
 #define KNITPASTURE_VERSION_MAJOR 1
-#define KNITPASTURE_VERSION_MINOR 4
+#define KNITPASTURE_VERSION_MINOR 5
 #define KNITPASTURE_VERSION_PATCH 0
 
 #define KNITPASTURE_SETTINGS_BYTES 688
@@ -114,6 +114,10 @@ uint64_t knitpasture_fresh(uint8_t *settings, size_t settings_length,
  * lock, whatever mode, date and hold it gives, and its answer doesn't tell; GET shows the lock, RETAIN and HOLD set it.
  * The refusals up to KNITPASTURE_PAST_DATE stand as for any PUT, so a date that has passed since the line was first sent
  * is refused.
+ *
+ * A default retention of years ends in the later year at the same month, day and time of day (UTC), from 29 February on
+ * 28 February where the later year has none; one of days is of 86400 seconds each. A default that a release before 1.5.0
+ * stored is counted so from now on; dates that are stored stay.
  *
  * Nothing happens at midnight by itself: a SWEEP marks and removes what has expired by its now. A rule's days are added
  * to the version's creation, or for a version that isn't current to the next newer one's, and the sum is rounded up to
