@@ -132,24 +132,20 @@ fn each_count_of_years_from_29_february() {
     }
 }
 
-#[test]
-fn from_28_february_it_stays() {
-    for (year, years) in [(2023, 1), (2023, 2), (2024, 1), (2024, 4), (2096, 4), (1999, 1), (1999, 100)] {
+/// A day of these years ends on the same day so many years later, in its first millisecond and its last.
+fn stays(day: &str, cases: [(u64, u64); 7]) {
+    for (year, years) in cases {
         for time in ["00:00:00.000", "23:59:59.999"] {
-            let date = |year| format!("{year}-02-28T{time}Z");
+            let date = |year| format!("{year}-{day}T{time}Z");
             ends(&date(year), &format!("{years}y"), &date(year + years));
         }
     }
 }
 
 #[test]
-fn from_1_march_it_stays() {
-    for (year, years) in [(2023, 1), (2023, 2), (2024, 1), (2024, 4), (2096, 4), (2099, 1), (2100, 4)] {
-        for time in ["00:00:00.000", "23:59:59.999"] {
-            let date = |year| format!("{year}-03-01T{time}Z");
-            ends(&date(year), &format!("{years}y"), &date(year + years));
-        }
-    }
+fn from_28_february_and_1_march_it_stays() {
+    stays("02-28", [(2023, 1), (2023, 2), (2024, 1), (2024, 4), (2096, 4), (1999, 1), (1999, 100)]);
+    stays("03-01", [(2023, 1), (2023, 2), (2024, 1), (2024, 4), (2096, 4), (2099, 1), (2100, 4)]);
 }
 
 #[test]
