@@ -15,6 +15,7 @@ use Rattle.text.specs.Printing.{digits}
 use Rattle.text.proofs.Joined.{visible, digits-visible, fields-back, first-line}
 use Rattle.calendar.specs.Calendar.{latest}
 use Rattle.dates.specs.Reading.{readDate}
+use Rattle.dates.specs.Printing.{printDate}
 use Rattle.dates.proofs.Printing.{date-visible}
 use Rattle.dates.proofs.RoundTrip.{round-trip}
 use Rattle.model.specs.Rows.{Row, governance}
@@ -68,7 +69,7 @@ module _ (x : Row) (room : List ℕ) where
   row-fields : fields (firstLine (answerText (shown x) ++ room)) ≡ bytes "ok" ∷ rowFields x
   row-fields = ap fields (ok-line (rowFields x) room fields-visible) ∙ fields-back (bytes "ok") (rowFields x) refl fields-visible
 
-  -- The fifth field after `ok` reads as the row's date.
-  pub until-back : (x .mode ≡ 0 → ⊥) → x .until ≤ latest → readDate (fieldOf (firstLine (answerText (shown x) ++ room)) 5) ≡ some (x .until)
-  unfolding fieldOf
-  until-back m h = rw row-fields (until-reads (x .mode) (x .until) m h)
+  -- The fifth field after `ok` is the row's date.
+  pub until-field : (x .mode ≡ 0 → ⊥) → fieldOf (firstLine (answerText (shown x) ++ room)) 5 ≡ printDate (x .until)
+  unfolding fieldOf untilText
+  until-field m = rw (row-fields, ne-eqb (x .mode) 0 m)

@@ -13,7 +13,7 @@ use Rattle.buffers.specs.Ranges.{Within, Span}
 use Rattle.buffers.proofs.Tests.{either, and-l, and-r}
 use Rattle.calendar.specs.declared.Civil.{Civil}
 use Rattle.calendar.specs.Calendar.{latest, day, leap, yearLength, yearStart, monthStart, daysOf, yearOf, monthOf, dateIn, civilOf}
-use Rattle.calendar.specs.Periods.{dayIn, sameDateIn, dateLater, yearsLater, turningYear, YearsAfter, YearsEnd}
+use Rattle.calendar.specs.Periods.{dayIn, sameDateIn, yearsLater, turningYear, YearsAfter, YearsEnd}
 use Rattle.calendar.proofs.Tables.{upto-at}
 use Rattle.calendar.proofs.Years.{YearIs, year-is, year-from, year-by-9999, year-some, year-most, year-least, years-rise, year-rises, year-next, year-end, year-past}
 use Rattle.calendar.proofs.Months.{month-in-year, day-kept}
@@ -66,6 +66,10 @@ before-next : (c : Civil) → IsDate c → daysOf c < yearStart (c .year + 1)
 unfolding daysOf
 before-next c d = omega (arith, d .fits, month-in-year (leap (c .year)) (c .month) (d .last), year-next (c .year) (d .from))
 
+-- the same date some years after day n
+unfoldable dateLater : ℕ → ℕ → Civil
+dateLater n years = sameDateIn (civilOf n .year + years) (civilOf n)
+
 module _ (n years : ℕ) (h : n ≤ 2932896) (most : years ≤ 36500) where
   start : IsDate (civilOf n)
   start = civil-is-date n h
@@ -106,7 +110,7 @@ module _ (from years : ℕ) (h : from ≤ latest) (most : years ≤ 36500) where
   start-day = omega arith
 
   end-day : yearsLater from years / day ≡ daysOf (dateLater n years)
-  unfolding yearsLater
+  unfolding yearsLater dateLater
   end-day = omega arith
 
   end-time : yearsLater from years % day ≡ from % day
@@ -136,7 +140,7 @@ module _ (from years : ℕ) (h : from ≤ latest) (most : years ≤ 36500) where
 
 -- For every instant, however large.
 pub later-positive : (from years : ℕ) → 1 ≤ years → 1 ≤ yearsLater from years
-unfolding yearsLater dateLater sameDateIn daysOf civilOf dateIn
+unfolding yearsLater sameDateIn daysOf civilOf dateIn
 later-positive from years h = omega (arith, year-some (yearOf (from / day) + years) (omega (arith, year-from (from / day))))
 
 -- ## `turning_year` and `years_later`
@@ -228,7 +232,7 @@ module _ (from years r : ℕ) (e : Within r (turningYear (from / day)) 10000) (h
     later-low = omega (arith, es .is, eu .is, years-rise r years turn-1970)
 
     pub later-is : from + (u - s) * day ≡ yearsLater from years
-    unfolding yearsLater
+    unfolding yearsLater dateLater
     later-is =
         let far : daysOf (dateLater (from / day) years) + s ≡ from / day + u = rw (es .is, eu .is, e .is) (as-far (from / day) years (omega arith)) in
         omega (arith, far, later-low)

@@ -1,7 +1,7 @@
 -- The ends of periods, and when days expire, as theorems about the definitions.
 use mathlib.Core.Path.{_≡_, refl}
 use Rattle.calendar.specs.Calendar.{leap, yearsLength, monthStart, daysOf, guessOf, yearOf, monthOf, dateIn, civilOf}
-use Rattle.calendar.specs.Periods.{sameDateIn, dateLater, yearsLater, turningYear, periodEnd, expiresAt}
+use Rattle.calendar.specs.Periods.{sameDateIn, yearsLater, turningYear, periodEnd, expiresAt}
 
 pub record Shown : Type 0 where
   pub oneDay : periodEnd 1709251200000 1 1 ≡ 1709337600000
@@ -26,7 +26,7 @@ pub record Shown : Type 0 where
   pub afterMidnight : expiresAt 1714521600001 3 ≡ 1714867200000
 
 pub shown : Shown
-unfolding leap yearsLength monthStart daysOf guessOf yearOf monthOf dateIn civilOf sameDateIn dateLater yearsLater turningYear periodEnd expiresAt
+unfolding leap yearsLength monthStart daysOf guessOf yearOf monthOf dateIn civilOf sameDateIn yearsLater turningYear periodEnd expiresAt
 shown =
     record {
       oneDay = refl;

@@ -17,13 +17,9 @@ dayIn l m d = pick (eqb m 2 && (eqb d 29 && not l)) 28 d
 unfoldable pub sameDateIn : ℕ → Civil → Civil
 sameDateIn y c = record { year = y; month = c .month; day = dayIn (leap y) (c .month) (c .day) }
 
--- the same date some years after day n since 1970-01-01
-unfoldable pub dateLater : ℕ → ℕ → Civil
-dateLater n years = sameDateIn (civilOf n .year + years) (civilOf n)
-
 -- the same date some years later, at the same time of day
 unfoldable pub yearsLater : ℕ → ℕ → ℕ
-yearsLater from years = daysOf (dateLater (from / day) years) * day + from % day
+yearsLater from years = let c = civilOf (from / day) in daysOf (sameDateIn (c .year + years) c) * day + from % day
 
 -- the end of a period of days (unit 1) or years (unit 2)
 unfoldable pub periodEnd : ℕ → ℕ → ℕ → ℕ

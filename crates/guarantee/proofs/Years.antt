@@ -3,7 +3,6 @@ use Prim.Native.Nat.{ℕ, _+_, _/_, _≤_, _<_, max}
 use mathlib.Core.Path.{_≡_, refl, sym, _∙_, ap, subst, subst⁻¹}
 use mathlib.Core.Logic.{inl, inr}
 use mathlib.Core.Bool.{true, false}
-use mathlib.Core.List.{List}
 use mathlib.Core.Option.{some, none}
 use native.Mathlib.Omega.{arith}
 use lib.Dec.{eqb, ltb, lit<}
@@ -14,8 +13,10 @@ use Rattle.buffers.specs.Texts.{bytes}
 use Rattle.buffers.proofs.Tests.{either, and-l, and-r}
 use Rattle.text.specs.Fields.{fieldOf}
 use Rattle.calendar.specs.Calendar.{latest, day, civilOf}
+use Rattle.calendar.specs.Periods.{YearsEnd}
 use Rattle.dates.specs.Reading.{readDate}
 use Rattle.dates.proofs.Reading.{read-most}
+use Rattle.dates.proofs.Years.{years-printed}
 use Rattle.model.specs.Settings.{Bucket, sound}
 use Rattle.model.specs.Requests.{name, Get, Repeat, Ask, Request, Heard, unreadable, says}
 use Rattle.model.specs.Time.{nowOf}
@@ -27,7 +28,7 @@ use Rattle.model.proofs.Invariant.{asked}
 use Rattle.model.proofs.Facts.{first-most}
 use Rattle.model.proofs.Sound.{whole as sound-whole, config-default}
 use Rattle.model.proofs.Retries.{current-new}
-use Rattle.model.proofs.Years.{years-mode, ten-by-years, made-for-years, meets-ten, late-not-11, late-not-12}
+use Rattle.model.proofs.Years.{years-mode, ten-by-years, terms-made, made-for-years, meets-ten, late-not-11, late-not-12}
 use Rattle.table.specs.Layout.{capacity}
 use Rattle.bucket.specs.Whole.{Lent, bucketOf, whole}
 use Rattle.bucket.proofs.Whole.{whole-parts}
@@ -45,7 +46,7 @@ use Rattle.guarantee.specs.Calls.{step}
 use Rattle.guarantee.specs.Bytes.{Sized, byteStep}
 use Rattle.guarantee.specs.Exchanges.{Exchange, exchange, byteExchange, sentField, isServed}
 use Rattle.guarantee.specs.Years.{saysPut, keySent, TakesYears, TakesNumber, KeptForYears, showsCurrent, EndIsShown, ShowsYears, TenWhereLate, TenByYears, KeptForYearsBytes, ShowsYearsBytes, TenByYearsBytes}
-use Rattle.guarantee.proofs.Dates.{date-reads-back}
+use Rattle.guarantee.proofs.Dates.{date-shown, date-reads-back}
 use Rattle.guarantee.proofs.Said.{Read, heard-read, accepted-read, read-field, read-same}
 use Rattle.guarantee.proofs.Bytes.{accepted-sized, same-exchange, sized-after, spelled-after}
 
@@ -105,9 +106,8 @@ module _ (b : Lent) (g : Call) (clock : ℕ) (x : TakesYears (bucketOf b) (g .se
       elim (meant-ways (before .rows) (line .verb)) [
         | inl m ↦
             let is-after : bucketOf (step b g) ≡ after before line = left-is ∙ rw m in
-            let made = made-for-years (capacity (b .keys)) before (line .context) (row .terms) (no-mode before g clock x r) (x .counts-years) (line .verb) (row .terms-are) (rw m at p) in
-            let of-key = subst (λ (k : List ℕ). MadeForYears (line .context .clock) before k (after before line)) (row .key-is) made in
-            let at-clock = subst (λ (c : ℕ). MadeForYears c before (keySent (g .sent)) (after before line)) (clock-is before g clock x r) of-key in
+            let made = made-for-years (capacity (b .keys)) before (line .context) (row .terms) (no-mode before g clock x r) (x .counts-years) (keySent (g .sent)) (line .verb) (row .makes) (rw m at p) in
+            let at-clock = subst (λ (c : ℕ). MadeForYears c before (keySent (g .sent)) (after before line)) (clock-is before g clock x r) made in
             subst⁻¹ (MadeForYears clock before (keySent (g .sent))) is-after at-clock
         | inr (n, m) ↦
             let is-after : bucketOf (step b g) ≡ after before (asked (line .context) (Ask (Repeat n))) = left-is ∙ rw m in
@@ -136,7 +136,14 @@ shows-years b g get clock x t e =
     let found : rowOf (bucketOf left .rows) n ≡ some row = rw (made .is-added) (current-new row (bucketOf b .rows)) in
     let p = sound-whole (capacity (b .keys)) (bucketOf b) ((whole-parts b (is-whole b g clock x t)) .is-sound) in
     let has-mode : row .mode ≡ 0 → ⊥ = λ h. years-mode (defaultOf (bucketOf b)) (config-default (bucketOf b .settings .config) (p .config-sound)) (x .counts-years) (sym (made .mode-is) ∙ h) in
-    record { end = row .until; reads = date-reads-back left get n _ row z (r .hears) verb found has-mode; ends = rw (sym (made .created-now)) (made .ends) }
+    let years = defaultOf (bucketOf b) .count in
+    let ends : YearsEnd years (max (b .settings .time) clock) (row .until) = rw (sym (made .created-now)) (made .ends) in
+    record {
+      end = row .until;
+      reads = date-reads-back left get n _ row z (r .hears) verb found has-mode;
+      ends = ends;
+      printed = rw (date-shown left get n _ row z (r .hears) verb found has-mode) (years-printed years _ (row .until) (omega (arith, ends .later, made .in-time)) (made .in-time) ends);
+    }
 
 -- ## Refusal 10
 
@@ -182,7 +189,7 @@ module _ (b : Lent) (g : Call) (clock : ℕ) (x : TakesYears (bucketOf b) (g .se
       let now = max (bucket .settings .time) (said j .context .clock) in
       let by-now : now ≤ latest = omega (arith, same-clock, read-most _ clock (x .clock-read), leb-true (bucket .settings .time) latest (p .time-fits)) in
       let ten = ten-by-years s now (config-default s (p .config-sound)) (x .counts-years) by-now (row .terms .retention) (no-mode bucket g clock x r) in
-      rw (row .terms-are) (ten ∙ ap (λ (c : ℕ). ltb 9999 (laterYear c bucket)) same-clock)
+      rw (terms-made (keySent (g .sent)) (row .terms) (said j .verb) (row .makes)) (ten ∙ ap (λ (c : ℕ). ltb 9999 (laterYear c bucket)) same-clock)
 
   ten-where-late : TenWhereLate (laterYear clock bucket) ((outcome b g) .number) (TakesNumber b (step b g))
   ten-where-late =

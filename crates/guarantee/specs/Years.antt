@@ -11,6 +11,7 @@ use Rattle.text.specs.Fields.{fieldOf}
 use Rattle.text.specs.Lines.{firstLine}
 use Rattle.calendar.specs.Periods.{YearsEnd}
 use Rattle.dates.specs.Reading.{readDate}
+use Rattle.dates.specs.Printing.{printDate, PrintedYearsAfter}
 use Rattle.model.specs.Settings.{Bucket}
 use Rattle.model.specs.Years.{defaultOf, CountsYears, laterYear, MadeForYears}
 use Rattle.bucket.specs.Whole.{Lent, bucketOf}
@@ -52,11 +53,12 @@ KeptForYears = (b : Lent) (g : Call) (clock : ℕ) → TakesYears (bucketOf b) (
 abbrev pub showsCurrent : List ℕ → Exchange → Bool
 showsCurrent k e = isServed (bytes "GET") e && (same (sentField (e .sent) 3) k && same (sentField (e .sent) 4) (bytes "-"))
 
--- The fifth field behind `ok` reads as an instant at which these years end.
+-- The fifth field behind `ok` is a date at which these years end, and reads so beside the text of now.
 pub record EndIsShown (years now : ℕ) (answer : List ℕ) : Type 0 where
   pub end : ℕ
   pub reads : readDate (fieldOf (firstLine answer) 5) ≡ some end
   pub ends : YearsEnd years now end
+  pub printed : PrintedYearsAfter years (printDate now) (fieldOf (firstLine answer) 5)
 
 -- A GET of its key's current version, on the bucket that it left, shows when they end.
 abbrev pub ShowsYears : Type 0

@@ -2,7 +2,7 @@
 use Prim.Native.Nat.{ℕ, _≤_}
 use mathlib.Core.Path.{_≡_, refl, sym, _∙_, ap, ap₂}
 use mathlib.Core.Logic.{_⊎_, inl, inr}
-use mathlib.Core.Bool.{Bool, true, false, not, _&&_}
+use mathlib.Core.Bool.{Bool, true, not, _&&_, and-false}
 use mathlib.Core.List.{List, [], _∷_, cons≢nil, tail-eq-of-cons-eq}
 use native.Mathlib.Omega.{arith}
 use lib.Dec.{eqb, leb}
@@ -66,13 +66,9 @@ first-passed (x ∷ xs) k n e z =
       | inl h ↦ rw (eq-eqb (x .number) n (rw h at e))
       | inr h ↦ elim (either (eqb (x .number) n)) [
         | inl t ↦ rw t
-        | inr t ↦ rw t (and-i _ _ (fails (eqb (x .number) k) (x .holds) h) (first-passed xs k n (rw h at e) z))
+        | inr t ↦ simp (t, h, and-false (eqb (x .number) k)) (first-passed xs k n (rw h at e) z)
       ]
     ]
-  where
-    fails : (a b : Bool) → b ≡ false → not (a && b) ≡ true
-    fails true b e = rw e
-    fails false b e = refl
 
 -- ## Version numbers
 

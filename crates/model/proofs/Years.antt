@@ -1,13 +1,13 @@
 -- A PUT or COPY that takes a default of years keeps its row until they end, and meets 10 where they end after the year 9999.
 use Prim.Native.Nat.{ℕ, _+_, _/_, _≤_}
 use mathlib.Core.Path.{_≡_, refl, sym, _∙_}
-use mathlib.Core.Logic.{inl, inr}
-use mathlib.Core.Bool.{Bool, true, false, true≢false, false≢true, not, _&&_, _||_}
+use mathlib.Core.Logic.{_⊎_, inl, inr}
+use mathlib.Core.Bool.{Bool, true, false, true≢false, false≢true, not, _&&_, and-true, or-false}
 use mathlib.Core.List.{List}
 use mathlib.Core.Option.{some, none}
 use native.Mathlib.Omega.{arith}
 use lib.Dec.{eqb, leb, ltb}
-use borrow.Author.Tests.{eqb-true, leb-true, ltb-false}
+use borrow.Author.Tests.{eqb-true, leb-true, ltb-false, not-true}
 use Rattle.buffers.specs.Choices.{thenSome}
 use Rattle.buffers.proofs.Tests.{and-l, and-r, or-one}
 use Rattle.calendar.specs.declared.Now.{Now}
@@ -16,12 +16,12 @@ use Rattle.calendar.specs.Periods.{YearsEnd}
 use Rattle.calendar.proofs.Periods.{period-years}
 use Rattle.model.specs.Rows.{isMode}
 use Rattle.model.specs.Settings.{Default, Config, Bucket, years, hasDefault, soundDefault, sound}
-use Rattle.model.specs.Requests.{Retention, Terms, Repeat, Verb, Put, Copy, Retain, Hold, AddMarker, DeleteVersion, Set, Sweep, Ask, Context, Request, says, termsOf}
+use Rattle.model.specs.Requests.{Name, Retention, Terms, Repeat, Verb, Put, Copy, Ask, Context, Request, says, termsOf}
 use Rattle.model.specs.Time.{nowOf, defaultEnd, newMode, newUntil}
 use Rattle.model.specs.Effects.{rowOf, newRow, insertByKey, rowsAfter, after}
 use Rattle.model.specs.Retries.{meant}
 use Rattle.model.specs.Refusals.{defaultTooLate, tooLate, spends, full, Check, firstOf, checks}
-use Rattle.model.specs.Years.{CountsYears, targetOf, MadeForYears}
+use Rattle.model.specs.Years.{CountsYears, MadeForYears}
 use Rattle.model.proofs.Accepted.{meant-ways, Accepted}
 use Rattle.model.proofs.SoundRows.{mode-not-zero}
 use Rattle.model.proofs.Sound.{whole, config-default}
@@ -75,6 +75,14 @@ module _ (s : Config) (now : ℕ) (e : soundDefault (s .default) ≡ true) (u : 
 
 -- ## The row that is made
 
+-- The verb is a PUT or COPY that makes a row of this key with these lock fields.
+abbrev pub MakesRow : List ℕ → Terms → Verb → Type 0
+MakesRow k t w = ((body : ℕ) × ((size : ℕ) × (w ≡ Put k body size t))) ⊎ ((n : Name) × (w ≡ Copy n k t))
+
+pub terms-made : (k : List ℕ) (t : Terms) (w : Verb) → MakesRow k t w → termsOf w ≡ some t
+terms-made k t w (inl (body, (size, e))) = rw e
+terms-made k t w (inr (n, e)) = rw e
+
 module _ (c : ℕ) (b : Bucket) (g : Context) (t : Terms) (n : t .retention .mode ≡ none) (u : CountsYears b) where
   abbrev s : Config
   s = b .settings .config
@@ -104,29 +112,13 @@ module _ (c : ℕ) (b : Bucket) (g : Context) (t : Terms) (n : t .retention .mod
           in-time = rw until-is (no-later s now fields-sound u in-years (t .retention) n l);
         }
 
-  -- An accepted line that makes a version, by its verb.
-  pub made-for-years : (w : Verb) → termsOf w ≡ some t → Accepted c b g (nowOf b g) w → MadeForYears (g .clock) b (targetOf w) (after b (asked g w))
+  -- An accepted PUT or COPY that makes a version.
+  pub made-for-years : (k : List ℕ) (w : Verb) → MakesRow k t w → Accepted c b g (nowOf b g) w → MadeForYears (g .clock) b k (after b (asked g w))
   unfolding tooLate rowsAfter
-  made-for-years (Put k body size t′) e p = let q : t′ ≡ t = cc in row-made (Put k body size t′) p k body size (rw q at (p .in-time)) (rw q)
-  made-for-years (Copy m k t′) e p = let q : t′ ≡ t = cc in row-made (Copy m k t′) p k (thenSome (rowOf (b .rows) m) 0 (λ x. x .body)) (thenSome (rowOf (b .rows) m) 0 (λ x. x .size)) (rw q at (p .in-time)) (rw q)
-  made-for-years (Retain m r y) e p = let z : _≡_ {A = ℕ} 0 1 = cc in absurd (omega arith)
-  made-for-years (Hold m on) e p = let z : _≡_ {A = ℕ} 0 1 = cc in absurd (omega arith)
-  made-for-years (AddMarker k y) e p = let z : _≡_ {A = ℕ} 0 1 = cc in absurd (omega arith)
-  made-for-years (DeleteVersion k v y) e p = let z : _≡_ {A = ℕ} 0 1 = cc in absurd (omega arith)
-  made-for-years (Set x) e p = let z : _≡_ {A = ℕ} 0 1 = cc in absurd (omega arith)
-  made-for-years Sweep e p = let z : _≡_ {A = ℕ} 0 1 = cc in absurd (omega arith)
-  made-for-years (Ask q) e p = let z : _≡_ {A = ℕ} 0 1 = cc in absurd (omega arith)
+  made-for-years k w (inl (body, (size, e))) p = row-made w p k body size (rw e at (p .in-time)) (rw e)
+  made-for-years k w (inr (m, e)) p = row-made w p k (thenSome (rowOf (b .rows) m) 0 (λ x. x .body)) (thenSome (rowOf (b .rows) m) 0 (λ x. x .size)) (rw e at (p .in-time)) (rw e)
 
 -- ## Refusal 10
-
--- what is left of a test of every condition for one number
-only-one : (a : Bool) → (a || false) ≡ true → a ≡ true
-only-one true e = refl
-only-one false e = e
-
-passed : (a : Bool) → (not a && true) ≡ true → a ≡ false
-passed true e = sym e
-passed false e = refl
 
 module _ (w : Bool) (c : ℕ) (b : Bucket) (q : Request) where
   abbrev at : Now
@@ -146,7 +138,7 @@ module _ (w : Bool) (c : ℕ) (b : Bucket) (q : Request) where
   pub meets-ten : firstOf all-checks ≡ 10 → late (q .verb) ≡ true
   unfolding tooLate
   meets-ten e =
-      let h = only-one (late meaning) (first-among all-checks 10 e (λ z. omega arith)) in
+      let h : late meaning ≡ true = sym (or-false (late meaning)) ∙ first-among all-checks 10 e (λ z. omega arith) in
       elim (meant-ways (b .rows) (q .verb)) [
         | inl m ↦ rw m at h
         | inr (n, m) ↦ absurd (false≢true (rw m at h))
@@ -156,17 +148,17 @@ module _ (w : Bool) (c : ℕ) (b : Bucket) (q : Request) where
   pub late-not-11 : sound c b ≡ true → late (q .verb) ≡ true → firstOf all-checks ≡ 11 → ⊥
   late-not-11 s l e =
       elim (meant-ways (b .rows) (q .verb)) [
-        | inl m ↦ let p : late (q .verb) ≡ false = rw m at (passed (late meaning) (first-passed all-checks 10 11 e (λ z. omega arith))) in true≢false (sym l ∙ p)
+        | inl m ↦ let p : late (q .verb) ≡ false = rw m at (not-true (late meaning) (sym (and-true (not (late meaning))) ∙ first-passed all-checks 10 11 e (λ z. omega arith))) in true≢false (sym l ∙ p)
         | inr (n, m) ↦
-            let h : spends b at (Ask (Repeat n)) ≡ true = rw m at (only-one (spends b at meaning) (first-among all-checks 11 e (λ z. omega arith))) in
+            let h : spends b at (Ask (Repeat n)) ≡ true = rw m at (sym (or-false (spends b at meaning)) ∙ first-among all-checks 11 e (λ z. omega arith)) in
             true≢false (sym h ∙ retry-unspent c b at n s)
       ]
 
   pub late-not-12 : sound c b ≡ true → late (q .verb) ≡ true → firstOf all-checks ≡ 12 → ⊥
   late-not-12 s l e =
       elim (meant-ways (b .rows) (q .verb)) [
-        | inl m ↦ let p : late (q .verb) ≡ false = rw m at (passed (late meaning) (first-passed all-checks 10 12 e (λ z. omega arith))) in true≢false (sym l ∙ p)
+        | inl m ↦ let p : late (q .verb) ≡ false = rw m at (not-true (late meaning) (sym (and-true (not (late meaning))) ∙ first-passed all-checks 10 12 e (λ z. omega arith))) in true≢false (sym l ∙ p)
         | inr (n, m) ↦
-            let h : full c b at (Ask (Repeat n)) ≡ true = rw m at (only-one (full c b at meaning) (first-among all-checks 12 e (λ z. omega arith))) in
+            let h : full c b at (Ask (Repeat n)) ≡ true = rw m at (sym (or-false (full c b at meaning)) ∙ first-among all-checks 12 e (λ z. omega arith)) in
             true≢false (sym h ∙ retry-fits c b at n s)
       ]

@@ -1,12 +1,11 @@
 -- Document 02, M-104: the row that a PUT or COPY makes by a default of years, and the year in which it is kept to the end.
 use Prim.Native.Nat.{ℕ, _+_, _/_, _≤_, max}
 use mathlib.Core.Path.{_≡_}
-use mathlib.Core.List.{List, []}
+use mathlib.Core.List.{List}
 use Rattle.calendar.specs.Calendar.{latest, day, civilOf}
 use Rattle.calendar.specs.Periods.{YearsEnd}
 use Rattle.model.specs.Rows.{Row}
 use Rattle.model.specs.Settings.{Default, Bucket, years}
-use Rattle.model.specs.Requests.{Verb, Put, Copy, Retain, Hold, AddMarker, DeleteVersion, Set, Sweep, Ask}
 use Rattle.model.specs.Effects.{insertByKey}
 
 abbrev pub defaultOf : Bucket → Default
@@ -15,18 +14,6 @@ defaultOf b = b .settings .config .default
 -- The default retention counts years.
 abbrev pub CountsYears : Bucket → Type 0
 CountsYears b = defaultOf b .unit ≡ years
-
--- The key of the row that a PUT or COPY makes.
-abbrev pub targetOf : Verb → List ℕ
-targetOf (Put k body size t) = k
-targetOf (Copy n k t) = k
-targetOf (Retain n r y) = []
-targetOf (Hold n on) = []
-targetOf (AddMarker k y) = []
-targetOf (DeleteVersion k v y) = []
-targetOf (Set s) = []
-targetOf Sweep = []
-targetOf (Ask q) = []
 
 module _ (clock : ℕ) (before : Bucket) where
   abbrev now : ℕ

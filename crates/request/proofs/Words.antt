@@ -1,6 +1,7 @@
 -- What a readable line asks for, by its word.
 use Prim.Native.Nat.{ℕ}
 use mathlib.Core.Path.{_≡_, refl, sym, _∙_, ap}
+use mathlib.Core.Logic.{inl, inr}
 use mathlib.Core.Bool.{true}
 use mathlib.Core.List.{List}
 use mathlib.Core.Option.{Option, some, none}
@@ -14,7 +15,7 @@ use Rattle.text.specs.Numbers.{numberOf}
 use Rattle.dates.specs.Reading.{readDate}
 use Rattle.model.specs.Rows.{largestSize}
 use Rattle.model.specs.Requests as model
-use Rattle.model.specs.Years.{targetOf}
+use Rattle.model.proofs.Years.{MakesRow}
 use Rattle.fields.specs.declared.Version.{Version}
 use Rattle.fields.specs.declared.Version.the-variants.{Current}
 use Rattle.fields.specs.declared.Mode.{Mode}
@@ -64,6 +65,20 @@ module _ (s : List ℕ) where
       line : Passes Said (λ q. readDate (fieldOf s 0) ≡ some (q .clock)) (readLine s)
       line = search (ways, request .holds) depth 16
 
+  -- `-` in field 6 gives no mode
+  mode-missing : (t : Terms) → termsAt s ≡ some t → fieldOf s 6 ≡ dash → termsMeans t .retention .mode ≡ none
+  unfolding termsAt retentionAt readMode
+  mode-missing t e d =
+      let q : _≡_ {A = Option Mode} (some Missing) (some (t .retention .mode)) = rw d at (terms .holds t e) in
+      let m : t .retention .mode ≡ Missing = cc in
+      ap modeMeans m
+    where
+      retention : Passes Retention (λ r. readMode (fieldOf s 6) ≡ some (r .mode)) (retentionAt s 6 7)
+      retention = search ways depth 16
+
+      terms : Passes Terms (λ t. readMode (fieldOf s 6) ≡ some (t .retention .mode)) (termsAt s)
+      terms = search (ways, retention .holds) depth 16
+
   -- The verb is a PUT of the key in field 3, and of the numbers in fields 4 and 5.
   pub record AsksPut (v : model.Verb) : Type 0 where
     pub body : ℕ
@@ -72,58 +87,33 @@ module _ (s : List ℕ) where
     pub verb-is : v ≡ model.Put (fieldOf s 3) body size terms
     pub body-is : numberOf 18446744073709551615 (fieldOf s 4) ≡ some body
     pub size-is : numberOf largestSize (fieldOf s 5) ≡ some size
+    pub no-mode : fieldOf s 6 ≡ dash → terms .retention .mode ≡ none
 
   -- A readable line with the word PUT asks for one.
   pub asks-put : (q : Said) → fieldOf s 2 ≡ bytes "PUT" → readLine s ≡ some q → AsksPut (q .verb)
   unfolding verbByWord putOf
   asks-put q e = line-asks s AsksPut (putOf s) (rw e) (search (ways, asks) depth 16) q
     where
-      asks : (k : Place) (body size : ℕ) (t : Terms) → readKey s 3 ≡ some k → numberOf 18446744073709551615 (fieldOf s 4) ≡ some body → numberOf largestSize (fieldOf s 5) ≡ some size
+      asks : (k : Place) (body size : ℕ) (t : Terms) → readKey s 3 ≡ some k → numberOf 18446744073709551615 (fieldOf s 4) ≡ some body → numberOf largestSize (fieldOf s 5) ≡ some size → termsAt s ≡ some t
           → AsksPut (verbMeans s (Act (Put k body size t)))
-      asks k body size t ek eb es = record { body = body; size = size; terms = termsMeans t; verb-is = rw (key-field s 3 k ek); body-is = eb; size-is = es }
+      asks k body size t ek eb es et = record { body = body; size = size; terms = termsMeans t; verb-is = rw (key-field s 3 k ek); body-is = eb; size-is = es; no-mode = mode-missing t et }
 
   -- The verb makes a row of this key, and gives no mode where field 6 is `-`.
   pub record AsksRow (key : List ℕ) (v : model.Verb) : Type 0 where
     pub terms : model.Terms
-    pub terms-are : model.termsOf v ≡ some terms
-    pub key-is : targetOf v ≡ key
+    pub makes : MakesRow key terms v
     pub no-mode : fieldOf s 6 ≡ dash → terms .retention .mode ≡ none
 
-  -- the mode in field 6
-  mode-read : (t : Terms) → termsAt s ≡ some t → readMode (fieldOf s 6) ≡ some (t .retention .mode)
-  unfolding termsAt retentionAt
-  mode-read = terms .holds
-    where
-      retention : Passes Retention (λ r. readMode (fieldOf s 6) ≡ some (r .mode)) (retentionAt s 6 7)
-      retention = search ways depth 16
-
-      terms : Passes Terms (λ t. readMode (fieldOf s 6) ≡ some (t .retention .mode)) (termsAt s)
-      terms = search (ways, retention .holds) depth 16
-
-  row-asked : (v : model.Verb) (key : List ℕ) (t : Terms) → model.termsOf v ≡ some (termsMeans t) → targetOf v ≡ key → termsAt s ≡ some t → AsksRow key v
-  unfolding readMode
-  row-asked v key t e k r = record { terms = termsMeans t; terms-are = e; key-is = k; no-mode = λ d. ap modeMeans (missing d) }
-    where
-      missing : fieldOf s 6 ≡ dash → t .retention .mode ≡ Missing
-      missing d =
-          let q : _≡_ {A = Option Mode} (some Missing) (some (t .retention .mode)) = rw d at (mode-read t r) in
-          let m : t .retention .mode ≡ Missing = cc in
-          m
-
-  -- A readable line with the word PUT asks for a row of the key in field 3, one with COPY of that in field 5.
+  -- A PUT of the key in field 3, a COPY of that in field 5.
   pub put-asks-row : (q : Said) → fieldOf s 2 ≡ bytes "PUT" → readLine s ≡ some q → AsksRow (fieldOf s 3) (q .verb)
-  unfolding verbByWord putOf
-  put-asks-row q e = line-asks s (AsksRow (fieldOf s 3)) (putOf s) (rw e) (search (ways, row) depth 16) q
-    where
-      row : (k : Place) (body size : ℕ) (t : Terms) → readKey s 3 ≡ some k → termsAt s ≡ some t → AsksRow (fieldOf s 3) (verbMeans s (Act (Put k body size t)))
-      row k body size t ek et = row-asked _ (fieldOf s 3) t refl (key-field s 3 k ek) et
+  put-asks-row q e r = let a = asks-put q e r in record { terms = a .terms; makes = inl (a .body, (a .size, a .verb-is)); no-mode = a .no-mode }
 
   pub copy-asks-row : (q : Said) → fieldOf s 2 ≡ bytes "COPY" → readLine s ≡ some q → AsksRow (fieldOf s 5) (q .verb)
   unfolding verbByWord copyOf
   copy-asks-row q e = line-asks s (AsksRow (fieldOf s 5)) (copyOf s) (rw e) (search (ways, row) depth 16) q
     where
       row : (n : Name) (k : Place) (t : Terms) → readKey s 5 ≡ some k → termsAt s ≡ some t → AsksRow (fieldOf s 5) (verbMeans s (Act (Copy n k t)))
-      row n k t ek et = row-asked _ (fieldOf s 5) t refl (key-field s 5 k ek) et
+      row n k t ek et = record { terms = termsMeans t; makes = inr (nameMeans s n, rw (key-field s 5 k ek)); no-mode = mode-missing t et }
 
   -- `-` names the key's current row
   current-name : fieldOf s 4 ≡ dash → (n : Name) → nameAt s 3 4 ≡ some n → nameMeans s n ≡ model.name (fieldOf s 3) none
