@@ -1,4 +1,4 @@
--- An answer of one line read back: its text, and a GET's fields with the date among them.
+-- An answer of one line read back: its text, a GET's fields with the date among them, and REPORT's fields.
 use Prim.Native.Nat.{ℕ, _≤_}
 use mathlib.Core.Path.{_≡_, refl, _∙_, ap}
 use mathlib.Core.Bool.{true}
@@ -20,8 +20,9 @@ use Rattle.dates.proofs.Printing.{date-visible}
 use Rattle.dates.proofs.RoundTrip.{round-trip}
 use Rattle.model.specs.Rows.{Row, governance}
 use Rattle.model.specs.Requests.{Version, numbered}
-use Rattle.model.specs.Answers.{made, shown}
-use Rattle.answers.specs.Text.{fieldsText, okText, modeText, untilText, holdText, rowFields, answerText}
+use Rattle.model.specs.Reports.{Totals}
+use Rattle.model.specs.Answers.{made, shown, reported}
+use Rattle.answers.specs.Text.{fieldsText, okText, modeText, untilText, holdText, rowFields, totalsFields, answerText}
 
 pub mode-visible : (m : ℕ) → visible (modeText m) ≡ true
 unfolding modeText
@@ -56,6 +57,9 @@ module _ (fs : List (List ℕ)) (room : List ℕ) (v : all visible fs ≡ true) 
   unfolding okText fieldsText
   ok-back = ap (λ (l : List ℕ). l ++ 10 ∷ []) ok-line ∙ append-assoc (bytes "ok") (tabbed fs) (10 ∷ [])
 
+  ok-fields : fields (firstLine (okText fs ++ room)) ≡ bytes "ok" ∷ fs
+  ok-fields = ap fields ok-line ∙ fields-back (bytes "ok") fs refl v
+
 -- The answer of a number.
 pub version-back : (v : Version) (room : List ℕ) → firstLine (answerText (made v) ++ room) ++ 10 ∷ [] ≡ answerText (made v)
 version-back (numbered n) room = ok-back (digits n ∷ []) room (simp digits-visible)
@@ -67,9 +71,15 @@ module _ (x : Row) (room : List ℕ) where
   fields-visible = simp (digits-visible, mode-visible, until-visible, hold-visible)
 
   row-fields : fields (firstLine (answerText (shown x) ++ room)) ≡ bytes "ok" ∷ rowFields x
-  row-fields = ap fields (ok-line (rowFields x) room fields-visible) ∙ fields-back (bytes "ok") (rowFields x) refl fields-visible
+  row-fields = ok-fields (rowFields x) room fields-visible
 
   -- The fifth field after `ok` is the row's date.
   pub until-field : (x .mode ≡ 0 → ⊥) → fieldOf (firstLine (answerText (shown x) ++ room)) 5 ≡ printDate (x .until)
   unfolding fieldOf untilText
   until-field m = rw (row-fields, ne-eqb (x .mode) 0 m)
+
+-- ## Totals
+
+-- The fields of the first line are `ok` and the four numbers.
+pub totals-fields : (t : Totals) (room : List ℕ) → fields (firstLine (answerText (reported t) ++ room)) ≡ bytes "ok" ∷ totalsFields t
+totals-fields t room = ok-fields (totalsFields t) room (simp digits-visible)

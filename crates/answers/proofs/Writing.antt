@@ -60,6 +60,9 @@ module _ (out m₁ : List ℕ) (r₁ : ℕ) (exit : List ℕ) (r : ℕ) (room : 
   pub no-field : Wrote m₁ r₁ (10 ∷ []) 1 exit r → Wrote out 0 (okText []) longestAnswer exit r
   no-field x = ok-then ok (feed-last x) room (omega arith)
 
+  pub all-fields : (fs : List (List ℕ)) → Wrote m₁ r₁ (fieldsText fs) (length fs * 25 + 1) exit r → length fs ≤ 6 → Wrote out 0 (okText fs) longestAnswer exit r
+  all-fields fs y n = ok-then ok (record { wrote = λ h. y }) room n
+
   module _ (f m₂ : List ℕ) (r₂ : ℕ) (x : Wrote m₁ r₁ (9 ∷ f) 25 m₂ r₂) where
     pub one-field : Wrote m₂ r₂ (10 ∷ []) 1 exit r → Wrote out 0 (okText (f ∷ [])) longestAnswer exit r
     one-field y = ok-then ok (field-then x (feed-last y)) room (omega arith)
@@ -67,11 +70,18 @@ module _ (out m₁ : List ℕ) (r₁ : ℕ) (exit : List ℕ) (r : ℕ) (room : 
     pub two-fields : (g m₃ : List ℕ) (r₃ : ℕ) → Wrote m₂ r₂ (9 ∷ g) 25 m₃ r₃ → Wrote m₃ r₃ (10 ∷ []) 1 exit r → Wrote out 0 (okText (f ∷ g ∷ [])) longestAnswer exit r
     two-fields g m₃ r₃ y z = ok-then ok (field-then x (field-then y (feed-last z))) room (omega arith)
 
+    pub two-then : (g m₃ : List ℕ) (r₃ : ℕ) (fs : List (List ℕ)) → Wrote m₂ r₂ (9 ∷ g) 25 m₃ r₃ → Wrote m₃ r₃ (fieldsText fs) (length fs * 25 + 1) exit r → length fs ≤ 4
+        → Wrote out 0 (okText (f ∷ g ∷ fs)) longestAnswer exit r
+    two-then g m₃ r₃ fs y z n = ok-then ok (field-then x (field-then y (record { wrote = λ h. z }))) room (omega arith)
+
     pub more-fields : (fs : List (List ℕ)) → Wrote m₂ r₂ (fieldsText fs) (length fs * 25 + 1) exit r → length fs ≤ 5 → Wrote out 0 (okText (f ∷ fs)) longestAnswer exit r
     more-fields fs y n = ok-then ok (field-then x (record { wrote = λ h. y })) room (omega arith)
 
 module _ (out : List ℕ) (a : ℕ) (f m₁ : List ℕ) (r₁ : ℕ) (g m₂ : List ℕ) (r₂ : ℕ) (exit : List ℕ) (r : ℕ)
     (x : Wrote out a (9 ∷ f) 25 m₁ r₁) (y : Wrote m₁ r₁ (9 ∷ g) 25 m₂ r₂) where
+  pub two-last : a + 51 ≤ length out → Wrote m₂ r₂ (10 ∷ []) 1 exit r → Wrote out a (fieldsText (f ∷ g ∷ [])) 51 exit r
+  two-last room z = field-then x (field-then y (feed-last z)) .wrote room
+
   pub three-last : (k m₃ : List ℕ) (r₃ : ℕ) → a + 76 ≤ length out → Wrote m₂ r₂ (9 ∷ k) 25 m₃ r₃ → Wrote m₃ r₃ (10 ∷ []) 1 exit r
       → Wrote out a (fieldsText (f ∷ g ∷ k ∷ [])) 76 exit r
   three-last k m₃ r₃ room z w = field-then x (field-then y (field-then z (feed-last w))) .wrote room

@@ -41,6 +41,7 @@ pub record Examples : Type 0 where
   pub nine : fields (rowLine gone) ≡ lineFields gone
   pub empty-page : answerText (model.listed []) ≡ bytes "ok\t0\n"
   pub page : answerText (model.listed listing) ≡ bytes "ok\t2\nq/7\t3\tmarker\t2024-03-02T00:00:00.000Z\t-\t-\t-\t-\tOFF\nq/7\t2\tdata\t1970-01-01T00:00:00.000Z\t0\t0\t-\t-\tON\n"
+  pub totals : answerText (model.reported (record { versions = 3; markers = 1; size = 910; locked = 0 })) ≡ bytes "ok\t3\t1\t910\t0\n"
   -- what is read off a buffer in which an older answer stands behind the page
   pub page-read : linesShown (pageText listing ++ bytes "old\n") ≡ rowLine gone ∷ rowLine held ∷ []
   pub next-key : lastKey (pageText listing ++ bytes "old\n") ≡ bytes "q/7"
@@ -61,6 +62,7 @@ examples =
       nine = refl;
       empty-page = refl;
       page = refl;
+      totals = refl;
       page-read = refl;
       next-key = refl;
       next-version = refl;

@@ -3,11 +3,17 @@ use Prim.Native.Nat.{ℕ, _≤_}
 use mathlib.Core.List.{List, []}
 use Rattle.calendar.specs.Calendar.{latest}
 use Rattle.model.specs.Requests.{numbered}
+use Rattle.model.specs.Reports as reports
 use Rattle.model.specs.Answers as model
 use Rattle.table.specs.Places.{rowFrom}
+use Rattle.answers.specs.declared.Totals.{Totals}
 use Rattle.answers.specs.declared.Answer.{Answer}
 use Rattle.answers.specs.declared.Answer.the-variants.{Done, Made, Marked, Removed, RemovedMarker, Swept, Got}
 use Rattle.answers.specs.Text.{answerText}
+
+-- the code's totals, as the model's
+abbrev pub totalsMean : Totals → reports.Totals
+totalsMean t = record { versions = t .versions; markers = t .markers; size = t .size; locked = t .locked }
 
 -- the text of a row that GET shows does not tell its key
 abbrev pub answerMeans : Answer → model.Answer

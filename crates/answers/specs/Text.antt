@@ -10,7 +10,8 @@ use Rattle.text.specs.Fields.{tabbed}
 use Rattle.dates.specs.Printing.{printDate}
 use Rattle.model.specs.Rows.{Row, isData, governance}
 use Rattle.model.specs.Requests.{Version, numbered}
-use Rattle.model.specs.Answers.{Answer, done, made, repeated, marked, removed, removedMarker, sweptCounts, shown, listed}
+use Rattle.model.specs.Reports.{Totals}
+use Rattle.model.specs.Answers.{Answer, done, made, repeated, marked, removed, removedMarker, sweptCounts, shown, listed, reported}
 
 -- no answer of one line is longer than this
 abbrev pub longestAnswer : ℕ
@@ -82,6 +83,12 @@ rowTexts (x ∷ xs) = rowText x ++ rowTexts xs
 unfoldable pub pageText : List Row → List ℕ
 pageText xs = okText (digits (length xs) ∷ []) ++ rowTexts xs
 
+-- ## REPORT's fields
+
+-- data rows, markers, the sum of the data lengths, locked data rows
+abbrev pub totalsFields : Totals → List (List ℕ)
+totalsFields t = digits (t .versions) ∷ digits (t .markers) ∷ digits (t .size) ∷ digits (t .locked) ∷ []
+
 -- ## The answers
 
 abbrev pub answerText : Answer → List ℕ
@@ -94,3 +101,4 @@ answerText (removedMarker v) = okText (versionText v ∷ bytes "removed-marker" 
 answerText (sweptCounts gone new) = okText (digits gone ∷ digits new ∷ [])
 answerText (shown x) = okText (rowFields x)
 answerText (listed xs) = pageText xs
+answerText (reported t) = okText (totalsFields t)

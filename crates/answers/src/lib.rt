@@ -8,9 +8,18 @@ ghost use Rattle.text.specs.Printing.{digits};
 ghost use Rattle.calendar.specs.Calendar.{latest};
 ghost use Rattle.dates.specs.Printing.{printDate};
 ghost use Rattle.model.specs.Refusals.{rowRoom};
+ghost use Rattle.model.specs.Answers.{reported};
 ghost use Rattle.table.specs.Places.{rowFrom};
-ghost use Rattle.answers.specs.Text.{longestAnswer, fieldsText, okText, modeText, untilText, holdText, rowFields, dataFields, markerFields, fieldsBehindKey, rowText};
-ghost use Rattle.answers.specs.Meaning.{textOf, Printable};
+ghost use Rattle.answers.specs.Text.{longestAnswer, fieldsText, okText, modeText, untilText, holdText, rowFields, dataFields, markerFields, fieldsBehindKey, rowText, answerText};
+ghost use Rattle.answers.specs.Meaning.{totalsMean, textOf, Printable};
+
+// What REPORT answers: how many rows are data, how many are markers, the sum of the data lengths, and how many data rows are locked.
+pub struct Totals {
+    pub versions: u64,
+    pub markers: u64,
+    pub size: u64,
+    pub locked: u64,
+}
 
 // What an accepted line answers.
 pub enum Answer {
@@ -178,15 +187,34 @@ fn write_word(out: &mut [u8], n: u64, word: &[u8]) -> usize
     buffers::copy_in(out, after_word, b"\n")
 }
 
+// Two numbers, and the line feed.
+fn put_two(out: &mut [u8], at: usize, m: u64, n: u64) -> usize
+    requires { ⌜ at + 51 ≤ length (now out) ⌝ }
+    ensures { λ r. ⌜ Wrote (now (out .entry)) at (fieldsText (digits m ∷ digits n ∷ [])) 51 (now (out .exit)) r ⌝ }
+{
+    let after_first = put_number(out, at, m);
+    let after_second = put_number(out, after_first, n);
+    buffers::copy_in(out, after_second, b"\n")
+}
+
 // `ok` and two numbers.
 fn write_counts(out: &mut [u8], gone: u64, new: u64) -> usize
     requires { ⌜ longestAnswer ≤ length (now out) ⌝ }
     ensures { λ r. ⌜ Wrote (now (out .entry)) 0 (okText (digits gone ∷ digits new ∷ [])) longestAnswer (now (out .exit)) r ⌝ }
 {
     let after_ok = buffers::copy_in(out, 0, b"ok");
-    let after_gone = put_number(out, after_ok, gone);
-    let after_new = put_number(out, after_gone, new);
-    buffers::copy_in(out, after_new, b"\n")
+    put_two(out, after_ok, gone, new)
+}
+
+// `ok` and REPORT's four numbers.
+pub fn write_totals(out: &mut [u8], t: Totals) -> usize
+    requires { ⌜ longestAnswer ≤ length (now out) ⌝ }
+    ensures { λ r. ⌜ Wrote (now (out .entry)) 0 (answerText (reported (totalsMean t))) longestAnswer (now (out .exit)) r ⌝ }
+{
+    let after_ok = buffers::copy_in(out, 0, b"ok");
+    let after_versions = put_number(out, after_ok, t.versions);
+    let after_markers = put_number(out, after_versions, t.markers);
+    put_two(out, after_markers, t.size, t.locked)
 }
 
 // `ok` and the fields of a row.

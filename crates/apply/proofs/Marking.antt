@@ -7,13 +7,15 @@ use native.Mathlib.Omega.{arith}
 use native.Mathlib.Nat.{add-zero}
 use lib.ListN.{length, getD, take, drop, set, replicate, length-append, length-set, take-append-drop, length-drop}
 use lib.Seq.{take-suc, take-at, drop-at, length-take-le, take-set-le, set-split, append-snoc, drop-append-add, take-append-le, take-take}
+use Rattle.buffers.specs.Lists.{total}
+use Rattle.buffers.proofs.Lists.{total-append}
 use Rattle.model.specs.Rows.{Row}
 use Rattle.model.specs.Settings.{spentNumber}
-use Rattle.model.specs.Sweep.{Fate, stays, goes, gains, inPlace, marker, marks, total, carriedOut}
+use Rattle.model.specs.Sweep.{Fate, stays, goes, gains, inPlace, marker, marks, carriedOut}
 use Rattle.table.specs.Layout.{Holds, numbersOfRow, rowsOf, keysFit, capacity}
 use Rattle.table.proofs.Held.{rows-length}
 use Rattle.lifecycle.specs.Fates.{fateOf, fatesIn}
-use Rattle.lifecycle.proofs.Fates.{fates-append, fates-length, total-append}
+use Rattle.lifecycle.proofs.Fates.{fates-append, fates-length}
 use Rattle.model.proofs.Sweeping.{carried-append}
 use Rattle.apply.specs.Passes.{kept, unlessGone, InBuffers, Put, Thinned}
 use Rattle.apply.proofs.Flat.{free, padded, padded-length, Lay, lay-numbers, lay-keys, lay-put, lay-set, lay-row, lay-block, holds-lay, lay-holds}

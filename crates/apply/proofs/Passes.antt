@@ -7,10 +7,11 @@ use native.Mathlib.Omega.{arith}
 use native.Mathlib.Nat.{add-zero}
 use lib.Dec.{leb}
 use lib.ListN.{length, length-append}
+use Rattle.buffers.specs.Lists.{total}
 use Rattle.buffers.proofs.Tests.{and-l, and-r}
 use Rattle.buffers.proofs.Lists.{all-append}
 use Rattle.model.specs.Rows.{Row}
-use Rattle.model.specs.Sweep.{Fate, stays, goes, gains, inPlace, marker, marks, removes, total, carriedOut}
+use Rattle.model.specs.Sweep.{Fate, stays, goes, gains, inPlace, marker, marks, removes, carriedOut}
 use Rattle.table.specs.Layout.{keysFit}
 use Rattle.apply.specs.Passes.{kept, unlessGone}
 

@@ -4,7 +4,8 @@ use mathlib.Core.Path.{_≡_, refl, _∙_, ap}
 use mathlib.Core.List.{List}
 use native.Mathlib.Omega.{arith}
 use lib.ListN.{length, take, length-take}
-use Rattle.model.specs.Sweep.{marks, removes, total, carriedOut}
+use Rattle.buffers.specs.Lists.{total}
+use Rattle.model.specs.Sweep.{marks, removes, carriedOut}
 use Rattle.model.proofs.Room.{length-carried}
 use Rattle.table.specs.Layout.{rowsOf, capacity, Holds}
 use Rattle.table.proofs.Held.{rows-length}

@@ -5,7 +5,8 @@ use mathlib.Core.List.{List}
 use native.Mathlib.Omega.{arith}
 use lib.ListN.{length, take}
 use lib.Seq.{length-take-le}
-use Rattle.model.specs.Sweep.{removes, total, carriedOut}
+use Rattle.buffers.specs.Lists.{total}
+use Rattle.model.specs.Sweep.{removes, carriedOut}
 use Rattle.table.specs.Layout.{Holds, rowsOf, capacity}
 use Rattle.table.proofs.Held.{rows-length, held-capacity, held-rows, held-again}
 use Rattle.lifecycle.proofs.Fates.{fates-length}

@@ -3,10 +3,11 @@ use Prim.Native.Nat.{ℕ, _+_, _-_, _*_, _≤_}
 use mathlib.Core.Path.{_≡_}
 use mathlib.Core.List.{List, [], _∷_, _++_}
 use lib.ListN.{length, take}
+use Rattle.buffers.specs.Lists.{total}
 use Rattle.buffers.specs.Writes.{placed}
 use Rattle.model.specs.Rows.{Row}
 use Rattle.model.specs.Settings.{spentNumber}
-use Rattle.model.specs.Sweep.{Fate, stays, goes, gains, marks, removes, total}
+use Rattle.model.specs.Sweep.{Fate, stays, goes, gains, marks, removes}
 use Rattle.table.specs.Layout.{Holds, rowsOf, capacity}
 use Rattle.lifecycle.specs.Fates.{fatesIn}
 

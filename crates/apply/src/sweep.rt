@@ -3,7 +3,8 @@ ghost use mathlib.Core.Path.{_≡_};
 ghost use mathlib.Core.List.{[], _++_};
 ghost use Prim.Native.Nat.{_+_, _-_, _*_, _≤_};
 ghost use lib.ListN.{length, take, drop, replicate};
-ghost use Rattle.model.specs.Sweep.{marker, removes, total, carriedOut};
+ghost use Rattle.buffers.specs.Lists.{total};
+ghost use Rattle.model.specs.Sweep.{marker, removes, carriedOut};
 ghost use Rattle.table.specs.Layout.{Holds, numbersOfRow, rowsOf, capacity};
 ghost use Rattle.apply.specs.Passes.{kept, fatesOf, Carriable, Thinned, Remaining, InBuffers, Put};
 

@@ -1,5 +1,5 @@
 -- Laws of lists: of what `specs/Lists.antt` defines, and of parts of parts.
-use Prim.Native.Nat.{ℕ, zero, suc, _-_, _<_, min}
+use Prim.Native.Nat.{ℕ, zero, suc, _+_, _-_, _≤_, _<_, min}
 use mathlib.Core.Path.{_≡_, refl, sym, _∙_, ap, ap₂}
 use mathlib.Core.Logic.{inl, inr}
 use mathlib.Core.Bool.{Bool, true, false, not, _&&_, false≢true, and-false, and-comm}
@@ -12,7 +12,7 @@ use lib.ListN.{length, getD, take, drop, set}
 use lib.Seq.{take-nil}
 use borrow.Author.Tests.{eqb-true, eq-eqb, not-true}
 use Rattle.buffers.specs.Choices.{pick}
-use Rattle.buffers.specs.Lists.{keep, first, change, all, any, same}
+use Rattle.buffers.specs.Lists.{keep, first, change, all, any, total, same}
 use Rattle.buffers.proofs.Tests.{either, and-i, and-l, and-r, or-l, or-r, test-sym}
 
 module _ {A : Type 0} where
@@ -30,6 +30,15 @@ module _ {A : Type 0} where
       elim (either (p x)) [
         | inl e ↦ rw e (ap (λ (l : List A). x ∷ l) (keep-append p xs ys))
         | inr e ↦ rw e (keep-append p xs ys)
+      ]
+
+  -- A list is no shorter than what a test keeps of it.
+  pub keep-most : (p : A → Bool) (xs : List A) → length (keep p xs) ≤ length xs
+  keep-most p [] = omega arith
+  keep-most p (x ∷ xs) =
+      elim (either (p x)) [
+        | inl t ↦ rw t (omega (arith, keep-most p xs))
+        | inr t ↦ rw t (omega (arith, keep-most p xs))
       ]
 
   pub keep-as : (p q : A → Bool) → ((x : A) → p x ≡ q x) → (xs : List A) → keep p xs ≡ keep q xs
@@ -217,6 +226,17 @@ module _ {A : Type 0} where
   first-as p q f [] = refl
   first-as p q f (x ∷ xs) = rw (f x) (ap (λ (r : Option A). pick (q x) (some x) r) (first-as p q f xs))
 
+  -- ## Sums
+
+  pub total-append : (of : A → ℕ) (xs ys : List A) → total of (xs ++ ys) ≡ total of xs + total of ys
+  total-append of [] ys = omega arith
+  total-append of (x ∷ xs) ys = let e = total-append of xs ys in omega arith
+
+  -- Of numbers that are the same for every element that passes a test.
+  pub total-as : (p : A → Bool) (of by : A → ℕ) → ((x : A) → p x ≡ true → of x ≡ by x) → (xs : List A) → all p xs ≡ true → total of xs ≡ total by xs
+  total-as p of by f [] e = refl
+  total-as p of by f (x ∷ xs) e = ap₂ (λ (m n : ℕ). m + n) (f x (and-l _ _ e)) (total-as p of by f xs (and-r (p x) _ e))
+
   -- ## Parts of parts
 
   pub drop-take : (f t : ℕ) (l : List A) → drop f (take t l) ≡ take (t - f) (drop f l)
@@ -242,6 +262,10 @@ module _ {A B : Type 0} (f : A → B) where
         | inl t ↦ rw t (ap (λ (l : List B). f x ∷ l) (keep-map p xs))
         | inr t ↦ rw t (keep-map p xs)
       ]
+
+  pub total-map : (of : B → ℕ) (xs : List A) → total of (map f xs) ≡ total (λ x. of (f x)) xs
+  total-map of [] = refl
+  total-map of (x ∷ xs) = ap (λ (n : ℕ). of (f x) + n) (total-map of xs)
 
   pub all-map : (p : B → Bool) (xs : List A) → all p (map f xs) ≡ all (λ x. p (f x)) xs
   all-map p [] = refl

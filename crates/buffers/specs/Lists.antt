@@ -1,5 +1,5 @@
 -- Lists by a test, and lists of bytes.
-use Prim.Native.Nat.{ℕ}
+use Prim.Native.Nat.{ℕ, _+_}
 use mathlib.Core.Bool.{Bool, true, false, _&&_, _||_}
 use mathlib.Core.List.{List, [], _∷_}
 use mathlib.Core.Option.{Option, some, none}
@@ -31,6 +31,11 @@ module _ {A : Type 0} where
   abbrev pub any : (A → Bool) → List A → Bool
   any p [] = false
   any p (x ∷ xs) = p x || any p xs
+
+  -- the sum of a number of each element
+  abbrev pub total : (A → ℕ) → List A → ℕ
+  total of [] = 0
+  total of (x ∷ xs) = of x + total of xs
 
 -- the two are the same, byte for byte
 abbrev pub same : List ℕ → List ℕ → Bool

@@ -8,16 +8,18 @@ use native.Mathlib.Omega.{arith}
 use lib.ListN.{length, replicate, length-replicate}
 use borrow.Author.Tests.{ltb-false}
 use Rattle.buffers.specs.Writes.{Wrote}
+use Rattle.text.specs.declared.Place.{Place}
 use Rattle.text.specs.Fields.{partOf}
 use Rattle.calendar.specs.declared.Now.{Now}
 use Rattle.fields.specs.Meaning.{Inside}
 use Rattle.model.specs.Requests as model
 use Rattle.model.specs.Requests.{page, Get, ListVersions, Set, Sweep, Ask, says, inRange}
 use Rattle.model.specs.Pages.{pageRows}
+use Rattle.model.specs.Reports.{totalsOf}
 use Rattle.model.specs.Retries.{meant}
 use Rattle.model.specs.Effects.{added, rowsAfter, configAfter}
 use Rattle.model.specs.Refusals.{fieldChecks, tableChecks, leastRoom, pageRoom, shortForPage}
-use Rattle.model.specs.Answers.{reply}
+use Rattle.model.specs.Answers.{reported, reply}
 use Rattle.model.proofs.Accepted.{meant-either}
 use Rattle.settings.specs.declared.Rule.{Rule}
 use Rattle.settings.specs.declared.Settings.{Settings}
@@ -37,7 +39,7 @@ use Rattle.request.specs.declared.Query.the-variants as query
 use Rattle.request.specs.declared.Verb.{Verb}
 use Rattle.request.specs.declared.Verb.the-variants as verb
 use Rattle.request.specs.Grammar.{Said, saidBy, readLine, asked}
-use Rattle.request.specs.Meaning.{nameMeans, actionMeans, settingMeans, pageMeans, queryMeans, verbMeans, ActionInside, VerbInside}
+use Rattle.request.specs.Meaning.{nameMeans, actionMeans, settingMeans, queryMeans, verbMeans, ActionInside, VerbInside}
 use Rattle.request.proofs.Ranges.{read-in-range}
 use Rattle.request.proofs.Actions.{action-unset}
 use Rattle.screen.specs.declared.Screened.{Screened}
@@ -46,7 +48,7 @@ use Rattle.screen.specs.Screen.{screened as fieldRefusal, screenedLine, Screens
 use Rattle.screen.proofs.Lines.{Comes, short, unread, barred, passed, comes, passes-page}
 use Rattle.answers.specs.declared.Answer.{Answer}
 use Rattle.answers.specs.declared.Answer.the-variants as answer
-use Rattle.answers.specs.Text.{longestAnswer, pageText}
+use Rattle.answers.specs.Text.{longestAnswer, pageText, answerText}
 use Rattle.answers.specs.Meaning.{textOf, Printable}
 use Rattle.judge.specs.declared.Change.the-variants as change
 use Rattle.judge.specs.declared.Plan.{Plan}
@@ -55,10 +57,10 @@ use Rattle.judge.specs.declared.Verdict.the-variants as verdict
 use Rattle.judge.specs.Meaning.{planMeans, verdictMeans}
 use Rattle.judge.specs.State.{rowsIn}
 use Rattle.judge.specs.Premises.{both, Asked, Sweepable, JudgesBy, JudgesOn}
-use Rattle.judge.proofs.Deciding.{page-does}
+use Rattle.judge.proofs.Deciding.{asks-does}
 use Rattle.judge.proofs.Sweeping as judge
-use Rattle.listing.specs.Ready.{Listable}
-use Rattle.listing.proofs.Sound.{listable}
+use Rattle.listing.specs.Ready.{Listable, Reportable}
+use Rattle.listing.proofs.Sound.{listable, reportable}
 use Rattle.apply.specs.Applied.{judged}
 use Rattle.outcome.specs.Decision.{Effect, Decision, does, effect, tableDecision, decision}
 use Rattle.outcome.specs.Calls.{Call, call, heard}
@@ -69,7 +71,7 @@ use Rattle.outcome.proofs.Deciding.{decide-stop, decide-go, decide-done, outcom
 use Rattle.engine.specs.Configured.{Settable, configuredBy}
 use Rattle.engine.specs.declared.Served.{Served}
 use Rattle.engine.specs.declared.Step.{Step}
-use Rattle.engine.specs.Served.{outcomeFrom, served, Passing, CanCarryOut, CarriedOut, Actable, Acted, SweepAsked, Swept}
+use Rattle.engine.specs.Served.{outcomeFrom, served, Answered, Passing, CanCarryOut, CarriedOut, Actable, Acted, SweepAsked, Swept}
 use Rattle.engine.proofs.Ready.{whole-rules, line-says, line-judge, line-stamp, line-asked}
 use Rattle.engine.proofs.Carrying.{refused-is, kept-is, settings-after}
 
@@ -151,13 +153,22 @@ known {b} {line} {a} {v} {when} p =
     }
 
 -- What asks keeps the rows and takes no number.
-asked-kept : {s : Settings} {n keys line a : List ℕ} {x : Query} {when : Now} (p : Passing (lent s n keys) line a (verb.Ask x) when) (e : Effect) (most len : ℕ) (after : Settings) (a′ : List ℕ) → Wrote a 0 (e .text) most a′ len
-    → after ≡ withProgress s (when .stamp) (s .used) (s .next) → e .rows ≡ rowsOf n keys (s .used) → e .taken ≡ 0
-    → outcomeFrom (record { number = 0; len = len; settings = after }) n keys a′ ≡ carried (lent s n keys) (when .judge) (Ask (queryMeans line x)) a e
-asked-kept {s} {n} {keys} {line} {a} {x} {when} p e most len after a′ w g er et =
-    let q = known p in
-    kept-is s n keys (when .judge) (Ask (queryMeans line x)) a e most len after a′ w
-    (rw (q .one-now) at g ∙ settings-after s (Ask (queryMeans line x)) (when .judge) (s .used) (s .next) refl (q .prefixes)) (q .asked .ready .holds) er et
+module _ {s : Settings} {n keys line a : List ℕ} {x : Query} {when : Now} (p : Passing (lent s n keys) line a (verb.Ask x) when) (most len : ℕ) (r : Served) (a′ : List ℕ)
+    (f : Answered s when len r) where
+  asked-kept : (e : Effect) → Wrote a 0 (e .text) most a′ len → e .rows ≡ rowsOf n keys (s .used) → e .taken ≡ 0
+      → outcomeFrom r n keys a′ ≡ carried (lent s n keys) (when .judge) (Ask (queryMeans line x)) a e
+  asked-kept e w er et =
+      let q = known p in
+      rw (f .accepted, f .long, f .settings-are) (kept-is s n keys (when .judge) (Ask (queryMeans line x)) a e most len _ a′ w
+      (rw (q .one-now) (settings-after s (Ask (queryMeans line x)) (when .judge) (s .used) (s .next) refl (q .prefixes))) (q .asked .ready .holds) er et)
+
+  -- What asks without naming a row is answered, whatever the table holds.
+  asked-unnamed : model.nameOf (Ask (queryMeans line x)) ≡ none → Wrote a 0 (answerText (reply (bucketOf (lent s n keys)) (both (when .judge)) (known p .who) (Ask (queryMeans line x)))) most a′ len
+      → outcomeFrom r n keys a′ ≡ outcome (lent s n keys) (call line a)
+  unfolding added rowsAfter
+  asked-unnamed e w =
+      asked-kept (effect (bucketOf (lent s n keys)) (both (when .judge)) (known p .who) (Ask (queryMeans line x))) w refl refl
+      ∙ known p .decided _ (sym (asks-does (stateOf s) n keys (rulesMean (s .rules)) (when .judge) (known p .who) (queryMeans line x) e (known p .asked .ready)))
 
 -- Some sender: whether a verdict can be carried out hangs on none.
 anyone : model.Rights
@@ -255,14 +266,14 @@ module _ (s : Settings) (n keys line a : List ℕ) (x : Name) (when : Now) (p : 
         pub get-prints : Printable (plan .answer)
         get-prints = ((rw t at j) anyone [] [] .feasible) .1
 
-        pub get-answered : (a′ : List ℕ) (len : ℕ) (text : Answer) (after : Settings) → plan .answer ≡ text → Wrote a 0 (textOf text) longestAnswer a′ len
-            → after ≡ withProgress s (when .stamp) (s .used) (s .next) → outcomeFrom (record { number = 0; len = len; settings = after }) n keys a′ ≡ outcome (lent s n keys) (call line a)
+        pub get-answered : (a′ : List ℕ) (len : ℕ) (text : Answer) (r : Served) → plan .answer ≡ text → Wrote a 0 (textOf text) longestAnswer a′ len
+            → Answered s when len r → outcomeFrom r n keys a′ ≡ outcome (lent s n keys) (call line a)
         unfolding added rowsAfter
-        get-answered a′ len text after h w g =
+        get-answered a′ len text r h w g =
             let c = bucketOf (lent s n keys) in
             let v = Ask (Get (nameMeans line x)) in
             let same = decide-done (tableChecks (capacity keys) c (both (when .judge)) v) (effect c (both (when .judge)) (known p .who) v) _ (rw t at judged-is) in
-            asked-kept p _ longestAnswer len after a′ (rw (sym h) at w) g (ap (λ (f : Effect). f .rows) same) (ap (λ (f : Effect). f .taken) same)
+            asked-kept p longestAnswer len r a′ g _ (rw (sym h) at w) (ap (λ (f : Effect). f .rows) same) (ap (λ (f : Effect). f .taken) same)
             ∙ (rw t at judged-done)
 
 pub ruleset gets = (get-room, get-inside, get-asked, get-refused, get-prints, get-answered)
@@ -284,18 +295,34 @@ module _ (s : Settings) (n keys line a : List ℕ) (x : Page) (when : Now) (p : 
     pub page-listable : Listable n keys (st .used)
     page-listable = let r = known p .asked in rw e (listable n keys (s .used) (s .next) (s .time) (r .ready .holds) (r .ready .in-order) (r .ready .rows-sound) (omega (arith, r .since, r .instant)))
 
-    pub page-answered : (prefix key : List ℕ) (a′ : List ℕ) (len : ℕ) (after : Settings) → prefix ≡ partOf line (x .prefix) → key ≡ partOf line (x .key)
+    pub page-answered : (prefix key : List ℕ) (a′ : List ℕ) (len : ℕ) (r : Served) → prefix ≡ partOf line (x .prefix) → key ≡ partOf line (x .key)
         → Wrote a 0 (pageText (pageRows (page prefix key (x .version) (x .count)) (rowsOf n keys (st .used)))) (pageRoom (x .count)) a′ len
-        → after ≡ withProgress s (when .stamp) (s .used) (s .next) → outcomeFrom (record { number = 0; len = len; settings = after }) n keys a′ ≡ outcome (lent s n keys) (call line a)
-    unfolding added rowsAfter reply
-    page-answered prefix key a′ len after f g w h =
-        let c = bucketOf (lent s n keys) in
-        let v = Ask (ListVersions (pageMeans line x)) in
-        let r = known p .asked .ready in
-        asked-kept p (effect c (both (when .judge)) (known p .who) v) (pageRoom (x .count)) len after a′ (rw (e, f, g) at w) h refl refl
-        ∙ known p .decided _ (sym (page-does (stateOf s) n keys (rulesMean (s .rules)) (when .judge) (known p .who) (pageMeans line x) r))
+        → Answered s when len r → outcomeFrom r n keys a′ ≡ outcome (lent s n keys) (call line a)
+    unfolding reply
+    page-answered prefix key a′ len r f g w h = asked-unnamed p (pageRoom (x .count)) len r a′ h refl (rw (e, f, g) at w)
 
 pub ruleset pages = (prefix-inside, key-inside, page-room, page-listable, page-answered)
+
+-- ## REPORT
+
+module _ (s : Settings) (n keys line a : List ℕ) (x : Place) (when : Now) (p : Passing (lent s n keys) line a (verb.Ask (query.Report x)) when) where
+  pub report-inside : x .start + x .len ≤ length line
+  report-inside = known p .inside .end
+
+  pub report-room : leastRoom ≤ length a
+  report-room = known p .room
+
+  module _ (st : State) (e : st ≡ stateOf s) where
+    pub report-reportable : Reportable n keys (st .used)
+    report-reportable = let r = known p .asked .ready in rw e (reportable n keys (s .used) (s .next) (s .time) (r .holds) (r .in-order) (r .rows-sound) (omega (arith, r .used-fits, r .capacity-fits)))
+
+    pub report-answered : (prefix a′ : List ℕ) (len : ℕ) (r : Served) → prefix ≡ partOf line x
+        → Wrote a 0 (answerText (reported (totalsOf prefix (when .judge) (rowsOf n keys (st .used))))) longestAnswer a′ len
+        → Answered s when len r → outcomeFrom r n keys a′ ≡ outcome (lent s n keys) (call line a)
+    unfolding reply
+    report-answered prefix a′ len r f w h = asked-unnamed p longestAnswer len r a′ h refl (rw (e, f) at w)
+
+pub ruleset reports = (report-inside, report-room, report-reportable, report-answered)
 
 -- ## What asks, by its verb
 

@@ -42,6 +42,12 @@ outcomeFrom r numbers keys answer =
 abbrev pub served : Settings → Step → Served
 served s x = record { number = x .number; len = x .len; settings = withProgress s (x .time) (x .used) (x .next) }
 
+-- An answer of this length was written, and of the settings the time alone became now.
+pub record Answered (s : Settings) (when : Now) (len : ℕ) (r : Served) : Type 0 where
+  pub accepted : r .number ≡ 0
+  pub long : r .len ≡ len
+  pub settings-are : r .settings ≡ withProgress s (when .stamp) (s .used) (s .next)
+
 -- The bucket is whole, and the line passes the screen: it says this verb, and this is its now.
 pub record Passing (b : Lent) (line answer : List ℕ) (v : Verb) (when : Now) : Type 0 where
   pub is-whole : whole b ≡ true

@@ -14,6 +14,7 @@ use screen::Screened;
 use settings::Rule;
 use settings::Settings;
 use settings::State;
+use text::Place;
 ghost use mathlib.Core.Path.{_≡_};
 ghost use mathlib.Core.Bool.{true};
 ghost use mathlib.Core.List.{List};
@@ -32,7 +33,7 @@ ghost use Rattle.outcome.specs.Outcome.{outcome};
 ghost use Rattle.outcome.specs.Comparisons.{comparisonsOf};
 ghost use Rattle.judge.specs.State.{rowsIn};
 ghost use Rattle.engine.specs.Configured.{Settable};
-ghost use Rattle.engine.specs.Served.{outcomeFrom, served, Passing, CanCarryOut, CarriedOut, Actable, Acted, SweepAsked, Swept};
+ghost use Rattle.engine.specs.Served.{outcomeFrom, served, Answered, Passing, CanCarryOut, CarriedOut, Actable, Acted, SweepAsked, Swept};
 
 // What a call returns: 0 or the refusal, the answer's length, and the settings afterwards.
 pub struct Served {
@@ -63,6 +64,18 @@ fn refused(number: u64, settings: Settings) -> Served
         number,
         len: 0,
         settings,
+    }
+}
+
+// An answer of this length is written, and of the bucket the time alone becomes now.
+fn answered(s: Settings, when: Now, len: usize) -> Served
+    ensures { λ r. ⌜ Answered s when len r ⌝ }
+{
+    let after = settings::with_progress(s, when.stamp, s.used, s.next);
+    Served {
+        number: 0,
+        len,
+        settings: after,
     }
 }
 
@@ -249,12 +262,7 @@ fn serve_get(
         Verdict::Accepted(plan) => {
             let shown = plan.answer;
             let len = answers::write_answer(answer, shown);
-            let after = settings::with_progress(s, when.stamp, s.used, s.next);
-            Served {
-                number: 0,
-                len,
-                settings: after,
-            }
+            answered(s, when, len)
         }
     }
 }
@@ -279,12 +287,27 @@ fn serve_page(
     let prefix = text::part(line, page.prefix);
     let key = text::part(line, page.key);
     let len = listing::write_page(rows, keys, used, prefix, key, version, count, answer);
-    let after = settings::with_progress(s, when.stamp, s.used, s.next);
-    Served {
-        number: 0,
-        len,
-        settings: after,
-    }
+    answered(s, when, len)
+}
+
+// REPORT meets no refusal on the table either, and its totals are counted straight from it.
+fn serve_report(
+    s: Settings,
+    rows: &[u64],
+    keys: &[u8],
+    line: &[u8],
+    answer: &mut [u8],
+    prefix: Place,
+    when: Now,
+) -> Served
+    requires { ⌜ Passing (lent s (now rows) (now keys)) (now line) (now answer) (verb.Ask (query.Report prefix)) when ⌝ }
+    ensures { λ r. ⌜ outcomeFrom r (now (rows .entry)) (now (keys .entry)) (now (answer .exit)) ≡ outcome (lent s (now (rows .entry)) (now (keys .entry))) (call (now (line .entry)) (now (answer .entry))) ⌝ }
+{
+    let state = settings::state_of(s);
+    let used = state.used;
+    let part = text::part(line, prefix);
+    let len = listing::write_report(rows, keys, used, part, when.judge, answer);
+    answered(s, when, len)
 }
 
 // What asks leaves the table as it is.
@@ -303,6 +326,7 @@ fn serve_query(
     match query {
         Query::Get(name) => serve_get(s, rows, keys, line, answer, name, when),
         Query::ListVersions(page) => serve_page(s, rows, keys, line, answer, page, when),
+        Query::Report(prefix) => serve_report(s, rows, keys, line, answer, prefix, when),
     }
 }
 

@@ -19,7 +19,7 @@ use Rattle.text.proofs.Joined.{without, visible-without, digits-visible}
 use Rattle.calendar.specs.declared.Now.{Now}
 use Rattle.model.specs.Rows.{isMarker}
 use Rattle.model.specs.Settings.{Bucket}
-use Rattle.model.specs.Requests.{Rights, numbered, name, Get, ListVersions, Repeat, Verb, Put, Copy, Retain, Hold, AddMarker, DeleteVersion, Set, Sweep, Ask}
+use Rattle.model.specs.Requests.{Rights, numbered, name, Get, ListVersions, Report, Repeat, Verb, Put, Copy, Retain, Hold, AddMarker, DeleteVersion, Set, Sweep, Ask}
 use Rattle.model.specs.Effects.{rowOf}
 use Rattle.model.specs.Answers.{made, reply, givesNumber}
 use Rattle.model.proofs.Invariant.{removal-answers, shown-answers}
@@ -74,4 +74,5 @@ module _ (b : Bucket) (now : Now) (who : Rights) where
   answered-is Sweep room v = refl
   answered-is (Ask (Get n)) room v = sym (shown-answers (rowOf (b .rows) n) v)
   answered-is (Ask (ListVersions p)) room v = refl
+  answered-is (Ask (Report prefix)) room v = refl
   answered-is (Ask (Repeat u)) room v = refl

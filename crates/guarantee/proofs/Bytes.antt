@@ -200,7 +200,11 @@ module _ (c : ℕ) where
   pub spelled-after : (b : Bytes) (g : Call) → Sized c b → lentOf (byteStep b g) ≡ step (lentOf b) g
   spelled-after b g z = (spells-after c b g z) .is
 
-  spelled-left : (b : Bytes) (gs : List Call) → Sized c b → lentOf (left byteStep b gs) ≡ left step (lentOf b) gs
+  pub sized-left : (b : Bytes) (gs : List Call) → Sized c b → Sized c (left byteStep b gs)
+  sized-left b [] z = z
+  sized-left b (g ∷ gs) z = sized-left (byteStep b g) gs (sized-after b g z)
+
+  pub spelled-left : (b : Bytes) (gs : List Call) → Sized c b → lentOf (left byteStep b gs) ≡ left step (lentOf b) gs
   spelled-left b gs z = left-as byteStep step lentOf (λ g. g) (Sized c) sized-after spelled-after b gs z ∙ ap (left step (lentOf b)) (map-id gs)
 
   spelled-events : (b : Bytes) (gs : List Call) → Sized c b → byteEvents b gs ≡ callEvents (lentOf b) gs

@@ -9,9 +9,10 @@ pub mod Dates
 pub mod Listed
 pub mod Bytes
 pub mod Pages
-pub mod PagesFollowed
 pub mod Retries
 pub mod Expiry
 pub mod Comparisons
 pub mod Years
+pub mod Reports
+pub mod PagesFollowed
 pub mod Examples

@@ -15,7 +15,7 @@ use Rattle.text.specs.Keys.{isKey, isPrefix}
 use Rattle.calendar.specs.Calendar.{latest}
 use Rattle.model.specs.Rows.{Row, isData, soundRow, ordered}
 use Rattle.model.specs.Settings.{Bucket, spentNumber}
-use Rattle.model.specs.Requests.{Page, ListVersions, Ask, Request, says, isPlace, largestCount, inRange}
+use Rattle.model.specs.Requests.{Page, Query, ListVersions, Ask, Request, says, isPlace, largestCount, inRange}
 use Rattle.model.specs.Effects.{rowsAfter}
 use Rattle.model.specs.Pages.{matches, comesAfter, rowsAfterPlace, pageRows}
 use Rattle.model.specs.Answers.{reply}
@@ -56,6 +56,12 @@ module _ (next time : ℕ) (l : time ≤ latest) where
   rows-read-back [] e = tt
   rows-read-back (x ∷ xs) e = (row-reads-back x (and-l _ _ e), rows-read-back xs (and-r (soundRow next time x) _ e))
 
+-- ## What asks leaves the rows as they are
+
+pub asked-stay : (b : Lent) (g : Call) (q : Request) (a : Query) → (outcome b g) .number ≡ 0 → heard g ≡ says q → q .verb ≡ Ask a → bucketOf (step b g) .rows ≡ bucketOf b .rows
+unfolding rowsAfter
+asked-stay b g q a n h v = ap (λ (x : Bucket). x .rows) (accepted-bucket b g q (accepted-of-whole b g n) h (sym (outcome-number b g) ∙ n)) ∙ rw v
+
 -- ## An accepted LIST
 
 -- What is known of the bucket that it was served on, of its page, and of what it left.
@@ -69,7 +75,7 @@ pub record Listed (b : Lent) (g : Call) (p : Page) : Type 0 where
   pub rows-stay : bucketOf (step b g) .rows ≡ bucketOf b .rows
 
 pub listed : (b : Lent) (g : Call) (p : Page) (q : Request) → (outcome b g) .number ≡ 0 → heard g ≡ says q → q .verb ≡ Ask (ListVersions p) → Listed b g p
-unfolding reply inRange rowsAfter
+unfolding reply inRange
 listed b g p q n h v =
     let z = sym (outcome-number b g) ∙ n in
     let w = accepted-of-whole b g n in
@@ -86,7 +92,7 @@ listed b g p q n h v =
       rows-sound = s .rows-sound;
       few = leb-true (p .count) largestCount (and-r (leb 1 (p .count)) _ counted);
       answer-is = rw (does, v);
-      rows-stay = ap (λ (x : Bucket). x .rows) (accepted-bucket b g q w h z) ∙ rw v;
+      rows-stay = asked-stay b g q (ListVersions p) n h v;
     }
 
 module _ {b : Lent} {g : Call} {p : Page} (a : Listed b g p) where

@@ -23,6 +23,7 @@ use Rattle.model.specs.Rows.{Row, soundRow}
 use Rattle.model.specs.Settings.{largestNumber}
 use Rattle.model.specs.Requests.{page, largestCount}
 use Rattle.model.specs.Pages.{matches, rowsAfterPlace}
+use Rattle.model.specs.Run.{left}
 use Rattle.model.proofs.Pages.{rest-after, from-start}
 use Rattle.model.proofs.Order.{ordered-keep}
 use Rattle.model.proofs.SoundRows.{row-parts, sound-key}
@@ -183,9 +184,17 @@ pages-from prefix key version b (g ∷ h ∷ gs) e =
       all-is = page-and-rest s f _ _ _ _ (f .key-is) number-is (s .is-listed .rows-stay) (next .all-is);
     }
 
+-- Pages leave the rows as they are.
+pub pages-keep : (prefix key version : List ℕ) (b : Lent) (gs : List Call) → arePages prefix key version (exchanges b gs) ≡ true → bucketOf (left step b gs) .rows ≡ bucketOf b .rows
+pages-keep prefix key version b [] e = refl
+pages-keep prefix key version b (g ∷ []) e = served-page prefix key version b g (and-l _ _ e) .is-listed .rows-stay
+pages-keep prefix key version b (g ∷ h ∷ gs) e =
+    pages-keep prefix (lastKey ((outcome b g) .answer)) (lastVersion ((outcome b g) .answer)) (step b g) (h ∷ gs) (and-r (isPageFrom prefix key version (exchange b g)) _ e)
+    ∙ served-page prefix key version b g (and-l _ _ e) .is-listed .rows-stay
+
 -- ## The promise
 
-first-accepted : (prefix key version : List ℕ) (e : Exchange) (es : List Exchange) → arePages prefix key version (e ∷ es) ≡ true → e .number ≡ 0
+pub first-accepted : (prefix key version : List ℕ) (e : Exchange) (es : List Exchange) → arePages prefix key version (e ∷ es) ≡ true → e .number ≡ 0
 first-accepted prefix key version e [] h = eqb-true _ 0 (and-l _ _ (and-l _ _ h))
 first-accepted prefix key version e (f ∷ es) h = eqb-true _ 0 (and-l _ _ (and-l _ _ h))
 

@@ -8,3 +8,4 @@ pub mod Retries
 pub mod Expiry
 pub mod Comparisons
 pub mod Years
+pub mod Reports

@@ -7,7 +7,7 @@ use mathlib.Core.List.{List, []}
 use mathlib.Core.Option.{Option, some, none}
 use native.Mathlib.Omega.{arith}
 use lib.Dec.{eqb, leb, ltb}
-use lib.ListN.{length, take, drop}
+use lib.ListN.{length}
 use borrow.Author.Tests.{ne-eqb, eqb-true, eqb-false, ltb-true, ltb-false}
 use Rattle.buffers.specs.Choices.{thenSome, isSome}
 use Rattle.buffers.specs.Ranges.{Within}
@@ -28,7 +28,7 @@ use Rattle.model.specs.Answers.{reply}
 use Rattle.model.proofs.Room.{length-insert}
 use Rattle.table.specs.declared.Numbers.{Numbers}
 use Rattle.table.specs.Layout.{capacity}
-use Rattle.table.specs.Places.{rowFrom, numbersIn}
+use Rattle.table.specs.Places.{rowFrom, rowNumbers}
 use Rattle.table.proofs.Held.{rows-length}
 use Rattle.settings.specs.declared.State.{State}
 use Rattle.settings.specs.State.{configBy}
@@ -213,7 +213,7 @@ module _ (s : State) (numbers keys line : List ℕ) (now : ℕ) (p : Place) (bod
   pub row-fits : r ≡ position.At i → 8 * i + 8 ≤ length numbers
   row-fits e = found-fits s numbers keys (asked .ready) key none r i found e
 
-  module _ (e : r ≡ position.At i) (n : Numbers) (en : n ≡ numbersIn (take 8 (drop (8 * i) numbers))) (again : Bool) (told : (k : List ℕ) → again ≡ repeats body size (rowFrom n k)) where
+  module _ (e : r ≡ position.At i) (n : Numbers) (en : n ≡ rowNumbers numbers i) (again : Bool) (told : (k : List ℕ) → again ≡ repeats body size (rowFrom n k)) where
     current : rowOf rows (name (partOf line p) none) ≡ some (rowFrom n (keyHere rows i))
     current = (stands rows (name (partOf line p) none) (asked .ready .in-order) i n (sym (found-row s numbers keys (asked .ready) key none r i found e (partOf line p) n ek en))) .is-named
 

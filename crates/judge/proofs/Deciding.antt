@@ -11,7 +11,7 @@ use Rattle.buffers.proofs.Lists.{all-first}
 use Rattle.calendar.specs.declared.Now.{Now}
 use Rattle.model.specs.Rows.{Row, soundRow, soundData}
 use Rattle.model.specs.Settings.{Rule, Bucket, spentNumber, fits}
-use Rattle.model.specs.Requests.{Rights, Name, Page, Query, ListVersions, Verb, Ask, nameOf}
+use Rattle.model.specs.Requests.{Rights, Name, Query, Verb, Ask, nameOf}
 use Rattle.model.specs.Effects.{rowOf, added, rowsAfter}
 use Rattle.model.specs.Refusals.{removesVersion, missing, namesMarker, bars, barred, tooLate, spends, full}
 use Rattle.model.specs.Answers.{reply}
@@ -105,12 +105,12 @@ pub asks-open : (b : Bucket) (now : Now) (q : Query) → nameOf (Ask q) ≡ none
 unfolding missing namesMarker barred tooLate
 asks-open b now q e = record { there = rw e; no-marker = rw e; unbarred = rw e; in-time = refl }
 
--- LIST meets no refusal on the table.
-pub page-does : (s : State) (numbers keys : List ℕ) (rules : List Rule) (now : ℕ) (who : Rights) (p : Page) → Ready s numbers keys
-    → let b = bucketBy s rules (rowsIn s numbers keys) in tableDecision (capacity keys) b (both now) who (Ask (ListVersions p)) ≡ does (effect b (both now) who (Ask (ListVersions p)))
+-- It meets no refusal on the table.
+pub asks-does : (s : State) (numbers keys : List ℕ) (rules : List Rule) (now : ℕ) (who : Rights) (q : Query) → nameOf (Ask q) ≡ none → Ready s numbers keys
+    → let b = bucketBy s rules (rowsIn s numbers keys) in tableDecision (capacity keys) b (both now) who (Ask q) ≡ does (effect b (both now) who (Ask q))
 unfolding added rowsAfter
-page-does s numbers keys rules now who p ready =
-    does-effect (capacity keys) (bucketBy s rules (rowsIn s numbers keys)) (both now) who (Ask (ListVersions p)) (asks-open _ (both now) (ListVersions p) refl)
+asks-does s numbers keys rules now who q e ready =
+    does-effect (capacity keys) (bucketBy s rules (rowsIn s numbers keys)) (both now) who (Ask q) (asks-open _ (both now) q e)
     (omega (arith, ready .next-fits)) (omega (arith, rows-length numbers keys (s .used), ready .used-fits))
 
 -- ## The row that a line names

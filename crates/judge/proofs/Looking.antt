@@ -6,7 +6,7 @@ use mathlib.Core.Bool.{true}
 use mathlib.Core.List.{List}
 use mathlib.Core.Option.{Option, some, none}
 use native.Mathlib.Omega.{arith}
-use lib.ListN.{length, take, drop}
+use lib.ListN.{length}
 use lib.Dec.{eqb}
 use borrow.Author.Tests.{eq-eqb, ne-eqb, eqb-false}
 use Rattle.buffers.specs.Choices.{thenSome}
@@ -16,7 +16,7 @@ use Rattle.model.specs.Requests.{Version, numbered, Name, name}
 use Rattle.table.specs.declared.Numbers.{Numbers}
 use Rattle.model.specs.Effects.{rowOf}
 use Rattle.table.specs.Layout.{numbersOfRow, rowsOf}
-use Rattle.table.specs.Places.{rowFrom, numbersIn}
+use Rattle.table.specs.Places.{rowFrom, numbersIn, rowNumbers}
 use Rattle.table.proofs.Held.{held-numbers, rows-length}
 use Rattle.search.specs.declared.Found.{Found}
 use Rattle.search.specs.declared.Found.the-variants.{At, Place}
@@ -68,7 +68,7 @@ module _ (s : State) (n b : List ℕ) (w : Ready s n b) where
       pub found-fits : 8 * i + 8 ≤ length n
       found-fits = let h = used in let f = w .used-fits in let l = held-numbers (w .holds) in omega arith
 
-      pub found-row : (k : List ℕ) (m : Numbers) → key ≡ k → m ≡ numbersIn (take 8 (drop (8 * i) n)) → named.Row i m ≡ rowNamed (rowsIn s n b) (name k v)
+      pub found-row : (k : List ℕ) (m : Numbers) → key ≡ k → m ≡ rowNumbers n i → named.Row i m ≡ rowNamed (rowsIn s n b) (name k v)
       unfolding rowNamed
       found-row k m q h = rw (h, sym q, sym e ∙ t, rows-row n b (s .used) i used)
 

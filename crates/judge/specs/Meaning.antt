@@ -4,10 +4,11 @@ use mathlib.Core.Path.{_≡_}
 use mathlib.Core.List.{List, []}
 use lib.ListN.{length, take, set}
 use Rattle.buffers.specs.Choices.{thenSome}
+use Rattle.buffers.specs.Lists.{total}
 use Rattle.text.specs.Fields.{partOf}
 use Rattle.model.specs.Rows.{Row}
 use Rattle.model.specs.Settings.{spentNumber}
-use Rattle.model.specs.Sweep.{marks, removes, total, carriedOut}
+use Rattle.model.specs.Sweep.{marks, removes, carriedOut}
 use Rattle.table.specs.Places.{rowFrom}
 use Rattle.table.specs.Changes.{insertAt, removeAt}
 use Rattle.search.specs.Places as places

@@ -7,11 +7,13 @@ use mathlib.Core.Option.{none}
 use native.Mathlib.Omega.{arith}
 use lib.Dec.{eqb}
 use borrow.Author.Tests.{ne-eqb}
+use Rattle.buffers.specs.Lists.{total}
+use Rattle.buffers.proofs.Lists.{total-append}
 use Rattle.buffers.proofs.Tests.{either}
 use Rattle.model.specs.Rows.{Row}
 use Rattle.model.specs.Settings.{Rule}
 use Rattle.model.proofs.Sweeping.{each-fate}
-use Rattle.model.specs.Sweep.{Fate, stays, goes, gains, marks, removes, fates, total}
+use Rattle.model.specs.Sweep.{Fate, stays, goes, gains, marks, removes, fates}
 use Rattle.lifecycle.specs.Fates.{fateByte, fateBytes, fatesAfter, fateOf, fatesIn}
 use native.Mathlib.Numerals.{add-one}
 use lib.ListN.{length, getD, take, drop, length-append}
@@ -80,10 +82,6 @@ fates-length (f ∷ fs) = ap suc (fates-length fs)
 pub fates-append : (fs gs : List ℕ) → fatesIn (fs ++ gs) ≡ fatesIn fs ++ fatesIn gs
 fates-append [] gs = refl
 fates-append (f ∷ fs) gs = ap (λ (l : List Fate). fateOf f ∷ l) (fates-append fs gs)
-
-pub total-append : (of : Fate → ℕ) (fs gs : List Fate) → total of (fs ++ gs) ≡ total of fs + total of gs
-total-append of [] gs = omega arith
-total-append of (f ∷ fs) gs = let e = total-append of fs gs in omega arith
 
 -- ## Counting the fates
 

@@ -1,9 +1,8 @@
 -- A row's fate by its key's least days is the model's, and the ways through the code that tells it.
-use Prim.Native.Nat.{ℕ, _-_, _*_, _≤_}
+use Prim.Native.Nat.{ℕ, _-_, _≤_}
 use mathlib.Core.Path.{_≡_, refl, sym, _∙_}
 use mathlib.Core.Bool.{Bool, true, false, not, _&&_}
 use mathlib.Core.List.{List}
-use lib.ListN.{take, drop}
 use borrow.Author.Tests.{eq-eqb, ne-eqb}
 use Rattle.buffers.specs.Choices.{pick}
 use Rattle.calendar.specs.Calendar.{latest}
@@ -13,7 +12,7 @@ use Rattle.model.specs.Settings as model
 use Rattle.model.specs.Locks.{locked}
 use Rattle.model.specs.Sweep.{applying, Fate, stays, goes, gains, currentFate, noncurrentFate}
 use Rattle.table.specs.Layout.{rowAt}
-use Rattle.table.specs.Places.{rowFrom, numbersIn, keyAt}
+use Rattle.table.specs.Places.{rowFrom, rowNumbers, keyAt}
 use Rattle.table.specs.declared.Numbers.{Numbers}
 use Rattle.lifecycle.specs.Least.{limitsOf}
 use Rattle.lifecycle.specs.Days.{over}
@@ -47,7 +46,7 @@ module _ (us : List model.Rule) (t m : ℕ) (e : m ≡ dayStart t) where
 
 -- ## The ways through current_fate and noncurrent_fate
 
-module _ (n : List ℕ) (i : ℕ) (m : Numbers) (e : m ≡ numbersIn (take 8 (drop (8 * i) n))) where
+module _ (n : List ℕ) (i : ℕ) (m : Numbers) (e : m ≡ rowNumbers n i) where
   pub dated : Dated n i → m .created ≤ latest
   dated h = rw e (h .instant)
 
@@ -70,7 +69,7 @@ module _ (n : List ℕ) (i : ℕ) (m : Numbers) (e : m ≡ numbersIn (take 8 (dr
 
 pub ruleset current-cases = (bytes-of, dated, current-marker, current-over, current-early)
 
-module _ (n : List ℕ) (i : ℕ) (p : Numbers) (f : p ≡ numbersIn (take 8 (drop (8 * (i - 1)) n))) (d t u : ℕ) (b : List ℕ) (r : Bool) (o : r ≡ over d (p .created) u) where
+module _ (n : List ℕ) (i : ℕ) (p : Numbers) (f : p ≡ rowNumbers n (i - 1)) (d t u : ℕ) (b : List ℕ) (r : Bool) (o : r ≡ over d (p .created) u) where
   over-at : over d (rowAt n b (i - 1) .created) u ≡ r
   over-at = sym (o ∙ rw f)
 
@@ -78,7 +77,7 @@ module _ (n : List ℕ) (i : ℕ) (p : Numbers) (f : p ≡ numbersIn (take 8 (dr
   unfolding noncurrentBy
   noncurrent-early q = sym (rw (over-at ∙ q))
 
-  module _ (m : Numbers) (e : m ≡ numbersIn (take 8 (drop (8 * i) n))) (s : Bool) (g : (k : List ℕ) → s ≡ locked t false (rowFrom m k)) (q : r ≡ true) where
+  module _ (m : Numbers) (e : m ≡ rowNumbers n i) (s : Bool) (g : (k : List ℕ) → s ≡ locked t false (rowFrom m k)) (q : r ≡ true) where
     locked-at : locked t false (rowAt n b i) ≡ s
     locked-at = sym (g (keyAt b i) ∙ rw e)
 

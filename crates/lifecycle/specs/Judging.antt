@@ -7,19 +7,19 @@ use mathlib.Core.Option.{Option, some, none}
 use lib.Dec.{eqb}
 use lib.ListN.{length, getD, take, drop}
 use Rattle.buffers.specs.Choices.{pick}
-use Rattle.buffers.specs.Lists.{all, same}
+use Rattle.buffers.specs.Lists.{all, same, total}
 use Rattle.buffers.specs.Ranges.{Within}
 use Rattle.calendar.specs.Calendar.{latest}
 use Rattle.blocks.specs.Blocks.{isBlock}
 use Rattle.model.specs.Rows.{Row, isData, before, ordered}
 use Rattle.model.specs.Settings as model
 use Rattle.model.specs.Locks.{locked}
-use Rattle.model.specs.Sweep.{Fate, stays, goes, gains, fate, marks, removes, counted, total}
+use Rattle.model.specs.Sweep.{Fate, stays, goes, gains, fate, marks, removes, counted}
 use Rattle.model.specs.Comparisons.{rowKeys, different}
 use Rattle.settings.specs.declared.Rule.{Rule}
 use Rattle.settings.specs.Meaning.{rulesMean, prefixesAre}
 use Rattle.table.specs.Layout.{rowAt, rowsOf}
-use Rattle.table.specs.Places.{numbersIn, keyAt}
+use Rattle.table.specs.Places.{rowNumbers, keyAt}
 use Rattle.lifecycle.specs.Keys.{KeyThere}
 use Rattle.lifecycle.specs.declared.Limits.{Limits}
 use Rattle.lifecycle.specs.declared.KeyDone.{KeyDone}
@@ -106,14 +106,14 @@ pub record Judgeable (rows keys : List ℕ) (used : ℕ) (rules : List Rule) : T
 -- The row at a position has its numbers, and no sum of its creation and days is too large.
 pub record Dated (rows : List ℕ) (at : ℕ) : Type 0 where
   pub within : 8 * at + 8 ≤ length rows
-  pub instant : numbersIn (take 8 (drop (8 * at) rows)) .created ≤ latest
+  pub instant : rowNumbers rows at .created ≤ latest
 
 -- Rows that aren't current can be judged: they have their numbers, and so has the one before them.
 pub record Older (rows : List ℕ) (from to : ℕ) : Type 0 where
   pub later : 1 ≤ from
   pub order : from ≤ to
   pub numbers : 8 * to ≤ length rows
-  pub instants : (i : ℕ) → i < to → numbersIn (take 8 (drop (8 * i) rows)) .created ≤ latest
+  pub instants : (i : ℕ) → i < to → rowNumbers rows i .created ≤ latest
 
 -- The bytes from one position to another were stored, each what f says, and the others are as they were.
 pub record Stored (f : ℕ → ℕ) (from to : ℕ) (entry exit : List ℕ) : Type 0 where

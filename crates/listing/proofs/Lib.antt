@@ -1,5 +1,6 @@
 pub mod Order
 pub mod Runs
 pub mod Places
+pub mod Totals
 pub mod Sound
 pub mod Writing

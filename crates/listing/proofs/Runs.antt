@@ -1,24 +1,27 @@
 -- A page's rows are one run of an ordered table.
-use Prim.Native.Nat.{ℕ, zero, suc, _+_, _-_, min, max}
+use Prim.Native.Nat.{ℕ, zero, suc, _+_, _-_, _≤_, _<_, min, max}
 use mathlib.Core.Path.{_≡_, refl, sym, _∙_, ap}
 use mathlib.Core.Logic.{inl, inr}
 use mathlib.Core.Bool.{Bool, true, false, not, _&&_}
-use mathlib.Core.List.{List, [], _∷_}
+use mathlib.Core.List.{List, [], _∷_, _++_}
 use native.Mathlib.Omega.{arith}
-use lib.ListN.{take, drop}
-use lib.Seq.{drop-drop}
+use lib.ListN.{length, getD, take, drop, length-drop}
+use lib.Seq.{drop-drop, take-suc, take-all, getD-drop}
 use Rattle.buffers.specs.Lists.{keep, all}
 use Rattle.buffers.proofs.Tests.{either, clash, and-l, and-r}
-use Rattle.buffers.proofs.Lists.{keep-every, keep-nothing, keep-as, keep-both, all-as, take-least}
+use Rattle.buffers.proofs.Lists.{keep-most, keep-every, keep-nothing, keep-as, keep-both, all-as, take-least}
 use Rattle.model.specs.Rows.{Row, before, ahead, ordered}
 use Rattle.model.specs.Requests.{page}
 use Rattle.model.specs.Pages.{matches, comesAfter, rowsAfterPlace, pageRows}
 use Rattle.model.proofs.Order.{ordered-drop}
+use Rattle.model.proofs.Pages.{from-start}
+use Rattle.table.specs.Layout.{rowAt, rowsOf}
+use Rattle.table.proofs.Held.{rows-length, row-at}
 use Rattle.search.specs.Places.{leading, keyPlace}
 use Rattle.search.proofs.Positions.{none-lead}
 use Rattle.search.proofs.Halving.{key-ahead}
 use Rattle.listing.specs.Places.{placeAfter, pageStart, upTo, prefixEnd, pageEnd}
-use Rattle.listing.proofs.Order.{after-falls, matches-up-to, up-to-falls}
+use Rattle.listing.proofs.Order.{before-first, after-falls, matches-up-to, up-to-falls}
 
 -- ## A test that each row passes that is ahead of one that passes
 
@@ -101,3 +104,38 @@ module _ (p k : List ℕ) (v : ℕ) (xs : List Row) (o : ordered xs ≡ true) wh
   page-run count start end e f =
       let q : end - start ≡ min count (prefixEnd p xs - start) = omega arith in
       rw q (take-least count (prefixEnd p xs - start) (drop start xs) ∙ rw e (ap (take count) (sym rows-run)))
+
+-- ## All matching rows
+
+-- The page from the start starts at the prefix's place.
+first-place : (p : List ℕ) (xs : List Row) → pageStart p [] 0 xs ≡ keyPlace p xs
+unfolding pageStart placeAfter
+first-place p xs = let z = go xs in omega arith
+  where
+    go : (xs : List Row) → leading (λ x. not (comesAfter [] 0 x)) xs ≡ 0
+    go [] = refl
+    go (x ∷ xs) = rw (before-first [] x)
+
+-- They are those from there to the end of a page that they all fit.
+pub prefix-run : (p : List ℕ) (xs : List Row) (count start end : ℕ) → length xs ≡ count → ordered xs ≡ true → start ≡ keyPlace p xs → end ≡ pageEnd p start count xs
+    → take (end - start) (drop start xs) ≡ keep (matches p) xs
+prefix-run p xs count start end l o e f =
+    page-run p [] 0 xs o count start end (e ∙ sym (first-place p xs)) f ∙ ap (take count) (from-start p xs)
+    ∙ take-all count (keep (matches p) xs) (omega (arith, keep-most (matches p) xs))
+
+-- ## Row by row
+
+-- the rows from start on and before i
+abbrev pub run : List ℕ → List ℕ → ℕ → ℕ → ℕ → List Row
+run rows keys used start i = take (i - start) (drop start (rowsOf rows keys used))
+
+-- A row more at the end.
+pub run-next : (n b : List ℕ) (u start i : ℕ) → start ≤ i → i < u → run n b u start (i + 1) ≡ run n b u start i ++ rowAt n b i ∷ []
+run-next n b u start i h l =
+    let xs = drop start (rowsOf n b u) in
+    let z : Row = rowAt n b i in
+    let q : i + 1 - start ≡ suc (i - start) = omega arith in
+    let s : start + (i - start) ≡ i = omega arith in
+    let here : getD xs (i - start) z ≡ z = getD-drop start (rowsOf n b u) (i - start) z ∙ rw s (sym (row-at n b u i z l)) in
+    let below : i - start < length xs = rw (length-drop start (rowsOf n b u), rows-length n b u) (omega arith) in
+    rw q (take-suc xs (i - start) z below ∙ ap (λ (x : Row). take (i - start) xs ++ x ∷ []) here)

@@ -1,10 +1,10 @@
 -- Laws of writing a page: its lines one behind the other, and all of them behind the first line.
-use Prim.Native.Nat.{ℕ, suc, _+_, _-_, _*_, _≤_, _<_}
+use Prim.Native.Nat.{ℕ, _+_, _-_, _*_, _≤_, _<_}
 use mathlib.Core.Path.{_≡_, refl, sym, _∙_, ap}
 use mathlib.Core.List.{List, [], _∷_, _++_, append-assoc, append-nil}
 use native.Mathlib.Omega.{arith}
 use lib.ListN.{length, getD, take, drop, length-take, length-drop}
-use lib.Seq.{take-suc, getD-take, getD-drop}
+use lib.Seq.{getD-take, getD-drop}
 use Rattle.buffers.specs.Ranges.{Within, Span}
 use Rattle.buffers.specs.Writes.{Wrote}
 use Rattle.buffers.proofs.Writes.{wrote-both, wrote-wider, wrote-nothing}
@@ -15,14 +15,14 @@ use Rattle.model.specs.Requests.{page}
 use Rattle.model.specs.Refusals.{rowRoom, pageRoom}
 use Rattle.model.specs.Pages.{pageRows}
 use Rattle.table.specs.Layout.{rowAt, rowsOf}
-use Rattle.table.specs.Places.{rowFrom, numbersIn, keyAt}
+use Rattle.table.specs.Places.{rowFrom, rowNumbers, keyAt}
 use Rattle.table.specs.declared.Numbers.{Numbers}
-use Rattle.table.proofs.Held.{rows-length, row-at}
+use Rattle.table.proofs.Held.{rows-length}
 use Rattle.search.specs.Places.{keyPlace}
 use Rattle.answers.specs.Text.{longestAnswer, okText, rowText, rowTexts, pageText}
 use Rattle.listing.specs.Places.{pageStart, pageEnd, Ends}
 use Rattle.listing.specs.Ready.{Listable}
-use Rattle.listing.proofs.Runs.{page-run}
+use Rattle.listing.proofs.Runs.{run, run-next, page-run}
 
 -- ## The lines
 
@@ -32,19 +32,11 @@ texts-append (x ∷ xs) ys = ap (λ (l : List ℕ). rowText x ++ l) (texts-appen
 
 -- the text of the rows from start on and before i
 abbrev pub linesFrom : List ℕ → List ℕ → ℕ → ℕ → ℕ → List ℕ
-linesFrom rows keys used start i = rowTexts (take (i - start) (drop start (rowsOf rows keys used)))
+linesFrom rows keys used start i = rowTexts (run rows keys used start i)
 
 -- A line more at the end.
 lines-next : (n b : List ℕ) (u start i : ℕ) → start ≤ i → i < u → linesFrom n b u start i ++ rowText (rowAt n b i) ≡ linesFrom n b u start (i + 1)
-lines-next n b u start i h l =
-    let xs = drop start (rowsOf n b u) in
-    let z : Row = rowAt n b i in
-    let q : i + 1 - start ≡ suc (i - start) = omega arith in
-    let s : start + (i - start) ≡ i = omega arith in
-    let here : getD xs (i - start) z ≡ z = getD-drop start (rowsOf n b u) (i - start) z ∙ rw s (sym (row-at n b u i z l)) in
-    let below : i - start < length xs = rw (length-drop start (rowsOf n b u), rows-length n b u) (omega arith) in
-    let more : take (i + 1 - start) xs ≡ take (i - start) xs ++ z ∷ [] = rw q (take-suc xs (i - start) z below ∙ ap (λ (x : Row). take (i - start) xs ++ x ∷ []) here) in
-    sym (rw more (texts-append (take (i - start) xs) (z ∷ []) ∙ rw append-nil))
+lines-next n b u start i h l = sym (rw (run-next n b u start i h l) (texts-append (run n b u start i) (rowAt n b i ∷ []) ∙ rw append-nil))
 
 -- what holds at each turn: the lines of the rows from start on and before i are written
 pub record Lines (rows keys : List ℕ) (used start end : ℕ) (out : List ℕ) (place : ℕ) (now : List ℕ) (at i : ℕ) : Type 0 where
@@ -82,7 +74,7 @@ module _ (rows keys : List ℕ) (used start end : ℕ) (out : List ℕ) (place :
             let g : getD block 0 0 ≡ getD keys (64 * i) 0 = getD-take 64 (drop (64 * i) keys) 0 0 (omega arith) ∙ getD-drop (64 * i) keys 0 0 ∙ rw z in
             rw f (omega (arith, length-take (getD block 0 0) (drop 1 block), line-first))
 
-        module _ (n : Numbers) (e : n ≡ numbersIn (take 8 (drop (8 * i) rows))) where
+        module _ (n : Numbers) (e : n ≡ rowNumbers rows i) where
           pub line-created : n .created ≤ latest
           line-created = rw e (w .listable .dated i (omega (arith, w .top)) .created)
 

@@ -1,4 +1,4 @@
--- Pages of a small table, and where they start and end, computed.
+-- Pages of a small table, where they start and end, and its totals, computed.
 use Prim.Native.Nat.{ℕ}
 use Prim.Native.String.{String}
 use mathlib.Core.Path.{_≡_, refl}
@@ -7,9 +7,12 @@ use mathlib.Core.List.{List, [], _∷_}
 use Rattle.buffers.specs.Texts.{bytes}
 use Rattle.model.specs.Rows.{Row, ordered}
 use Rattle.model.specs.Requests.{page}
+use Rattle.model.specs.Locks.{locked}
 use Rattle.model.specs.Pages.{comesAfter, pageRows}
+use Rattle.model.specs.Reports.{Totals, totalsOf}
 use Rattle.search.specs.Places.{keyPlace}
 use Rattle.listing.specs.Places.{placeAfter, pageStart, prefixEnd, pageEnd}
+use Rattle.listing.specs.Totals.{withRow}
 
 -- a row of this kind
 abbrev row : ℕ → String → ℕ → Row
@@ -35,6 +38,13 @@ startQ k v = pageStart (bytes "q/") (bytes k) v table
 
 abbrev endQ : ℕ → ℕ → ℕ
 endQ start count = pageEnd (bytes "q/") start count table
+
+-- a version of so many bytes under GOVERNANCE until 7
+abbrev governed : ℕ → Row
+governed size = record { number = 8; kind = 1; created = 0; body = 0; size = size; mode = 1; until = 7; hold = 0; key = bytes "q/9" }
+
+abbrev counts : ℕ → ℕ → ℕ → ℕ → Totals
+counts versions markers size locked = record { versions = versions; markers = markers; size = size; locked = locked }
 
 pub record Examples : Type 0 where
   pub in-order : ordered table ≡ true
@@ -64,10 +74,16 @@ pub record Examples : Type 0 where
   pub behind : inQ "r" 0 2 ≡ []
   pub no-key : pageRows (page (bytes "q/6") [] 0 2) table ≡ []
   pub all-rows : pageRows (page [] [] 0 1000) table ≡ table
+  -- the totals of a prefix, and with a row more: locked before its date, and no more at it
+  pub totals-of-q : totalsOf (bytes "q/") 6 table ≡ counts 2 1 0 0
+  pub totals-of-none : totalsOf (bytes "q/6") 6 table ≡ counts 0 0 0 0
+  pub locked-more : withRow 6 (governed 300) (counts 2 1 0 0) ≡ counts 3 1 300 1
+  pub open-more : withRow 7 (governed 300) (counts 2 1 0 0) ≡ counts 3 1 300 0
+  pub marker-more : withRow 6 (gone "q/7" 9) (counts 2 1 0 0) ≡ counts 2 2 0 0
 
 -- each by computing
 pub examples : Examples
-unfolding comesAfter keyPlace placeAfter pageStart prefixEnd pageEnd
+unfolding locked comesAfter keyPlace placeAfter pageStart prefixEnd pageEnd
 examples =
     record {
       in-order = refl;
@@ -93,4 +109,9 @@ examples =
       behind = refl;
       no-key = refl;
       all-rows = refl;
+      totals-of-q = refl;
+      totals-of-none = refl;
+      locked-more = refl;
+      open-more = refl;
+      marker-more = refl;
     }

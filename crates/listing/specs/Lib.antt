@@ -1,3 +1,4 @@
 pub mod Places
+pub mod Totals
 pub mod Ready
 pub mod Examples

@@ -1,4 +1,6 @@
-// LIST: a page of versions, written straight from the lent table into the answer buffer. The definitions are in specs/.
+// LIST and REPORT: a page of a prefix's rows, or their totals, written straight from the lent table into the answer buffer. The definitions are in specs/.
+mod report;
+
 use search::Found;
 ghost use Prim.Native.Nat.{_+_, _-_, _*_, _≤_, min};
 ghost use lib.ListN.{length, take, drop};
@@ -7,12 +9,14 @@ ghost use Rattle.buffers.specs.Writes.{Wrote};
 ghost use Rattle.model.specs.Requests.{page};
 ghost use Rattle.model.specs.Refusals.{rowRoom, pageRoom};
 ghost use Rattle.model.specs.Pages.{pageRows};
+ghost use Rattle.model.specs.Reports.{totalsOf};
+ghost use Rattle.model.specs.Answers.{reported};
 ghost use Rattle.table.specs.Layout.{rowsOf};
-ghost use Rattle.answers.specs.Text.{rowTexts, pageText};
+ghost use Rattle.answers.specs.Text.{longestAnswer, rowTexts, pageText, answerText};
 ghost use Rattle.search.specs.Places.{keyPlace};
 ghost use Rattle.search.specs.Searching.{Searchable};
 ghost use Rattle.listing.specs.Places.{placeAfter, pageStart, pageEnd, Ends};
-ghost use Rattle.listing.specs.Ready.{Listable};
+ghost use Rattle.listing.specs.Ready.{Listable, Reportable};
 
 // The place after a key and a version.
 fn place_after(rows: &[u64], keys: &[u8], used: usize, key: &[u8], version: u64) -> usize
@@ -132,4 +136,23 @@ pub fn write_page(
     let end = page_end(rows, keys, used, prefix, start, count);
     let after_count = answers::write_number(answer, (end - start) as u64);
     write_rows(rows, keys, used, start, end, answer, after_count)
+}
+
+// Writes the totals of a prefix's rows at the answer buffer's start, and returns the answer's length.
+pub fn write_report(
+    rows: &[u64],
+    keys: &[u8],
+    used: usize,
+    prefix: &[u8],
+    instant: u64,
+    answer: &mut [u8],
+) -> usize
+    requires { ⌜ Reportable (now rows) (now keys) used ⌝ }
+    requires { ⌜ longestAnswer ≤ length (now answer) ⌝ }
+    ensures { λ r. ⌜ Wrote (now (answer .entry)) 0 (answerText (reported (totalsOf (now (prefix .entry)) instant (rowsOf (now (rows .entry)) (now (keys .entry)) used)))) longestAnswer (now (answer .exit)) r ⌝ }
+{
+    let start = search::key_place(rows, keys, used, prefix);
+    let end = page_end(rows, keys, used, prefix, start, used);
+    let t = report::totals_between(rows, start, end, instant);
+    answers::write_totals(answer, t)
 }

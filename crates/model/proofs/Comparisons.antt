@@ -12,7 +12,7 @@ use Rattle.buffers.specs.Choices.{pick}
 use Rattle.buffers.specs.Lists.{keep, all, any, same}
 use Rattle.buffers.specs.Texts.{bytes}
 use Rattle.buffers.proofs.Tests.{either, clash, and-l, and-r, or-l, or-r, or-one, or-none}
-use Rattle.buffers.proofs.Lists.{same-refl, same-path}
+use Rattle.buffers.proofs.Lists.{keep-most, same-refl, same-path}
 use Rattle.model.specs.Rows.{Row, before, ahead, ordered}
 use Rattle.model.specs.Settings.{Rule, absentRule}
 use Rattle.model.specs.Comparisons.{rowKeys, isAmong, different, comparisons, allDiffer, Different}
@@ -48,15 +48,6 @@ different-are ks = record { same-keys = different-same ks; once = different-once
 -- ## As many, whatever the order
 
 module _ {A : Type 0} (p : A → Bool) where
-  -- A list is no shorter than what a test keeps of it.
-  keep-most : (xs : List A) → length (keep p xs) ≤ length xs
-  keep-most [] = omega arith
-  keep-most (x ∷ xs) =
-      elim (either (p x)) [
-        | inl t ↦ rw t (omega (arith, keep-most xs))
-        | inr t ↦ rw t (omega (arith, keep-most xs))
-      ]
-
   -- What passes a test is there still where a wider one keeps.
   any-keep : (q : A → Bool) → ((x : A) → p x ≡ true → q x ≡ true) → (xs : List A) → any p xs ≡ true → any p (keep q xs) ≡ true
   any-keep q f [] e = e

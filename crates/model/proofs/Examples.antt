@@ -5,19 +5,19 @@ use mathlib.Core.Bool.{Bool, true, false}
 use mathlib.Core.List.{List, [], _∷_}
 use mathlib.Core.Option.{Option, some, none}
 use lib.Dec.{lit<}
-use lib.ListN.{take}
+use lib.ListN.{take, drop}
 use Rattle.buffers.specs.Texts.{bytes}
 use Rattle.text.specs.Keys.{isKeyByte, isKey, isPrefix}
 use Rattle.calendar.specs.Calendar.{day}
 use Rattle.calendar.specs.Periods.{periodEnd, expiresAt}
 use Rattle.model.specs.Rows.{governance, compliance, soundRow}
 use Rattle.model.specs.Settings.{fresh, days, soundRules, soundConfig, fits, sound}
-use Rattle.model.specs.Requests.{Rights, Version, numbered, name, noRetention, Terms, DefaultRetention, LifecycleRule, Get, Verb, Put, Copy, Retain, AddMarker, DeleteVersion, Set, Sweep, Ask, Heard, says, inRange}
+use Rattle.model.specs.Requests.{Rights, Version, numbered, name, noRetention, Terms, DefaultRetention, LifecycleRule, Get, Report, Verb, Put, Copy, Retain, AddMarker, DeleteVersion, Set, Sweep, Ask, Heard, says, inRange}
 use Rattle.model.specs.Time.{defaultEnd}
 use Rattle.model.specs.Locks.{locked, admits}
 use Rattle.model.specs.Effects.{added, removed as rowsRemoved, rowsAfter, setConfig, configAfter}
 use Rattle.model.specs.Refusals.{halfGiven, needs, granted, lacksRight, shortForPage, pastDate, missing, namesMarker, barred, tooLate, spends, full, refusal}
-use Rattle.model.specs.Answers.{done, made, repeated, marked, removed, sweptCounts, shown, reply}
+use Rattle.model.specs.Answers.{done, made, repeated, marked, removed, sweptCounts, shown, reported, reply}
 use Rattle.model.specs.Run.{Reply, no, ok, replies, run, lineEvents}
 use Rattle.model.specs.LockClause.{Held, InCompliance, InGovernance, OnHold}
 use Rattle.model.proofs.LockClause.{lock-clause}
@@ -109,6 +109,22 @@ repliesAgain body size = replies 1 fresh (line 1 (Put key 41 300 plain) ∷ line
 abbrev sentAfter : Verb → List Reply
 sentAfter v = replies 4 fresh (line 1 (Put key 41 300 plain) ∷ line 2 v ∷ line 3 (Put key 41 300 plain) ∷ [])
 
+-- ## REPORT
+
+-- The last reply: under `q/` stand a version in COMPLIANCE until D, a marker and a file on hold; REPORT of `q/` comes at t.
+abbrev reportAt : ℕ → List Reply
+reportAt t =
+    drop 4 (replies 4 fresh
+    (putUntil
+    ∷ line 2 (AddMarker key false)
+    ∷ line 3 (Put (bytes "q/8") 42 301 (record { retention = noRetention; hold = some true }))
+    ∷ line 3 (Put (bytes "r") 43 302 plain)
+    ∷ line t (Ask (Report (bytes "q/")))
+    ∷ []))
+
+abbrev totalling : ℕ → List Reply
+totalling n = ok (reported (record { versions = 2; markers = 1; size = 601; locked = n })) ∷ []
+
 -- ## The lock clause at lists of lines
 
 -- After a DELETE that is refused and a marker, version 1, under COMPLIANCE by the default, is still held.
@@ -157,6 +173,8 @@ pub record Examples : Type 0 where
   pub marker-on-top : sentAfter (AddMarker key false) ≡ ok (made (numbered 1)) ∷ ok (marked (numbered 2)) ∷ ok (made (numbered 3)) ∷ []
   pub other-on-top : sentAfter (Put key 42 300 plain) ≡ ok (made (numbered 1)) ∷ ok (made (numbered 2)) ∷ ok (made (numbered 3)) ∷ []
   pub copied-on-top : sentAfter (Copy (name key none) key plain) ≡ ok (made (numbered 1)) ∷ ok (made (numbered 2)) ∷ ok (repeated (numbered 2)) ∷ []
+  pub before-its-date : reportAt (D - 1) ≡ totalling 2
+  pub on-its-date : reportAt D ≡ totalling 1
   pub compliance-held : Held (run 1024 fresh four) (lineEvents 1024 fresh four) 1 (InCompliance 1709337600000)
   pub governance-held : Held (run 1 fresh governed) (lineEvents 1 fresh governed) 1 (InGovernance D)
   pub hold-held : Held (run 1 fresh on-hold) (lineEvents 1 fresh on-hold) 1 OnHold
@@ -179,6 +197,8 @@ examples =
       marker-on-top = refl;
       other-on-top = refl;
       copied-on-top = refl;
+      before-its-date = refl;
+      on-its-date = refl;
       compliance-held = (lock-clause 1024 four) .inCompliance (_ ∷ []) (_ ∷ []) _ 1 1709337600000 refl refl (lit< tt);
       governance-held = (lock-clause 1 governed) .inGovernance [] (_ ∷ []) _ 1 D refl refl refl (lit< tt);
       hold-held = (lock-clause 1 on-hold) .onHold [] [] _ 1 refl refl refl;

@@ -13,7 +13,7 @@ use Rattle.buffers.proofs.Tests.{either}
 use Rattle.calendar.specs.declared.Now.{Now}
 use Rattle.model.specs.Rows.{Row, isMarker}
 use Rattle.model.specs.Settings.{Bucket, fresh}
-use Rattle.model.specs.Requests.{Version, Name, name, Terms, Get, ListVersions, Repeat, Verb, Put, Copy, Retain, Hold, AddMarker, DeleteVersion, Set, Sweep, Ask, Context, Request}
+use Rattle.model.specs.Requests.{Version, Name, name, Terms, Get, ListVersions, Report, Repeat, Verb, Put, Copy, Retain, Hold, AddMarker, DeleteVersion, Set, Sweep, Ask, Context, Request}
 use Rattle.model.specs.Time.{nowOf}
 use Rattle.model.specs.Effects.{rowOf, setRetention, setHold, holdNumber, newRow, added, rowsAfter, after}
 use Rattle.model.specs.Refusals.{missing, namesMarker}
@@ -195,6 +195,7 @@ not-made b g (Set s) v l = refl
 not-made b g Sweep v l = refl
 not-made b g (Ask (Get n)) v l = shown-answers (rowOf (b .rows) n) v
 not-made b g (Ask (ListVersions p)) v l = refl
+not-made b g (Ask (Report prefix)) v l = refl
 not-made b g (Ask (Repeat u)) v l = refl
 
 -- What a line leaves of a known row is known.

@@ -7,14 +7,14 @@ use mathlib.Core.List.{List, [], _∷_}
 use mathlib.Core.Option.{Option, some, none}
 use native.Mathlib.Omega.{arith}
 use lib.ListN.{length, length-append}
-use Rattle.buffers.specs.Lists.{all, keep, first, change}
+use Rattle.buffers.specs.Lists.{all, keep, first, change, total}
 use Rattle.buffers.proofs.Tests.{either, and-l, and-r}
 use Rattle.buffers.proofs.Lists.{keep-every, all-first}
 use Rattle.calendar.specs.declared.Now.{Now}
 use Rattle.model.specs.Rows.{Row, before, ahead, ordered}
 use Rattle.model.specs.Settings.{Rule, Bucket}
 use Rattle.model.specs.Requests.{name, Verb, Put, Copy, Retain, Hold, AddMarker, DeleteVersion, Set, Sweep, Ask}
-use Rattle.model.specs.Sweep.{Fate, stays, goes, gains, inPlace, marks, removes, fates, total, carriedOut, swept, counted}
+use Rattle.model.specs.Sweep.{Fate, stays, goes, gains, inPlace, marks, removes, fates, carriedOut, swept, counted}
 use Rattle.model.specs.Effects.{rowOf, sameVersion, isNamed, insertByKey, added, removed, rowsAfter}
 use Rattle.model.specs.Refusals.{missing}
 use Rattle.model.proofs.Sweeping.{each-fate}

@@ -69,6 +69,18 @@ row-data n t x e k =
       | inr a ↦ absurd (clash (isMarker x) (and-l _ _ (rw a at (s .rest))) k)
     ]
 
+-- One that is no data is a marker.
+pub row-marker : (n t : ℕ) (x : Row) → soundRow n t x ≡ true → isData x ≡ false → x .kind ≡ 2
+row-marker n t x e d = eqb-true (x .kind) 2 (and-l _ _ (rw d at ((row-parts n t x e) .rest)))
+
+-- No row is longer than the largest length.
+pub row-size : (n t : ℕ) (x : Row) → soundRow n t x ≡ true → x .size ≤ largestSize
+row-size n t x e =
+    elim (either (isData x)) [
+      | inl d ↦ leb-true (x .size) largestSize (and-l _ _ (and-r (ltb (x .body) bodies) _ (rw d at ((row-parts n t x e) .rest))))
+      | inr d ↦ omega (arith, eqb-true (x .size) 0 (and-l _ _ (and-r (eqb (x .body) 0) _ (and-r (isMarker x) _ (rw d at ((row-parts n t x e) .rest))))))
+    ]
+
 pub sound-key : (n t : ℕ) (x : Row) → soundRow n t x ≡ true → isKey (x .key) ≡ true
 sound-key n t x e = (row-parts n t x e) .key-fits
 

@@ -11,14 +11,14 @@ use lib.Dec.{ltb}
 use lib.ListN.{length}
 use borrow.Author.Tests.{ltb-true, lt-ltb}
 use Rattle.buffers.specs.Choices.{pick}
-use Rattle.buffers.specs.Lists.{all, same}
+use Rattle.buffers.specs.Lists.{all, same, total}
 use Rattle.buffers.proofs.Tests.{either, clash, and-i, and-l, and-r, or-l, or-r, or-one}
 use Rattle.buffers.proofs.Lists.{same-path, same-refl, all-as, all-append}
 use Rattle.calendar.specs.declared.Now.{Now}
 use Rattle.model.specs.Rows.{Row, before, ahead, ordered}
 use Rattle.model.specs.Settings.{Rule}
 use Rattle.model.specs.Locks.{locked}
-use Rattle.model.specs.Sweep.{marker, applying, due, Fate, stays, goes, gains, fate, inPlace, marks, fates, total, carriedOut, swept, counted}
+use Rattle.model.specs.Sweep.{marker, applying, due, Fate, stays, goes, gains, fate, inPlace, marks, fates, carriedOut, swept, counted}
 use Rattle.model.proofs.Order.{before-trans, ahead-trans}
 
 -- ## One part of the table after the other

@@ -8,9 +8,10 @@ use Rattle.buffers.specs.Choices.{pick, thenSome}
 use Rattle.calendar.specs.declared.Now.{Now}
 use Rattle.model.specs.Rows.{Row, isMarker}
 use Rattle.model.specs.Settings.{Bucket}
-use Rattle.model.specs.Requests.{Rights, Version, numbered, name, Get, ListVersions, Repeat, Verb, Put, Copy, Retain, Hold, AddMarker, DeleteVersion, Set, Sweep, Ask, Request}
+use Rattle.model.specs.Requests.{Rights, Version, numbered, name, Get, ListVersions, Report, Repeat, Verb, Put, Copy, Retain, Hold, AddMarker, DeleteVersion, Set, Sweep, Ask, Request}
 use Rattle.model.specs.Time.{nowOf}
 use Rattle.model.specs.Pages.{pageRows}
+use Rattle.model.specs.Reports.{Totals, totalsOf}
 use Rattle.model.specs.Effects.{rowOf, added}
 use Rattle.model.specs.Effects.{removed as rowsRemoved}
 
@@ -31,6 +32,8 @@ pub data Answer : Type 0 where
   shown : Row → Answer
   -- LIST: the rows
   listed : List Row → Answer
+  -- REPORT: the totals
+  reported : Totals → Answer
 
 -- How answers name the row that the line adds.
 abbrev pub newVersion : Bucket → Version
@@ -48,6 +51,7 @@ reply b now who (Set s) = done
 reply b now who Sweep = sweptCounts (rowsRemoved b now Sweep) (added b now Sweep)
 reply b now who (Ask (Get n)) = thenSome (rowOf (b .rows) n) done (λ x. shown x)
 reply b now who (Ask (ListVersions p)) = listed (pageRows p (b .rows))
+reply b now who (Ask (Report prefix)) = reported (totalsOf prefix (now .judge) (b .rows))
 reply b now who (Ask (Repeat v)) = repeated v
 
 abbrev pub answerTo : Bucket → Request → Answer
@@ -64,3 +68,4 @@ givesNumber v (removedMarker n) = false
 givesNumber v (sweptCounts g n) = false
 givesNumber v (shown x) = false
 givesNumber v (listed xs) = false
+givesNumber v (reported t) = false

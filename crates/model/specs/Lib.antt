@@ -5,6 +5,7 @@ pub mod Requests
 pub mod Pages
 pub mod Time
 pub mod Locks
+pub mod Reports
 pub mod Sweep
 pub mod Effects
 pub mod Expiry

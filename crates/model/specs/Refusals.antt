@@ -11,7 +11,7 @@ use Rattle.calendar.specs.declared.Now.{Now}
 use Rattle.calendar.specs.Calendar.{latest}
 use Rattle.model.specs.Rows.{Row, isMarker}
 use Rattle.model.specs.Settings.{Config, Bucket, hasDefault, spentNumber, fits, sound}
-use Rattle.model.specs.Requests.{Letter, reading, writing, deleting, retaining, holding, bypassing, configuring, Rights, has, Retention, Terms, Setting, DefaultRetention, LifecycleRule, Get, ListVersions, Repeat, Verb, Put, Copy, Retain, Hold, AddMarker, DeleteVersion, Set, Sweep, Ask, Context, Heard, unreadable, says, roomOf, nameOf, pageOf, termsOf, retentionOf, settingOf, inRange}
+use Rattle.model.specs.Requests.{Letter, reading, writing, deleting, retaining, holding, bypassing, configuring, Rights, has, Retention, Terms, Setting, DefaultRetention, LifecycleRule, Get, ListVersions, Report, Repeat, Verb, Put, Copy, Retain, Hold, AddMarker, DeleteVersion, Set, Sweep, Ask, Context, Heard, unreadable, says, roomOf, nameOf, pageOf, termsOf, retentionOf, settingOf, inRange}
 use Rattle.model.specs.Time.{nowOf, defaultEnd}
 use Rattle.model.specs.Locks.{locked, admits}
 use Rattle.model.specs.Effects.{rowOf, added, rowsAfter}
@@ -74,6 +74,7 @@ needs (Set s) = need configuring [] ∷ []
 needs Sweep = need configuring [] ∷ []
 needs (Ask (Get n)) = need reading (n .key) ∷ []
 needs (Ask (ListVersions p)) = need reading [] ∷ []
+needs (Ask (Report prefix)) = need reading [] ∷ []
 needs (Ask (Repeat v)) = []
 
 -- The letter is held for the key.

@@ -87,6 +87,7 @@ largestCount = 1000
 pub data Query : Type 0 where
   Get : Name → Query
   ListVersions : Page → Query
+  Report : (prefix : List ℕ) → Query
   -- for a version's number once more: no line says it, but a PUT that is a retry means it
   Repeat : Version → Query
 
@@ -140,6 +141,7 @@ nameOf (Set s) = none
 nameOf Sweep = none
 nameOf (Ask (Get n)) = some n
 nameOf (Ask (ListVersions p)) = none
+nameOf (Ask (Report prefix)) = none
 nameOf (Ask (Repeat v)) = none
 
 -- The page that LIST asks for.
@@ -154,6 +156,7 @@ pageOf (Set s) = none
 pageOf Sweep = none
 pageOf (Ask (Get n)) = none
 pageOf (Ask (ListVersions p)) = some p
+pageOf (Ask (Report prefix)) = none
 pageOf (Ask (Repeat v)) = none
 
 -- The lock fields of a PUT or COPY.
@@ -251,4 +254,5 @@ inRange (Set s) = isSetting s
 inRange Sweep = true
 inRange (Ask (Get n)) = isName n
 inRange (Ask (ListVersions p)) = isPage p
+inRange (Ask (Report prefix)) = isPrefix prefix
 inRange (Ask (Repeat v)) = true

@@ -5,7 +5,7 @@ use mathlib.Core.List.{List, [], _∷_, _++_}
 use mathlib.Core.Option.{Option, some, none}
 use lib.Dec.{eqb, leb}
 use Rattle.buffers.specs.Choices.{pick}
-use Rattle.buffers.specs.Lists.{keep, any, same, begins}
+use Rattle.buffers.specs.Lists.{keep, any, same, begins, total}
 use Rattle.calendar.specs.declared.Now.{Now}
 use Rattle.calendar.specs.Periods.{expiresAt}
 use Rattle.model.specs.Rows.{Row, isData}
@@ -63,11 +63,6 @@ removes gains = 0
 abbrev pub fates : List Rule → ℕ → Option Row → List Row → List Fate
 fates rules now y [] = []
 fates rules now y (x ∷ xs) = fate rules now y x ∷ fates rules now (some x) xs
-
--- How many the fates count: markers added, rows removed.
-abbrev pub total : (Fate → ℕ) → List Fate → ℕ
-total of [] = 0
-total of (f ∷ fs) = of f + total of fs
 
 -- The rows that the fates leave; markers are numbered from n on, in key order.
 abbrev pub carriedOut : ℕ → ℕ → List Fate → List Row → List Row

@@ -1,4 +1,4 @@
--- What a readable line with the word LIST asks for, by its fields.
+-- What a readable line with the word LIST or REPORT asks for, by its fields.
 use Prim.Native.Nat.{ℕ}
 use mathlib.Core.Path.{_≡_}
 use mathlib.Core.List.{List}
@@ -15,9 +15,9 @@ use Rattle.model.specs.Requests.{page, largestCount}
 use Rattle.fields.specs.Fields.{readPrefix}
 use Rattle.request.specs.declared.Verb.{Verb}
 use Rattle.request.specs.declared.Verb.the-variants.{Ask}
-use Rattle.request.specs.declared.Query.the-variants.{ListVersions}
+use Rattle.request.specs.declared.Query.the-variants.{ListVersions, Report}
 use Rattle.request.specs.Meaning.{verbMeans}
-use Rattle.request.specs.Grammar.{listOf, otherByWord, verbByWord, Said, readLine}
+use Rattle.request.specs.Grammar.{listOf, reportOf, queryByWord, otherByWord, verbByWord, Said, readLine}
 use Rattle.request.proofs.Ranges.{Passes, ways, prefix-field}
 use Rattle.request.proofs.Words.{line-asks}
 
@@ -51,9 +51,17 @@ module _ (s : List ℕ) where
 
   -- The word LIST leads to its reader.
   list-word : fieldOf s 2 ≡ bytes "LIST" → verbByWord (fieldOf s 2) s ≡ listOf s
-  unfolding verbByWord otherByWord
+  unfolding verbByWord queryByWord otherByWord
   list-word e = rw e
 
   -- A readable line with the word LIST asks for a page.
   pub asks-page : (q : Said) → fieldOf s 2 ≡ bytes "LIST" → readLine s ≡ some q → AsksPage (q .verb)
   asks-page q e = line-asks s AsksPage (listOf s) (list-word e) list-asks q
+
+  -- One with the word REPORT asks for the totals of the prefix in field 3.
+  pub asks-report : (q : Said) → fieldOf s 2 ≡ bytes "REPORT" → readLine s ≡ some q → q .verb ≡ model.Ask (model.Report (fieldOf s 3))
+  unfolding verbByWord queryByWord otherByWord reportOf
+  asks-report q e = line-asks s (λ v. v ≡ model.Ask (model.Report (fieldOf s 3))) (reportOf s) (rw e) (search (ways, asks) depth 16) q
+    where
+      asks : (p : Place) → readPrefix s 3 ≡ some p → verbMeans s (Ask (Report p)) ≡ model.Ask (model.Report (fieldOf s 3))
+      asks p ep = rw (prefix-field s 3 p ep)

@@ -39,7 +39,7 @@ use Rattle.request.specs.declared.Verb.the-variants.{Act, Ask}
 use Rattle.request.specs.declared.Query.the-variants.{ListVersions}
 use Rattle.request.specs.declared.Request.{Request}
 use Rattle.request.specs.Meaning.{nameMeans, verbMeans, VerbInside}
-use Rattle.request.specs.Grammar.{nameAt, retentionAt, termsAt, putOf, copyOf, retainOf, setHoldOf, deletes, deleteOf, defaultOf, ruleOf, sweepOf, getOf, namesPlace, listOf, otherByWord, verbByWord, requestIn, Said, readLine}
+use Rattle.request.specs.Grammar.{nameAt, retentionAt, termsAt, putOf, copyOf, retainOf, setHoldOf, deletes, deleteOf, defaultOf, ruleOf, sweepOf, getOf, namesPlace, listOf, reportOf, queryByWord, otherByWord, verbByWord, requestIn, Said, readLine}
 
 -- this holds of whatever is read
 pub record Passes (A : Type 0) (P : A → Type 0) (w : Option A) : Type 0 where
@@ -264,9 +264,17 @@ module _ (s : List ℕ) where
   unfolding listOf inRange
   list-passes = search (ways, ranges, count-in, page-stands) depth 16
 
+  report-passes : Passes Verb (Stands s) (reportOf s)
+  unfolding reportOf inRange
+  report-passes = search (ways, ranges) depth 16
+
+  query-passes : (w : List ℕ) → Passes Verb (Stands s) (queryByWord w s)
+  unfolding queryByWord
+  query-passes w = search (pass-pick, pass-none, get-passes, list-passes, report-passes) depth 12
+
   other-passes : (w : List ℕ) → Passes Verb (Stands s) (otherByWord w s)
   unfolding otherByWord
-  other-passes w = search (pass-pick, pass-none, default-passes, rule-passes, sweep-passes, get-passes, list-passes) depth 14
+  other-passes w = search (pass-pick, default-passes, rule-passes, sweep-passes, query-passes) depth 12
 
   verb-passes : (w : List ℕ) → Passes Verb (Stands s) (verbByWord w s)
   unfolding verbByWord

@@ -32,7 +32,7 @@ use Rattle.request.specs.declared.Action.{Action}
 use Rattle.request.specs.declared.Action.the-variants.{Put, Copy, Retain, SetHold, AddMarker, DeleteVersion}
 use Rattle.request.specs.declared.Request.{Request}
 use Rattle.request.specs.Meaning.{nameMeans, actionMeans, verbMeans}
-use Rattle.request.specs.Grammar.{nameAt, retentionAt, termsAt, putOf, copyOf, retainOf, setHoldOf, deleteOf, defaultOf, ruleOf, sweepOf, getOf, listOf, otherByWord, verbByWord, requestIn, Said, readLine}
+use Rattle.request.specs.Grammar.{nameAt, retentionAt, termsAt, putOf, copyOf, retainOf, setHoldOf, deleteOf, defaultOf, ruleOf, sweepOf, getOf, listOf, reportOf, queryByWord, otherByWord, verbByWord, requestIn, Said, readLine}
 use Rattle.request.proofs.Ranges.{Passes, ways, key-field}
 
 -- What holds of every verb that a word's reader gives, holds of the verb of a readable line with that word.
@@ -131,7 +131,7 @@ module _ (s : List ℕ) where
 
   -- One with GET and `-` as its version asks for the current row of the key in field 3.
   pub asks-current : (q : Said) → fieldOf s 2 ≡ bytes "GET" → fieldOf s 4 ≡ dash → readLine s ≡ some q → q .verb ≡ model.Ask (model.Get (model.name (fieldOf s 3) none))
-  unfolding verbByWord otherByWord getOf
+  unfolding verbByWord queryByWord otherByWord getOf
   asks-current q e d = line-asks s (λ v. v ≡ model.Ask (model.Get (model.name (fieldOf s 3) none))) (getOf s) (rw e) (search (ways, current) depth 16) q
     where
       current : (n : Name) → nameAt s 3 4 ≡ some n → verbMeans s (Ask (Get n)) ≡ model.Ask (model.Get (model.name (fieldOf s 3) none))
@@ -139,7 +139,7 @@ module _ (s : List ℕ) where
 
   -- One with the word SWEEP asks for that.
   pub asks-sweep : (q : Said) → fieldOf s 2 ≡ bytes "SWEEP" → readLine s ≡ some q → q .verb ≡ model.Sweep
-  unfolding verbByWord otherByWord sweepOf
+  unfolding verbByWord queryByWord otherByWord sweepOf
   asks-sweep q e = line-asks s (λ v. v ≡ model.Sweep) (sweepOf s) (rw e) (search ways depth 16) q
 
   -- where the verb is SWEEP, that is the word
@@ -167,7 +167,7 @@ module _ (s : List ℕ) where
   sweep-says e _ = same-path (fieldOf s 2) (bytes "SWEEP") e
 
   other-says : Passes Verb (λ v. SaysSweep (verbMeans s v)) (otherByWord (fieldOf s 2) s)
-  unfolding otherByWord defaultOf ruleOf sweepOf getOf listOf
+  unfolding queryByWord otherByWord defaultOf ruleOf sweepOf getOf listOf reportOf
   other-says = search (ways, setting-says, query-says, sweep-says) depth 24
 
   verb-says : Passes Verb (λ v. SaysSweep (verbMeans s v)) (verbByWord (fieldOf s 2) s)

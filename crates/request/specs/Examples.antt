@@ -15,7 +15,7 @@ use Rattle.calendar.specs.Calendar.{leap, yearsLength, monthStart, monthLength,
 use Rattle.dates.specs.Reading.{digitOf, twoDigits, fourDigits, dayNumber, dayAt, secondOfDay, secondAt, fractionDigit, milliseconds, fractionOf, readDate}
 use Rattle.model.specs.Rows.{compliance}
 use Rattle.model.specs.Settings.{days}
-use Rattle.model.specs.Requests.{Rights, numbered, name, noRetention, Verb, Put, AddMarker, DeleteVersion, Set, DefaultRetention, Ask, Get, page, ListVersions}
+use Rattle.model.specs.Requests.{Rights, numbered, name, noRetention, Verb, Put, AddMarker, DeleteVersion, Set, DefaultRetention, Ask, Get, page, ListVersions, Report}
 use Rattle.fields.specs.Fields.{rightsIn, readRights, readKey, readPrefix, readVersion, readMode, readUntil, readHold, readBypass, readPeriod}
 use Rattle.fields.specs.declared.Version.the-variants.{Current}
 use Rattle.fields.specs.declared.Mode.the-variants as mode
@@ -24,7 +24,7 @@ use Rattle.fields.specs.declared.Hold.the-variants as hold
 use Rattle.fields.specs.declared.Terms.{Terms}
 use Rattle.request.specs.declared.Action.the-variants.{Copy}
 use Rattle.request.specs.declared.Verb.the-variants.{Act}
-use Rattle.request.specs.Grammar.{nameAt, retentionAt, termsAt, putOf, copyOf, deleteOf, defaultOf, getOf, namesPlace, listOf, otherByWord, verbByWord, requestIn, Said, readLine}
+use Rattle.request.specs.Grammar.{nameAt, retentionAt, termsAt, putOf, copyOf, deleteOf, defaultOf, getOf, namesPlace, listOf, reportOf, queryByWord, otherByWord, verbByWord, requestIn, Said, readLine}
 
 -- the bytes of a text in which `|` stands for a tab
 abbrev withTabs : List ℕ → List ℕ
@@ -78,7 +78,12 @@ pub record Examples : Type 0 where
   pub listFirst : readLine (withTabs (bytes "2024-03-01T00:00:00Z|r|LIST|q/||0|1000")) ≡ asks 1709251200000 reader (Ask (ListVersions (page (bytes "q/") [] 0 1000)))
   pub listNext : readLine (withTabs (bytes "2024-03-01T00:00:00Z|r|LIST||q/7|4294967295|1")) ≡ asks 1709251200000 reader (Ask (ListVersions (page [] (bytes "q/7") 4294967295 1)))
   pub listDashes : readLine (withTabs (bytes "2024-03-01T00:00:00Z|r|LIST|-|-|0|1")) ≡ asks 1709251200000 reader (Ask (ListVersions (page (bytes "-") (bytes "-") 0 1)))
+  -- totals of a prefix, and of all rows
+  pub report : readLine (withTabs (bytes "2024-03-01T00:00:00Z|r|REPORT|q/")) ≡ asks 1709251200000 reader (Ask (Report (bytes "q/")))
+  pub reportAll : readLine (withTabs (bytes "2024-03-01T00:00:00Z|r|REPORT|")) ≡ asks 1709251200000 reader (Ask (Report []))
   -- can't be read
+  pub reportBare : readLine (withTabs (bytes "2024-03-01T00:00:00Z|r|REPORT")) ≡ none
+  pub reportTwo : readLine (withTabs (bytes "2024-03-01T00:00:00Z|r|REPORT|q/|r/")) ≡ none
   pub emptyKeyVersion : readLine (withTabs (bytes "2024-03-01T00:00:00Z|r|LIST|q/||1|10")) ≡ none
   pub versionDash : readLine (withTabs (bytes "2024-03-01T00:00:00Z|r|LIST|q/|q/7|-|10")) ≡ none
   pub countZero : readLine (withTabs (bytes "2024-03-01T00:00:00Z|r|LIST|q/||0|0")) ≡ none
@@ -95,7 +100,7 @@ pub record Examples : Type 0 where
 
 -- each by computing
 pub examples : Examples
-unfolding isDigit leadingZero numberOf positiveOf fieldOf placeOf isKeyByte isPrefix isKey leap yearsLength monthStart monthLength validDay daysOf digitOf twoDigits fourDigits dayNumber dayAt secondOfDay secondAt fractionDigit milliseconds fractionOf readDate rightsIn readRights readKey readPrefix readVersion readMode readUntil readHold readBypass readPeriod nameAt retentionAt termsAt putOf copyOf deleteOf defaultOf getOf namesPlace listOf otherByWord verbByWord requestIn readLine
+unfolding isDigit leadingZero numberOf positiveOf fieldOf placeOf isKeyByte isPrefix isKey leap yearsLength monthStart monthLength validDay daysOf digitOf twoDigits fourDigits dayNumber dayAt secondOfDay secondAt fractionDigit milliseconds fractionOf readDate rightsIn readRights readKey readPrefix readVersion readMode readUntil readHold readBypass readPeriod nameAt retentionAt termsAt putOf copyOf deleteOf defaultOf getOf namesPlace listOf reportOf queryByWord otherByWord verbByWord requestIn readLine
 examples =
     record {
       default = refl;
@@ -109,6 +114,10 @@ examples =
       listFirst = refl;
       listNext = refl;
       listDashes = refl;
+      report = refl;
+      reportAll = refl;
+      reportBare = refl;
+      reportTwo = refl;
       emptyKeyVersion = refl;
       versionDash = refl;
       countZero = refl;

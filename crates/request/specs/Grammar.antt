@@ -26,7 +26,7 @@ use Rattle.request.specs.declared.Name.{Name}
 use Rattle.request.specs.declared.Action.{Action}
 use Rattle.request.specs.declared.Action.the-variants.{Put, Copy, Retain, SetHold, AddMarker, DeleteVersion}
 use Rattle.request.specs.declared.Setting.the-variants.{Default, Rule}
-use Rattle.request.specs.declared.Query.the-variants.{Get, ListVersions}
+use Rattle.request.specs.declared.Query.the-variants.{Get, ListVersions, Report}
 use Rattle.request.specs.declared.Verb.{Verb}
 use Rattle.request.specs.declared.Verb.the-variants.{Act, Set, Sweep, Ask}
 use Rattle.request.specs.declared.Request.{Request}
@@ -146,14 +146,24 @@ listOf s =
     pick (namesPlace k v) (some (Ask (ListVersions (record { prefix = p; key = k; version = v; count = n })))) none)))))
     none
 
--- DEFAULT, RULE, SWEEP, GET and LIST by their word
+-- REPORT prefix
+unfoldable pub reportOf : List ℕ → Option Verb
+reportOf s = pick (eqb (tabsIn s) 3) (thenSome (readPrefix s 3) none (λ p. some (Ask (Report p)))) none
+
+-- GET, LIST and REPORT by their word
+unfoldable pub queryByWord : List ℕ → List ℕ → Option Verb
+queryByWord w s =
+    pick (same w (bytes "GET")) (getOf s)
+    (pick (same w (bytes "LIST")) (listOf s)
+    (pick (same w (bytes "REPORT")) (reportOf s) none))
+
+-- DEFAULT, RULE, SWEEP and the verbs that ask by their word
 unfoldable pub otherByWord : List ℕ → List ℕ → Option Verb
 otherByWord w s =
     pick (same w (bytes "DEFAULT")) (defaultOf s)
     (pick (same w (bytes "RULE")) (ruleOf s)
     (pick (same w (bytes "SWEEP")) (sweepOf s)
-    (pick (same w (bytes "GET")) (getOf s)
-    (pick (same w (bytes "LIST")) (listOf s) none))))
+    (queryByWord w s)))
 
 -- the verb by its word
 unfoldable pub verbByWord : List ℕ → List ℕ → Option Verb

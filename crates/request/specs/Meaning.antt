@@ -24,7 +24,7 @@ use Rattle.request.specs.declared.LineRead.{LineRead}
 use Rattle.request.specs.declared.LineRead.the-variants as line-read
 use Rattle.request.specs.declared.Page.{Page}
 use Rattle.request.specs.declared.Query.{Query}
-use Rattle.request.specs.declared.Query.the-variants.{Get, ListVersions}
+use Rattle.request.specs.declared.Query.the-variants.{Get, ListVersions, Report}
 use Rattle.fields.specs.declared.Retention.{Retention}
 use Rattle.fields.specs.declared.Terms.{Terms}
 use Rattle.fields.specs.Meaning.{modeMeans, retentionMeans, termsMeans, versionMeans, periodMeans, Inside}
@@ -53,10 +53,11 @@ settingMeans s (Rule i p current noncurrent) = model.LifecycleRule i (record { p
 abbrev pub pageMeans : List ℕ → Page → model.Page
 pageMeans s p = model.page (partOf s (p .prefix)) (partOf s (p .key)) (p .version) (p .count)
 
--- GET or LIST
+-- GET, LIST or REPORT
 abbrev pub queryMeans : List ℕ → Query → model.Query
 queryMeans s (Get n) = model.Get (nameMeans s n)
 queryMeans s (ListVersions p) = model.ListVersions (pageMeans s p)
+queryMeans s (Report p) = model.Report (partOf s p)
 
 -- a verb with its fields
 abbrev pub verbMeans : List ℕ → Verb → model.Verb
@@ -113,10 +114,11 @@ pub record PageInside (s : List ℕ) (p : Page) : Type 0 where
   pub prefix : Inside s (p .prefix)
   pub key : Inside s (p .key)
 
--- and the key that a GET names
+-- and the key or prefix of what asks
 abbrev pub QueryInside : List ℕ → Query → Type 0
 QueryInside s (Get n) = Inside s (n .key)
 QueryInside s (ListVersions p) = PageInside s p
+QueryInside s (Report p) = Inside s p
 
 -- so does every key and prefix of the verb
 abbrev pub VerbInside : List ℕ → Verb → Type 0

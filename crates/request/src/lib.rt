@@ -58,6 +58,8 @@ pub struct Page {
 pub enum Query {
     Get(Name),
     ListVersions(Page),
+    // prefix
+    Report(Place),
 }
 
 pub enum Verb {

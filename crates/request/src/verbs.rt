@@ -25,7 +25,7 @@ ghost use mathlib.Core.Path.{_≡_};
 ghost use Prim.Native.Nat.{_<_};
 ghost use Rattle.text.specs.Fields.{fieldOf, Split};
 ghost use Rattle.text.specs.Numbers.{valueOf, numberOf};
-ghost use Rattle.request.specs.Grammar.{nameAt, retentionAt, termsAt, putOf, copyOf, retainOf, setHoldOf, deleteOf, defaultOf, ruleOf, sweepOf, getOf, namesPlace, listOf, otherByWord, verbByWord};
+ghost use Rattle.request.specs.Grammar.{nameAt, retentionAt, termsAt, putOf, copyOf, retainOf, setHoldOf, deleteOf, defaultOf, ruleOf, sweepOf, getOf, namesPlace, listOf, reportOf, queryByWord, otherByWord, verbByWord};
 ghost use Rattle.request.specs.Meaning.{nameFrom, retentionFrom, termsFrom, verbFrom};
 
 // The largest body number.
@@ -297,7 +297,38 @@ fn read_list(line: &[u8], marks: &[usize]) -> VerbRead
     VerbRead::Bad
 }
 
-// DEFAULT, RULE, SWEEP, GET and LIST by their word.
+// REPORT prefix.
+fn read_report(line: &[u8], marks: &[usize]) -> VerbRead
+    requires { ⌜ Split (now line) (now marks) ⌝ }
+    ensures { λ r. ⌜ verbFrom r ≡ reportOf (now (line .entry)) ⌝ }
+{
+    if text::tabs(line, marks) != 3 {
+        return VerbRead::Bad;
+    }
+    let KeyRead::Is(prefix) = fields::read_prefix(line, marks, 3) else {
+        return VerbRead::Bad;
+    };
+    VerbRead::Is(Verb::Ask(Query::Report(prefix)))
+}
+
+// GET, LIST and REPORT by their word.
+fn read_query(word: &[u8], line: &[u8], marks: &[usize]) -> VerbRead
+    requires { ⌜ Split (now line) (now marks) ⌝ }
+    ensures { λ r. ⌜ verbFrom r ≡ queryByWord (now (word .entry)) (now (line .entry)) ⌝ }
+{
+    if text::is_word(word, b"GET") {
+        return read_get(line, marks);
+    }
+    if text::is_word(word, b"LIST") {
+        return read_list(line, marks);
+    }
+    if text::is_word(word, b"REPORT") {
+        return read_report(line, marks);
+    }
+    VerbRead::Bad
+}
+
+// DEFAULT, RULE, SWEEP and the verbs that ask by their word.
 fn read_other(word: &[u8], line: &[u8], marks: &[usize]) -> VerbRead
     requires { ⌜ Split (now line) (now marks) ⌝ }
     ensures { λ r. ⌜ verbFrom r ≡ otherByWord (now (word .entry)) (now (line .entry)) ⌝ }
@@ -311,13 +342,7 @@ fn read_other(word: &[u8], line: &[u8], marks: &[usize]) -> VerbRead
     if text::is_word(word, b"SWEEP") {
         return read_sweep(line, marks);
     }
-    if text::is_word(word, b"GET") {
-        return read_get(line, marks);
-    }
-    if text::is_word(word, b"LIST") {
-        return read_list(line, marks);
-    }
-    VerbRead::Bad
+    read_query(word, line, marks)
 }
 
 // The verb by its word.

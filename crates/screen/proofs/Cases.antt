@@ -8,6 +8,7 @@ use native.Mathlib.Omega.{arith}
 use lib.Dec.{ltb}
 use borrow.Author.Tests.{lt-ltb, le-ltb, ltb-true, ltb-false}
 use Rattle.buffers.proofs.Tests.{either}
+use Rattle.text.specs.declared.Place.{Place}
 use Rattle.model.specs.Settings.{Config}
 use Rattle.model.specs.Requests as model
 use Rattle.model.specs.Requests.{retentionOf}
@@ -22,7 +23,7 @@ use Rattle.request.specs.declared.Verb.{Verb}
 use Rattle.request.specs.declared.Verb.the-variants.{Act, Set, Sweep, Ask}
 use Rattle.request.specs.declared.Page.{Page}
 use Rattle.request.specs.declared.Query.{Query}
-use Rattle.request.specs.declared.Query.the-variants.{Get, ListVersions}
+use Rattle.request.specs.declared.Query.the-variants.{Get, ListVersions, Report}
 use Rattle.fields.specs.Meaning.{untilMeans, rightsMeans, retentionMeans}
 use Rattle.request.specs.Meaning.{actionMeans, settingMeans, queryMeans, verbMeans}
 use Rattle.request.proofs.Actions.{action-unset, action-unpaged}
@@ -86,6 +87,7 @@ module _ (s : Config) (line : List ℕ) (a : Rights) (v : Verb) where
   unfolding lacksRight needs granted
   ask-allowed (Get n) e = rw e (ap not (and-true (a .r)))
   ask-allowed (ListVersions p) e = rw e (ap not (and-true (a .r)))
+  ask-allowed (Report p) e = rw e (ap not (and-true (a .r)))
 
 pub ruleset allowances = (act-allowed, set-allowed, sweep-allowed, ask-allowed)
 
@@ -95,6 +97,10 @@ module _ (line : List ℕ) (room : ℕ) (q : Query) (r : Bool) where
   pub get-fits : (n : Name) → q ≡ Get n → r ≡ false → r ≡ shortForPage room (model.Ask (queryMeans line q))
   unfolding shortForPage
   get-fits n e h = rw e h
+
+  pub report-fits : (p : Place) → q ≡ Report p → r ≡ false → r ≡ shortForPage room (model.Ask (queryMeans line q))
+  unfolding shortForPage
+  report-fits p e h = rw e h
 
   -- So many rows fit as the division says.
   pub page-fits : (p : Page) → q ≡ ListVersions p → leastRoom ≤ room → r ≡ ltb ((room - leastRoom) / rowRoom) (p .count) → r ≡ shortForPage room (model.Ask (queryMeans line q))
@@ -122,7 +128,7 @@ module _ (line : List ℕ) (room : ℕ) (v : Verb) (r : Bool) where
   pub fits-ask : (q : Query) → v ≡ Ask q → ((l : List ℕ) → r ≡ shortForPage room (model.Ask (queryMeans l q))) → r ≡ shortForPage room (verbMeans line v)
   fits-ask q e h = rw e (h line)
 
-pub ruleset pages = (refl, get-fits, page-fits, fits-act, fits-set, fits-sweep, fits-ask)
+pub ruleset pages = (refl, get-fits, report-fits, page-fits, fits-act, fits-set, fits-sweep, fits-ask)
 
 -- ## 6
 

@@ -151,6 +151,7 @@ fn is_short_for_query(q: Query, room: usize) -> bool
             let fit = (room - model::LEAST_ROOM) / model::ROW_ROOM;
             (fit as u64) < p.count
         }
+        Query::Report(_) => false,
     }
 }
 

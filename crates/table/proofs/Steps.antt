@@ -16,7 +16,7 @@ use Rattle.model.specs.Rows.{Row}
 use Rattle.table.specs.declared.Numbers.{Numbers}
 use Rattle.table.specs.Layout.{numbersOfRow, rowsOf, capacity, Holds}
 use Rattle.table.specs.Changes.{insertAt, removeAt}
-use Rattle.table.specs.Places.{rowFrom, numbersIn, keyAt, Insertable, InUse}
+use Rattle.table.specs.Places.{rowFrom, rowNumbers, keyAt, Insertable, InUse}
 use Rattle.table.specs.Moves.{opened, closed}
 use Rattle.table.proofs.Held.{rows-length, held-numbers, held-keys, held-key}
 use Rattle.table.proofs.Changes.{holds-insert, holds-remove, holds-rewrite}
@@ -33,7 +33,7 @@ pub numbers-read : (l : List ℕ) (at : ℕ)
       mode = getD l (8 * at + 5) 0;
       until = getD l (8 * at + 6) 0;
       hold = getD l (8 * at + 7) 0;
-    } ≡ numbersIn (take 8 (drop (8 * at) l))
+    } ≡ rowNumbers l at
 numbers-read l at =
     let z : 8 * at + 0 ≡ 8 * at = omega arith in
     let e : (j : ℕ) → j < 8 → getD (take 8 (drop (8 * at) l)) j 0 ≡ getD l (8 * at + j) 0 = λ j h. getD-take 8 (drop (8 * at) l) j 0 h ∙ getD-drop (8 * at) l j 0 in

@@ -17,7 +17,11 @@ abbrev pub numbersIn : List ℕ → Numbers
 numbersIn ns =
     record { number = getD ns 0 0; kind = getD ns 1 0; created = getD ns 2 0; body = getD ns 3 0; size = getD ns 4 0; mode = getD ns 5 0; until = getD ns 6 0; hold = getD ns 7 0 }
 
--- the key at a position, counted from 0
+-- the numbers of the row at a position, counted from 0
+abbrev pub rowNumbers : List ℕ → ℕ → Numbers
+rowNumbers numbers i = numbersIn (take 8 (drop (8 * i) numbers))
+
+-- the key at a position
 abbrev pub keyAt : List ℕ → ℕ → List ℕ
 keyAt keys i = keyIn (take 64 (drop (64 * i) keys))
 

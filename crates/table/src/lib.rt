@@ -2,12 +2,12 @@
 ghost use mathlib.Core.Path.{_≡_};
 ghost use mathlib.Core.List.{[]};
 ghost use Prim.Native.Nat.{_+_, _*_, _≤_, _<_};
-ghost use lib.ListN.{length, getD, take, drop, set, replicate};
+ghost use lib.ListN.{length, getD, set, replicate};
 ghost use Rattle.buffers.specs.Writes.{placed};
 ghost use Rattle.blocks.specs.Blocks.{blockOf};
 ghost use Rattle.table.specs.Layout.{numbersOfRow, rowsOf, capacity, Holds};
 ghost use Rattle.table.specs.Changes.{insertAt, removeAt};
-ghost use Rattle.table.specs.Places.{rowFrom, numbersIn, keyAt, Insertable, InUse};
+ghost use Rattle.table.specs.Places.{rowFrom, rowNumbers, keyAt, Insertable, InUse};
 ghost use Rattle.table.specs.Moves.{opened, closed};
 
 // The numbers of a row.
@@ -39,7 +39,7 @@ pub fn fresh_keys() -> [u8; 65536]
 // The numbers of the row at a position.
 pub fn numbers_at(rows: &[u64], at: usize) -> Numbers
     requires { ⌜ 8 * at + 8 ≤ length (now rows) ⌝ }
-    ensures { λ r. ⌜ r ≡ numbersIn (take 8 (drop (8 * at) (now (rows .entry)))) ⌝ }
+    ensures { λ r. ⌜ r ≡ rowNumbers (now (rows .entry)) at ⌝ }
 {
     let i = 8 * at;
     Numbers {

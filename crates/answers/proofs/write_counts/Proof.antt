@@ -1,5 +1,5 @@
 -- `write_counts` meets its contract.
-use Rattle.answers.proofs.Writing.{two-fields}
+use Rattle.answers.proofs.Writing.{all-fields}
 use borrow.Author.Needs.{needs}
 use Rattle.answers.proofs.write_counts.Statement.{statement}
 use Rattle.answers.proofs.write_counts.Tie as tie
@@ -11,8 +11,5 @@ write-counts-spec =
     (λ c. search needs)
     (λ c κs. search needs)
     (λ c κs. search needs)
-    (λ c κs. search needs)
     (λ c. search needs)
-    (λ c κs. search needs)
-    (λ c. search needs)
-    (λ c. search two-fields))
+    (λ c. search (needs, all-fields)))

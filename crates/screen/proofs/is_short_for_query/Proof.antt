@@ -11,5 +11,7 @@ is-short-for-query-spec =
     (λ c. search needs)
     (λ c. search needs)
     (λ c. search needs)
+    (λ c. search needs)
+    (λ c. search (needs, pages))
     (λ c. search (needs, pages))
     (λ c. search (needs, pages)))
