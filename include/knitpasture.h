@@ -25,9 +25,9 @@
 extern "C" {
 #endif
 
-#define KNITPASTURE_VERSION "1.5.0"
+#define KNITPASTURE_VERSION "1.6.0"
 #define KNITPASTURE_VERSION_MAJOR 1
-#define KNITPASTURE_VERSION_MINOR 5
+#define KNITPASTURE_VERSION_MINOR 6
 #define KNITPASTURE_VERSION_PATCH 0
 
 #define KNITPASTURE_SETTINGS_BYTES 688
@@ -106,6 +106,10 @@ uint64_t knitpasture_fresh(uint8_t *settings, size_t settings_length,
  * answer ends with the line feed of the last of them, or of the first line where there are no rows. The fields of a LIST
  * are prefix, key, version and count: the first has an empty key and version 0, the next takes the key and the version
  * of the page's last line, byte for byte, and a page of fewer rows than its count is the last.
+ *
+ * REPORT, whose field is a prefix, answers `ok` and four numbers of the rows that LIST's pages of that prefix show: data
+ * versions, delete markers, the sum of the data versions' lengths, which needs 64 bits, and the data versions that are
+ * locked at the line's now for one without bypass.
  *
  * A PUT may be sent again, the same bytes, after a lost reply, as long as no other line has changed the key's current
  * version. Where that version is data with the line's body number and length, the PUT is a retry: it answers that

@@ -1,5 +1,5 @@
-/* What modem firmware does, through each entry: lend three buffers, serve lines, send a PUT again, follow pages, save, load
- * and go on, also with what an earlier release left; and what a sweep counts. */
+/* What modem firmware does, through each entry: lend three buffers, serve lines, send a PUT again, follow pages, ask for
+ * totals, save, load and go on, also with what an earlier release left; and what a sweep counts. */
 #include "../../samples/page.h"
 #include "../../samples/save.h"
 
@@ -409,6 +409,12 @@ static size_t pass_page(const struct page *page, const char *prefix, size_t row)
     return row;
 }
 
+static void only_time_set(const struct bucket *before, const struct bucket *bucket) {
+    check(memcmp(before->settings + 8, bucket->settings + 8, sizeof before->settings - 8) == 0, "only the time is set");
+    check(memcmp(before->rows, bucket->rows, sizeof before->rows) == 0, "no row is changed");
+    check(memcmp(before->keys, bucket->keys, sizeof before->keys) == 0, "nor a key");
+}
+
 /* Pages of one prefix, followed to their end by what their bytes say, show every matching row once. */
 static void follow(struct bucket *bucket, const char *prefix, size_t count) {
     struct bucket before = *bucket;
@@ -422,9 +428,7 @@ static void follow(struct bucket *bucket, const char *prefix, size_t count) {
         row = pass_page(&page, prefix, row);
     } while (page.rows == count);
     check(next_match(prefix, row) == SHOWN, "the pages show every row");
-    check(memcmp(before.settings + 8, bucket->settings + 8, sizeof before.settings - 8) == 0, "only the time is set");
-    check(memcmp(before.rows, bucket->rows, sizeof before.rows) == 0, "a page changes no row");
-    check(memcmp(before.keys, bucket->keys, sizeof before.keys) == 0, "nor a key");
+    only_time_set(&before, bucket);
 }
 
 /* The room for a page is enough; with a byte less it is 13, unless the right is missing. */
@@ -454,6 +458,67 @@ static void pages(struct bucket *bucket) {
     take(bucket, &(struct step){"2024-07-05T00:00:00Z|r|LIST|level||0|1001", "no|3"});
 }
 
+/* The numbers of a REPORT. */
+struct totals {
+    unsigned long long data, markers, length, locked;
+};
+
+/* Counts a row as LIST prints it, at an instant that is written as LIST writes dates: so they are ordered as texts. */
+static void count_row(struct totals *totals, const char *row, const char *now) {
+    char kind[8], length[16], date[32], hold[4];
+    check(sscanf(row, "%*[^|]|%*[^|]|%7[^|]|%*[^|]|%*[^|]|%15[^|]|%*[^|]|%31[^|]|%3s", kind, length, date, hold) == 4,
+          "a row has nine fields");
+    if (strcmp(kind, "marker") == 0) {
+        totals->markers++;
+        return;
+    }
+    totals->data++;
+    totals->length += strtoull(length, NULL, 10);
+    totals->locked += strcmp(hold, "ON") == 0 || strcmp(date, now) > 0;
+}
+
+/* The totals of a prefix, in the least answer buffer, are those of the rows that its pages show. */
+static void report(struct bucket *bucket, const char *now, const char *prefix) {
+    struct bucket before = *bucket;
+    struct totals said, counted = {0, 0, 0, 0};
+    char line[KNITPASTURE_MAX_LINE], answer[KNITPASTURE_MIN_ANSWER + 1] = "";
+    int end = 0;
+    snprintf(line, sizeof line, "%s|r|REPORT|%s", now, prefix);
+    memset(answer, JUNK, KNITPASTURE_MIN_ANSWER);
+    check(serve(bucket, line, (uint8_t *)answer, KNITPASTURE_MIN_ANSWER) == 0, "a report is accepted");
+    check(sscanf(answer, "ok\t%llu\t%llu\t%llu\t%llu%n", &said.data, &said.markers, &said.length, &said.locked, &end) == 4,
+          "a report has four numbers");
+    check(answer[end] == '\n' && untouched((uint8_t *)answer, (size_t)end + 1, KNITPASTURE_MIN_ANSWER),
+          "bytes after a report are untouched");
+    for (size_t row = next_match(prefix, 0); row < SHOWN; row = next_match(prefix, row + 1)) {
+        count_row(&counted, shown[row], now);
+    }
+    check(memcmp(&said, &counted, sizeof said) == 0, "its numbers are those of the rows");
+    only_time_set(&before, bucket);
+}
+
+static void reports(struct bucket *bucket) {
+    static const char *const prefixes[] = {"", "gauge-7", "gauge-7/", "gauge-7/flow", "gauge-7/level", "k", "level"};
+    static const char *const clocks[] = {"2024-07-04T00:00:00.000Z", "2033-01-04T23:59:59.999Z",
+                                         "2033-01-05T00:00:00.000Z", "9999-12-31T23:59:59.999Z"};
+    static const struct step steps[] = {
+        {"2024-07-03T00:00:00Z|r|REPORT|", "ok|7|1|5497558140230|3"},
+        {"2024-07-03T00:00:00Z|r|REPORT|gauge-7/", "ok|4|1|1050|2"},
+        {"2024-07-03T00:00:00Z|r|REPORT|level", "ok|0|0|0|0"},
+        {"2024-07-03T00:00:00Z|wdthbc|REPORT|", "no|5"},
+        {"2024-07-03T00:00:00Z|r|REPORT", "no|3"},
+    };
+    make_fresh(bucket);
+    TAKE(bucket, filled);
+    TAKE(bucket, steps);
+    for (size_t i = 0; i < sizeof clocks / sizeof clocks[0]; i++) {
+        for (size_t j = 0; j < sizeof prefixes / sizeof prefixes[0]; j++) {
+            report(bucket, clocks[i], prefixes[j]);
+        }
+    }
+    take(bucket, &(struct step){"2024-07-04T00:00:00Z|r|REPORT|gauge-7/", "ok|4|1|1050|1"});
+}
+
 /* Longer buffers whose new rows are zero hold the same bucket. */
 static void grown(const struct bucket *bucket) {
     static uint8_t rows[2 * sizeof bucket->rows], keys[2 * sizeof bucket->keys];
@@ -471,6 +536,34 @@ static void grown(const struct bucket *bucket) {
     }
 }
 
+/* A bucket of the most rows. */
+static struct {
+    uint8_t settings[KNITPASTURE_SETTINGS_BYTES];
+    uint8_t rows[KNITPASTURE_MAX_ROWS * KNITPASTURE_ROW_BYTES];
+    uint8_t keys[KNITPASTURE_MAX_ROWS * KNITPASTURE_KEY_BYTES];
+} large;
+
+static void large_takes(const char *line, uint8_t *answer) {
+    check(knitpasture_serve(large.settings, sizeof large.settings, large.rows, sizeof large.rows, large.keys,
+                            sizeof large.keys, (const uint8_t *)line, strlen(line), answer, KNITPASTURE_MIN_ANSWER) == 0,
+          "a line on the most rows is accepted");
+}
+
+/* The largest sum: each of the most rows is of the largest length. */
+static void largest_report(void) {
+    static const char totals[] = "ok\t1024\t0\t5629499534213120\t1024\n";
+    char line[KNITPASTURE_MAX_LINE];
+    uint8_t answer[KNITPASTURE_MIN_ANSWER];
+    knitpasture_fresh(large.settings, sizeof large.settings, large.rows, sizeof large.rows, large.keys, sizeof large.keys);
+    large_takes("2024-07-01T00:00:00Z\tc\tDEFAULT\tGOVERNANCE\t1d", answer);
+    for (unsigned i = 0; i < KNITPASTURE_MAX_ROWS; i++) {
+        snprintf(line, sizeof line, "2024-07-01T00:00:00Z\tw\tPUT\tgauge/%u\t1\t5497558138880\t-\t-\t-", i);
+        large_takes(line, answer);
+    }
+    large_takes("2024-07-01T00:00:00Z\tr\tREPORT\t", answer);
+    check(memcmp(answer, totals, sizeof totals - 1) == 0, "the largest sum");
+}
+
 static void texts(void) {
     for (uint64_t number = 0; number <= KNITPASTURE_SHORT_PAGE; number++) {
         check(strcmp(knitpasture_refusal_text(number), "unknown") != 0, "each result has a text");
@@ -486,6 +579,7 @@ int main(int count, char **words) {
     }
     for (form = AS_BYTES; form < FORMS; form++) {
         pages(bucket);
+        reports(bucket);
         whole_run(bucket);
         sent_again(bucket);
         sent_again_full(bucket);
@@ -494,6 +588,7 @@ int main(int count, char **words) {
         wrong_lengths(bucket);
     }
     grown(bucket);
+    largest_report();
     sweeps_count(bucket);
     texts();
     free(bucket);

@@ -61,6 +61,7 @@ static const char *const lines[] = {
     "2024-01-02T00:00:00Z\tr\tGET\ta/2\t-",
     "2024-01-02T00:00:00Z\tr\tLIST\ta/\t\t0\t8",
     "2024-01-02T00:00:00Z\tr\tLIST\ta/\ta/1\t1\t8",
+    "2024-01-02T00:00:00Z\tr\tREPORT\ta/",
     "2024-01-03T00:00:00Z\td\tDELETE\ta/3\t-\tno",
     "2024-01-03T00:00:00Z\td\tDELETE\ta/3\t3\tno",
     "2024-01-03T00:00:00Z\tc\tDEFAULT\tGOVERNANCE\t1y",

@@ -2,6 +2,7 @@
 use crate::bucket::{Block, Bucket, Row, BODY, CREATED, DATA, HOLD, KIND, LENGTH, MODE, UNTIL, VERSION};
 use crate::dates;
 use crate::pages::Page;
+use crate::reports::Totals;
 use crate::requests::{COMPLIANCE, GOVERNANCE};
 use crate::sweep::Counts;
 
@@ -22,6 +23,7 @@ pub enum Answer {
     Swept(Counts),
     Got(Row),
     Listed(Page),
+    Reported(Totals),
 }
 
 impl Answer {
@@ -133,6 +135,9 @@ pub fn write(answer: &Answer, bucket: &Bucket, buffer: &mut [u8]) -> usize {
         }
         Answer::Got(row) => writer.row(row),
         Answer::Listed(page) => writer.number(page.rows as u64),
+        Answer::Reported(Totals { data, markers, length, locked }) => {
+            [data, markers, length, locked].into_iter().for_each(|number| writer.number(*number));
+        }
     }
     writer.text(b"\n");
     if let Answer::Listed(page) = answer {

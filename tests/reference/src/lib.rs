@@ -11,6 +11,7 @@ pub mod locks;
 pub mod pages;
 pub mod program;
 pub mod refusals;
+pub mod reports;
 pub mod requests;
 pub mod settings;
 pub mod sweep;

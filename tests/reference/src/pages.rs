@@ -11,11 +11,16 @@ pub struct Page {
 
 impl Bucket {
     /// The first count rows, or all if fewer, whose keys begin with the prefix and which come after a place.
+    pub fn page(&self, prefix: &[u8], after: Place, count: usize) -> Page {
+        self.matching(prefix, self.behind(after), count)
+    }
+
+    /// The first count rows, or all if fewer, from a position on whose keys begin with the prefix.
     ///
     /// Keys with one prefix stand together in the order, so that the rows are neighbours.
-    pub fn page(&self, prefix: &[u8], after: Place, count: usize) -> Page {
+    pub fn matching(&self, prefix: &[u8], from: usize, count: usize) -> Page {
         let prefix = block(prefix);
-        let from = self.behind(after).max(self.first_place(&prefix));
+        let from = self.first_place(&prefix).max(from);
         let end = self.used().min(from + count);
         let rows = self.keys[from..end].partition_point(|key| begins(&prefix, key));
         Page { from, rows }

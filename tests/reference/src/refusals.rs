@@ -64,7 +64,7 @@ fn needed_rights(verb: &Verb) -> u8 {
         Verb::Hold { .. } => right::LEGAL_HOLD,
         Verb::Delete { bypass, .. } => right::DELETE | bypass_right(*bypass),
         Verb::Default { .. } | Verb::Rule { .. } | Verb::Sweep => right::CONFIGURE,
-        Verb::Get { .. } | Verb::List { .. } => right::READ,
+        Verb::Get { .. } | Verb::List { .. } | Verb::Report { .. } => right::READ,
     }
 }
 

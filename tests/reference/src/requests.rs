@@ -69,6 +69,7 @@ pub enum Verb<'a> {
     Sweep,
     Get { name: Name<'a> },
     List { prefix: &'a [u8], after: Place<'a>, count: usize },
+    Report { prefix: &'a [u8] },
 }
 
 /// The fields of a line that are still to be read.
@@ -237,6 +238,7 @@ fn verb<'a>(word: &[u8], fields: &mut Fields<'a>) -> Option<Verb<'a>> {
             after: fields.place()?,
             count: fields.number(MAX_PAGE).filter(|&count| count > 0)? as usize,
         },
+        b"REPORT" => Verb::Report { prefix: fields.prefix()? },
         _ => return None,
     })
 }

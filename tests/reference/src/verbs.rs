@@ -49,6 +49,7 @@ impl Bucket {
             Verb::Sweep => self.sweep(now).map(Answer::Swept),
             Verb::Get { name } => Ok(Answer::Got(self.rows[self.named_data(name)?])),
             Verb::List { prefix, after, count } => Ok(Answer::Listed(self.page(prefix, after, count))),
+            Verb::Report { prefix } => Ok(Answer::Reported(self.report(prefix, now))),
         }
     }
 

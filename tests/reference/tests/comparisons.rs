@@ -258,6 +258,7 @@ fn every_other_verb_compares_nothing() {
         "RULE|0|b|2|2",
         "RULE|1||0|0",
         "GET|a|1",
+        "REPORT|a",
     ] {
         assert_eq!(counts(&mut hub, &format!("2024-05-02T00:00:00Z|rwdthbc|{line}")), Some(0), "{line}");
     }

@@ -70,6 +70,10 @@ fn unreadable(_: usize, _: u64) -> Vec<String> {
     vec!["2024-01-02T00:00:00Z\tr\tFETCH\tgauge\t-".to_string()]
 }
 
+fn report(_: usize, _: u64) -> Vec<String> {
+    vec!["2024-01-02T00:00:00Z\tr\tREPORT\t".to_string()]
+}
+
 fn put_and_delete(_: usize, next: u64) -> Vec<String> {
     let new = key(5000);
     vec![
@@ -78,11 +82,12 @@ fn put_and_delete(_: usize, next: u64) -> Vec<String> {
     ]
 }
 
-const CALLS_MEASURED: [Call; 5] = [
+const CALLS_MEASURED: [Call; 6] = [
     Call { name: "decoding (refusal 1)", number: 1, spoilt: true, answer: 256, lines: unreadable },
     Call { name: "and soundness (refusal 2)", number: 2, spoilt: false, answer: 255, lines: unreadable },
     Call { name: "unreadable line", number: 3, spoilt: false, answer: 256, lines: unreadable },
     Call { name: "GET", number: 0, spoilt: false, answer: 256, lines: get },
+    Call { name: "REPORT of every row", number: 0, spoilt: false, answer: 256, lines: report },
     Call { name: "PUT and DELETE, each", number: 0, spoilt: false, answer: 256, lines: put_and_delete },
 ];
 

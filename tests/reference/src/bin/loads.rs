@@ -58,7 +58,7 @@ impl Load {
         let mut random = Random::new(1, 1);
         let count = match name {
             "sweeps" => rows * 5 / 8,
-            "pages" => rows.div_ceil(4),
+            "pages" | "reports" => rows.div_ceil(4),
             _ => rows.div_ceil(2),
         };
         let keys = (0..count).map(|_| key(&mut random)).collect();
@@ -177,6 +177,28 @@ impl Load {
         format!("r\tLIST\t{}\t{place}\t{count}", prefix.unwrap_or(&""))
     }
 
+    /// A key that is there; no bare prefix, which begins other keys too, unless the first tries all meet one.
+    fn lone_key(&mut self) -> String {
+        let mut at = self.row();
+        for _ in 0..8 {
+            if !PREFIXES.contains(&&*self.key_at(at)) {
+                break;
+            }
+            at = self.row();
+        }
+        self.key_at(at)
+    }
+
+    /// The totals of every row, of the keys under one prefix and of one key, in turn.
+    fn report(&mut self, number: usize) -> String {
+        let prefix = match number % 3 {
+            0 => String::new(),
+            1 => self.random.pick(&PREFIXES).into(),
+            _ => self.lone_key(),
+        };
+        format!("r\tREPORT\t{prefix}")
+    }
+
     /// A rule for each prefix but the last, and one for every key.
     fn rule(&mut self, number: usize) -> String {
         let prefix = if number == 7 { "" } else { PREFIXES[number] };
@@ -221,7 +243,7 @@ impl Load {
             return Some(self.rule(number));
         }
         if number < self.rows {
-            let marked = name == "pages" && self.random.once_in(8);
+            let marked = matches!(name, "pages" | "reports") && self.random.once_in(8);
             return Some(if marked { self.mark() } else { self.put() });
         }
         let rows = self.rows;
@@ -234,6 +256,7 @@ impl Load {
             ("retention", 4..=5) => self.hold(),
             ("retention", _) => self.get(),
             ("pages", _) => self.list(if number % 2 == 0 { 10 } else { 200 }),
+            ("reports", _) => self.report(number),
             ("sweeps", 0..=1) if self.bucket.used() < CAPACITY => self.put(),
             ("sweeps", _) => "c\tSWEEP".to_string(),
             _ => return None,
@@ -273,7 +296,9 @@ fn main() -> io::Result<()> {
     let lines = if name == "swept" { load.rules + rows + lines } else { lines };
     let mut out = BufWriter::new(io::stdout().lock());
     let Some(accepted) = write(load, name, lines, &mut out)? else {
-        return Err(io::Error::other("the loads are mixed, churn, retention, sweeps, pages and swept"));
+        return Err(io::Error::other(
+            "the loads are mixed, churn, retention, sweeps, pages, reports and swept",
+        ));
     };
     out.flush()?;
     eprintln!("{name}: {:.1} % of the lines accepted", 100.0 * accepted as f64 / lines as f64);

@@ -120,6 +120,13 @@ impl Maker<'_> {
         clock.clamp(self.time(), self.time() + 4 * DAY).min(LAST)
     }
 
+    /// A clock at or next to the date of some row, where one is found that is to come and not far.
+    fn deadline(&mut self) -> u64 {
+        let near = self.time() + 1..=self.time() + 4 * DAY;
+        let date = (0..10).filter_map(|_| self.number_of(UNTIL)).find(|date| near.contains(date));
+        date.map_or(self.time(), |date| self.random.pick(&[date - 1, date, date, date + 1]).min(LAST))
+    }
+
     /// The clock at which the default's date is the last instant or 1 ms after it, where that is not far.
     fn last_default(&mut self) -> u64 {
         let [count, unit] = [32, 40].map(|at| self.side.settings.word(at));
@@ -308,8 +315,14 @@ impl Maker<'_> {
         format!("{}\tr\tLIST\t{prefix}\t{place}\t{count}", self.date(instant)).into_bytes()
     }
 
+    /// A clock, and the line that asks for a prefix's totals by it.
+    pub fn report(&mut self, prefix: &str) -> (u64, Vec<u8>) {
+        let clock = if self.random.once_in(3) { self.clock() } else { self.deadline() };
+        (clock, format!("{}\tr\tREPORT\t{prefix}", self.date(clock)).into_bytes())
+    }
+
     fn verb(&mut self) -> String {
-        match self.random.below(120) {
+        match self.random.below(132) {
             0..=25 => self.put(),
             26..=36 => format!("COPY\t{}\t{}\t{}", self.name(), self.key(), self.new_row()),
             37..=50 => format!("RETAIN\t{}\t{}\t{}", self.name(), self.retention(5), self.bypass()),
@@ -320,14 +333,20 @@ impl Maker<'_> {
             80..=84 => self.rule(),
             85..=91 => "SWEEP".into(),
             92..=99 => format!("GET\t{}", self.name()),
-            _ => format!("LIST\t{}\t{}\t{}", self.prefix(), self.place(), self.count()),
+            100..=119 => format!("LIST\t{}\t{}\t{}", self.prefix(), self.place(), self.count()),
+            120..=122 => format!("REPORT\t{}", self.key()),
+            _ => format!("REPORT\t{}", self.prefix()),
         }
     }
 
     pub fn line(&mut self) -> String {
         let verb = self.verb();
-        let decides = verb == "SWEEP" && self.random.once_in(2);
-        let instant = if decides { self.expiry() } else { self.clock() };
+        let decides = self.random.once_in(2);
+        let instant = match verb.split('\t').next() {
+            Some("SWEEP") if decides => self.expiry(),
+            Some("REPORT") if decides => self.deadline(),
+            _ => self.clock(),
+        };
         let clock = self.date(instant);
         format!("{clock}\t{}\t{verb}", self.rights())
     }
@@ -353,6 +372,17 @@ impl Maker<'_> {
         verbs.push((newer, format!("RULE\t{rule}\t\t0\t0")));
         let line = |(clock, verb): (u64, String)| format!("{}\trwdthbc\t{verb}", self.date(clock.min(LAST)));
         verbs.into_iter().map(line).collect()
+    }
+
+    /// Lines that keep a row that is there, and a new one, until the same date soon.
+    pub fn locks(&mut self) -> Vec<String> {
+        let (now, instant) = (self.time(), self.soon().max(self.time() + 1).min(LAST));
+        let date = self.date(instant);
+        let verbs = [
+            format!("RETAIN\t{}\tGOVERNANCE\t{date}\tyes", self.name()),
+            format!("PUT\t{}\t1\t{MAX_LENGTH}\tCOMPLIANCE\t{date}\t-", self.key()),
+        ];
+        verbs.map(|verb| format!("{}\trwdthbc\t{verb}", self.date(now))).to_vec()
     }
 
     /// A clock on a day that tells how years are counted, of the year of the bucket's time or of a later one, and years.

@@ -7,6 +7,7 @@ use crate::mutate::mutated;
 use crate::random::Random;
 use crate::sides::{asks_for, put_in, Fault, Put, Side, Sides};
 use crate::tally::Tally;
+use crate::totals::{self, Report};
 use crate::{pages, plain};
 use reference::answers::{page_buffer, LEAST_BUFFER};
 use reference::bucket::{block, HOLD, MODE, UNTIL};
@@ -185,38 +186,82 @@ impl List<'_> {
         rows
     }
 
+    /// Serves a line that nothing is to refuse, in an answer buffer of a length.
+    fn serve_accepted(&mut self, room: usize, line: &[u8]) -> Result<(), String> {
+        match self.serve_in(room, line)? {
+            0 => Ok(()),
+            number => Err(format!("{}\nrefused with {number}", shown(line))),
+        }
+    }
+
     /// The rows of the page after a place, as the engine's answer shows them.
     fn page(&mut self, prefix: &str, place: &str, count: usize) -> Result<Vec<String>, String> {
         let line = self.maker().page(prefix, place, count);
-        let number = self.serve_in(page_buffer(count), &line)?;
-        if number != 0 {
-            return Err(format!("{}\nthe page is refused with {number}", shown(&line)));
-        }
+        self.serve_accepted(page_buffer(count), &line)?;
         pages::shown(self.sides.engine.answer.seen()).ok_or(format!("{}\nno page is shown", shown(&line)))
     }
 
-    /// Follows the pages of a prefix to their end: they show every matching row once and no others.
-    fn follow(&mut self) -> Result<(), String> {
-        let (prefix, count) = self.maker().pages();
-        let matching = self.matching(&prefix);
+    /// The rows that the pages of a prefix show, up to their end or to more than there can be.
+    fn followed(&mut self, prefix: &str, count: usize, most: usize) -> Result<Vec<String>, String> {
         let (mut rows, mut place) = (Vec::new(), START.to_string());
         loop {
-            let page = self.page(&prefix, &place, count)?;
+            let page = self.page(prefix, &place, count)?;
             let full = page.len() == count;
             rows.extend(page);
             self.tally.pages += 1;
-            if !full || rows.len() > matching.len() {
-                break;
+            if !full || rows.len() > most {
+                self.tally.rows += rows.len() as u64;
+                return Ok(rows);
             }
             place = pages::place_of(&rows[rows.len() - 1]);
         }
-        self.tally.rows += rows.len() as u64;
+    }
+
+    /// Follows the pages of a prefix to their end: they show every matching row once and no others, and come to what a
+    /// REPORT prints before them and after them.
+    fn follow(&mut self) -> Result<(), String> {
+        let (prefix, count) = self.maker().pages();
+        let matching = self.matching(&prefix);
+        let before = self.report(&prefix)?;
+        let rows = self.followed(&prefix, count, matching.len())?;
+        let after = self.report(&prefix)?;
         if rows != matching {
             return Err(format!(
                 "pages of {count} rows of the prefix {prefix:?} show other rows than match it"
             ));
         }
+        for report in [before, after] {
+            let totals = self.check_report(&report, &rows);
+            totals.map_err(|said| format!("the prefix {prefix:?}, pages of {count} rows: {said}"))?;
+            self.tally.count_report(report.kinds(&rows, rows.len() >= count));
+        }
         Ok(())
+    }
+
+    /// The REPORT of a prefix, in the least answer buffer.
+    fn report(&mut self, prefix: &str) -> Result<Report, String> {
+        let (clock, line) = self.maker().report(prefix);
+        self.serve_accepted(LEAST_BUFFER, &line)?;
+        let side = &self.sides.engine;
+        let answer = side.answer.seen().split_inclusive(|&byte| byte == b'\n').next().unwrap_or(b"");
+        let answer = String::from_utf8_lossy(answer).into_owned();
+        Ok(Report { answer, clock, now: side.settings.word(0) })
+    }
+
+    /// Compares what a REPORT printed with the totals of the rows that pages show.
+    fn check_report(&self, report: &Report, rows: &[String]) -> Result<(), String> {
+        let early = u64::from(self.sides.fault == Fault::Totals);
+        let totals = totals::answer(rows, report.now.saturating_sub(early));
+        if report.answer != totals {
+            return Err(format!("their totals are {totals:?}, a report printed {:?}", report.answer));
+        }
+        Ok(())
+    }
+
+    /// Follows pages whose rows are likely to have dates that come.
+    fn pass_dates(&mut self) -> Result<(), String> {
+        self.maker().locks().iter().try_for_each(|line| self.serve(line.as_bytes()))?;
+        self.follow()
     }
 
     fn pass_midnight(&mut self) -> Result<(), String> {
@@ -268,6 +313,7 @@ impl List<'_> {
             5 if self.random.once_in(3) => self.follow()?,
             6 if self.random.once_in(3) => self.pass_midnight()?,
             7 if self.random.once_in(3) => self.pass_years()?,
+            8 if self.random.once_in(3) => self.pass_dates()?,
             _ => {}
         }
         self.serve(&line)
@@ -289,7 +335,7 @@ pub fn run(seed: u64, fault: Fault, tally: &mut Tally) -> Result<(), String> {
     for step in 0..steps {
         list.step().map_err(|said| format!("step {step}, capacity {capacity}, {said}"))?;
     }
-    list.follow()?;
+    list.pass_dates()?;
     list.ask_keys()?;
     list.tally.served(&list.sides.served);
     Ok(())

@@ -11,6 +11,7 @@ mod plain;
 mod random;
 mod sides;
 mod tally;
+mod totals;
 mod years;
 
 use sides::Fault;
@@ -18,6 +19,9 @@ use std::env;
 use std::process::ExitCode;
 use std::time::{Duration, Instant, SystemTime, UNIX_EPOCH};
 use tally::Tally;
+
+/// What a REPORT can come to.
+const REPORT_NUMBERS: [usize; 5] = [0, 1, 2, 3, 5];
 
 struct Options {
     seconds: u64,
@@ -59,6 +63,8 @@ fn lacking(tally: &Tally) -> Vec<String> {
         (!tally.undecided().is_empty(), format!("rounding decided no sweep on: {:?}", tally.undecided())),
         (!tally.uncompared().is_empty(), format!("counts that no sweep had: {:?}", tally.uncompared())),
         (!tally.unended().is_empty(), format!("lines under years that never came: {:?}", tally.unended())),
+        (!tally.untold().is_empty(), format!("reports that never came: {:?}", tally.untold())),
+        (tally.report_numbers() != REPORT_NUMBERS, format!("a REPORT came to {:?}", tally.report_numbers())),
     ];
     tests.into_iter().filter(|(lacks, _)| *lacks).map(|(_, said)| said).collect()
 }
@@ -66,7 +72,7 @@ fn lacking(tally: &Tally) -> Vec<String> {
 fn main() -> ExitCode {
     let Some(options) = options() else {
         eprintln!(
-            "usage: compare [--seconds N] [--seed S] [--lists N] [--break answer|page|following|retry|midnight|count|years]"
+            "usage: compare [--seconds N] [--seed S] [--lists N] [--break answer|page|following|retry|midnight|count|years|totals]"
         );
         return ExitCode::from(2);
     };

@@ -2,7 +2,7 @@
 use crate::random::Random;
 
 /// Fields at and over the limits, to stand in for some other field.
-const FIELDS: [&str; 37] = [
+const FIELDS: [&str; 39] = [
     "",
     "-",
     "0",
@@ -40,6 +40,8 @@ const FIELDS: [&str; 37] = [
     "SWEEP",
     "GETS",
     "LIST",
+    "REPORT",
+    "report",
 ];
 
 const DATES: [&str; 14] = [

@@ -2,7 +2,7 @@
 use reference::bucket::{Block, Row, DATA};
 use reference::{dates, Bucket};
 
-fn date(instant: u64) -> String {
+pub fn date(instant: u64) -> String {
     String::from_utf8_lossy(&dates::print(instant)).into_owned()
 }
 

@@ -168,6 +168,8 @@ pub enum Fault {
     Count,
     /// In the dates that the reference takes from a default of years, which have 365 days.
     Years,
+    /// In the totals of followed pages, which count a date equal to now as one that locks.
+    Totals,
 }
 
 impl Fault {
@@ -180,6 +182,7 @@ impl Fault {
             "midnight" => Some(Fault::Midnight),
             "count" => Some(Fault::Count),
             "years" => Some(Fault::Years),
+            "totals" => Some(Fault::Totals),
             _ => None,
         }
     }

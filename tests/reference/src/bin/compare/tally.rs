@@ -2,11 +2,12 @@
 use crate::comparisons::Comparisons;
 use crate::midnights::Midnights;
 use crate::sides::ENTRIES;
+use crate::totals::TELLING_REPORTS;
 use crate::years::{Contract, TELLING_YEARS};
 use reference::dates;
 
-const VERBS: [&str; 11] =
-    ["PUT", "COPY", "RETAIN", "HOLD", "DELETE", "DEFAULT", "RULE", "SWEEP", "GET", "LIST", "other"];
+const VERBS: [&str; 12] =
+    ["PUT", "COPY", "RETAIN", "HOLD", "DELETE", "DEFAULT", "RULE", "SWEEP", "GET", "LIST", "REPORT", "other"];
 const NUMBERS: usize = 14;
 /// The first days of years, 28 and 29 February, 1 March and the last day of all, as they stand in a printed date.
 const TELLING_DAYS: [&str; 5] = ["-01-01T", "-02-28T", "-02-29T", "-03-01T", "9999-12-31T"];
@@ -35,14 +36,21 @@ pub struct Tally {
     compared: [u64; TELLING_COUNTS.len()],
     /// The lines under a default of years of each kind.
     years: [u64; TELLING_YEARS.len()],
+    /// The reports that were counted by pages, and those of them of each kind.
+    totals: u64,
+    reports: [u64; TELLING_REPORTS.len()],
     entries: [u64; ENTRIES.len()],
     counts: [[u64; NUMBERS]; VERBS.len()],
 }
 
+/// The place of a verb, by its word.
+fn place_of(word: &[u8]) -> usize {
+    VERBS.iter().position(|verb| verb.as_bytes() == word).unwrap_or(VERBS.len() - 1)
+}
+
 /// The place of a line's verb, by its third field.
 fn verb_of(line: &[u8]) -> usize {
-    let word = line.split(|&byte| byte == b'\t').nth(2).unwrap_or(b"");
-    VERBS.iter().position(|verb| verb.as_bytes() == word).unwrap_or(VERBS.len() - 1)
+    place_of(line.split(|&byte| byte == b'\t').nth(2).unwrap_or(b""))
 }
 
 /// The names whose counts are 0.
@@ -82,6 +90,26 @@ impl Tally {
 
     pub fn count_years(&mut self, contract: &Contract, number: u64) {
         self.years.iter_mut().zip(contract.kinds(number)).for_each(|(sum, is)| *sum += u64::from(is));
+    }
+
+    pub fn count_report(&mut self, kinds: [bool; TELLING_REPORTS.len()]) {
+        self.totals += 1;
+        self.reports.iter_mut().zip(kinds).for_each(|(sum, is)| *sum += u64::from(is));
+    }
+
+    /// The kinds of reports that were never counted by pages.
+    pub fn untold(&self) -> Vec<&str> {
+        uncounted(TELLING_REPORTS, &self.reports)
+    }
+
+    /// How often each number came to a REPORT.
+    fn reported(&self) -> &[u64; NUMBERS] {
+        &self.counts[place_of(b"REPORT")]
+    }
+
+    /// The numbers from 0 to 13 that came to some REPORT.
+    pub fn report_numbers(&self) -> Vec<usize> {
+        (0..NUMBERS).filter(|&number| self.reported()[number] > 0).collect()
     }
 
     /// The kinds of lines under a default of years that never came.
@@ -148,6 +176,10 @@ impl Tally {
         println!("sweeps by their count of comparisons, {TELLING_COUNTS:?}: {:?}", self.compared);
         println!("lines under a default of years:");
         for (kind, count) in TELLING_YEARS.iter().zip(&self.years) {
+            println!("  {kind}: {count}");
+        }
+        println!("reports: {} accepted, of which {} counted by pages:", self.reported()[0], self.totals);
+        for (kind, count) in TELLING_REPORTS.iter().zip(&self.reports) {
             println!("  {kind}: {count}");
         }
         print!("{:8}", "number");
