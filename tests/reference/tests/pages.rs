@@ -265,21 +265,12 @@ fn refusal_13_after_1_2_3_and_5() {
     assert_eq!(list(&mut hub, 256, "r|LIST|||0|1"), "no|13");
     assert_eq!(list(&mut hub, 256, "r|GET|a|-"), "ok|6|6|60|-|-|ON");
     hub.bucket.settings.next = 0;
-    let (mut settings, mut rows, mut keys) = (vec![0; 688], vec![0; 1024], vec![0; 1024]);
-    hub.bucket.to_bytes(&mut settings, &mut rows, &mut keys);
-    let line = format!("{T}\tr\tLIST\t\t\t0\t1");
-    let number = reference::serve_bytes(&mut settings, &mut rows, &mut keys, line.as_bytes(), &mut [0; 256]);
-    assert_eq!(number, 1);
+    assert_eq!(hub.number_by_bytes(256, &format!("{T}|r|LIST|||0|1")), 1);
 }
 
 #[test]
 fn later_refusals_are_never_met() {
-    let mut hub = Hub::new(1);
-    hub.run(&[
-        ("9999-12-31T23:59:59.999Z|c|DEFAULT|COMPLIANCE|100y", "ok"),
-        ("9999-12-31T23:59:59.999Z|d|DELETE|m|-|no", "ok|1|marker"),
-    ]);
-    hub.bucket.settings.next = SPENT;
+    let mut hub = Hub::spent();
     let row = "m|1|marker|9999-12-31T23:59:59.999Z|-|-|-|-|OFF";
     assert_eq!(list(&mut hub, "m|m|0|1"), format!("ok|1\n{row}"));
     assert_eq!(list(&mut hub, "none|none|7|1"), "ok|0");

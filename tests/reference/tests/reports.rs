@@ -7,7 +7,6 @@ mod plain;
 mod totals;
 use common::Hub;
 use reference::dates;
-use reference::settings::SPENT;
 
 const T: &str = "2024-01-01T00:00:00Z";
 /// The largest length of a row.
@@ -228,21 +227,12 @@ fn the_order_of_its_refusals() {
     assert_eq!(hub.say_in(256, &format!("{T}|-|REPORT|q q")), "no|3");
     assert_eq!(hub.say_in(256, &format!("{T}|-|REPORT|q")), "no|5");
     hub.bucket.settings.next = 0;
-    let (mut settings, mut rows, mut keys) = (vec![0; 688], vec![0; 1024], vec![0; 1024]);
-    hub.bucket.to_bytes(&mut settings, &mut rows, &mut keys);
-    let line = format!("{T}\tr\tREPORT\tq");
-    let number = reference::serve_bytes(&mut settings, &mut rows, &mut keys, line.as_bytes(), &mut [0; 255]);
-    assert_eq!(number, 1);
+    assert_eq!(hub.number_by_bytes(255, &format!("{T}|r|REPORT|q")), 1);
 }
 
 #[test]
 fn later_refusals_are_never_met() {
-    let mut hub = Hub::new(1);
-    hub.run(&[
-        ("9999-12-31T23:59:59.999Z|c|DEFAULT|COMPLIANCE|100y", "ok"),
-        ("9999-12-31T23:59:59.999Z|d|DELETE|m|-|no", "ok|1|marker"),
-    ]);
-    hub.bucket.settings.next = SPENT;
+    let mut hub = Hub::spent();
     assert_eq!(report(&mut hub, T, "m"), "ok|0|1|0|0");
     assert_eq!(report(&mut hub, T, "none"), "ok|0|0|0|0");
 }

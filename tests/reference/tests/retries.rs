@@ -243,10 +243,7 @@ fn refusals_1_and_2_as_before() {
     assert_eq!(hub.say_in(255, &format!("{T}|{PUT}")), "no|2");
     assert_eq!(hub.say_in(256, &format!("{T}|{PUT}")), "ok|1");
     hub.bucket.settings.next = 1;
-    let (mut settings, mut rows, mut keys) = (vec![0; 688], vec![0; 64], vec![0; 64]);
-    hub.bucket.to_bytes(&mut settings, &mut rows, &mut keys);
-    let line = format!("{T}|{PUT}").replace('|', "\t");
-    let number = reference::serve_bytes(&mut settings, &mut rows, &mut keys, line.as_bytes(), &mut [0; 256]);
+    let number = hub.number_by_bytes(256, &format!("{T}|{PUT}"));
     assert_eq!(number, 1, "the row's number is not below the next one");
 }
 

@@ -1,6 +1,7 @@
 //! A bucket for the tests, served with lines in which `|` stands for a tab.
 #![allow(dead_code)]
 use reference::bucket::{Block, Row};
+use reference::settings::SPENT;
 use reference::Bucket;
 
 pub struct Hub {
@@ -10,6 +11,26 @@ pub struct Hub {
 impl Hub {
     pub fn new(capacity: usize) -> Hub {
         Hub { bucket: Bucket::fresh(capacity) }
+    }
+
+    /// A full bucket without a version number left, its default ending after the last instant; its row is a marker of m.
+    pub fn spent() -> Hub {
+        let mut hub = Hub::new(1);
+        hub.run(&[
+            ("9999-12-31T23:59:59.999Z|c|DEFAULT|COMPLIANCE|100y", "ok"),
+            ("9999-12-31T23:59:59.999Z|d|DELETE|m|-|no", "ok|1|marker"),
+        ]);
+        hub.bucket.settings.next = SPENT;
+        hub
+    }
+
+    /// What a line comes to on the bucket's bytes, which need not be sound.
+    pub fn number_by_bytes(&self, room: usize, line: &str) -> u64 {
+        let length = 64 * self.bucket.capacity();
+        let (mut settings, mut rows, mut keys) = (vec![0; 688], vec![0; length], vec![0; length]);
+        self.bucket.to_bytes(&mut settings, &mut rows, &mut keys);
+        let line = line.replace('|', "\t");
+        reference::serve_bytes(&mut settings, &mut rows, &mut keys, line.as_bytes(), &mut vec![0; room])
     }
 
     /// The answer to a line, as `bucketrun` prints it; a refusal changes nothing.
