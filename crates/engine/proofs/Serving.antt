@@ -240,10 +240,11 @@ pub ruleset swept-lines = (line-sweeps, line-swept)
 
 -- ## GET
 
-module _ (s : Settings) (n keys line a : List ℕ) (x : Name) (when : Now) (p : Passing (lent s n keys) line a (verb.Ask (query.Get x)) when) where
-  pub get-room : leastRoom ≤ length a
-  get-room = known p .room
+-- There is room for the answer of whatever asks.
+pub asked-room : (s : Settings) (n keys line a : List ℕ) (x : Query) (when : Now) → Passing (lent s n keys) line a (verb.Ask x) when → leastRoom ≤ length a
+asked-room s n keys line a x when p = known p .room
 
+module _ (s : Settings) (n keys line a : List ℕ) (x : Name) (when : Now) (p : Passing (lent s n keys) line a (verb.Ask (query.Get x)) when) where
   pub get-inside : Inside line (x .key)
   get-inside = known p .inside
 
@@ -276,7 +277,7 @@ module _ (s : Settings) (n keys line a : List ℕ) (x : Name) (when : Now) (p : 
             asked-kept p longestAnswer len r a′ g _ (rw (sym h) at w) (ap (λ (f : Effect). f .rows) same) (ap (λ (f : Effect). f .taken) same)
             ∙ (rw t at judged-done)
 
-pub ruleset gets = (get-room, get-inside, get-asked, get-refused, get-prints, get-answered)
+pub ruleset gets = (asked-room, get-inside, get-asked, get-refused, get-prints, get-answered)
 
 -- ## LIST
 
@@ -309,9 +310,6 @@ module _ (s : Settings) (n keys line a : List ℕ) (x : Place) (when : Now) (p :
   pub report-inside : x .start + x .len ≤ length line
   report-inside = known p .inside .end
 
-  pub report-room : leastRoom ≤ length a
-  report-room = known p .room
-
   module _ (st : State) (e : st ≡ stateOf s) where
     pub report-reportable : Reportable n keys (st .used)
     report-reportable = let r = known p .asked .ready in rw e (reportable n keys (s .used) (s .next) (s .time) (r .holds) (r .in-order) (r .rows-sound) (omega (arith, r .used-fits, r .capacity-fits)))
@@ -322,7 +320,7 @@ module _ (s : Settings) (n keys line a : List ℕ) (x : Place) (when : Now) (p :
     unfolding reply
     report-answered prefix a′ len r f w h = asked-unnamed p longestAnswer len r a′ h refl (rw (e, f) at w)
 
-pub ruleset reports = (report-inside, report-room, report-reportable, report-answered)
+pub ruleset reports = (report-inside, asked-room, report-reportable, report-answered)
 
 -- ## What asks, by its verb
 

@@ -73,18 +73,10 @@ row-data n t x e k =
 pub row-marker : (n t : ℕ) (x : Row) → soundRow n t x ≡ true → isData x ≡ false → x .kind ≡ 2
 row-marker n t x e d = eqb-true (x .kind) 2 (and-l _ _ (rw d at ((row-parts n t x e) .rest)))
 
--- No row is longer than the largest length.
-pub row-size : (n t : ℕ) (x : Row) → soundRow n t x ≡ true → x .size ≤ largestSize
-row-size n t x e =
-    elim (either (isData x)) [
-      | inl d ↦ leb-true (x .size) largestSize (and-l _ _ (and-r (ltb (x .body) bodies) _ (rw d at ((row-parts n t x e) .rest))))
-      | inr d ↦ omega (arith, eqb-true (x .size) 0 (and-l _ _ (and-r (eqb (x .body) 0) _ (and-r (isMarker x) _ (rw d at ((row-parts n t x e) .rest))))))
-    ]
-
 pub sound-key : (n t : ℕ) (x : Row) → soundRow n t x ≡ true → isKey (x .key) ≡ true
 sound-key n t x e = (row-parts n t x e) .key-fits
 
--- ## The dates of a sound row
+-- ## The dates and the length of a sound row
 
 -- A sound date is an instant.
 pub date-most : (m d : ℕ) → soundRetention m d ≡ true → d ≤ latest
@@ -96,15 +88,17 @@ date-most m d e =
           leb-true d latest (and-r (leb 1 d) _ (and-r (isMode m) _ f))
     ]
 
--- A row that is no data has neither mode nor date.
+-- A row that is no data has neither length, mode nor date.
 pub record Bare (x : Row) : Type 0 where
+  pub no-length : x .size ≡ 0
   pub no-mode : x .mode ≡ 0
   pub no-date : x .until ≡ 0
 
 pub row-bare : (n t : ℕ) (x : Row) → soundRow n t x ≡ true → isData x ≡ false → Bare x
 row-bare n t x e d =
-    let f = and-r (eqb (x .size) 0) _ (and-r (eqb (x .body) 0) _ (and-r (isMarker x) _ (rw d at ((row-parts n t x e) .rest)))) in
-    record { no-mode = eqb-true (x .mode) 0 (and-l _ _ f); no-date = eqb-true (x .until) 0 (and-l _ _ (and-r (eqb (x .mode) 0) _ f)) }
+    let g = and-r (eqb (x .body) 0) _ (and-r (isMarker x) _ (rw d at ((row-parts n t x e) .rest))) in
+    let f = and-r (eqb (x .size) 0) _ g in
+    record { no-length = eqb-true (x .size) 0 (and-l _ _ g); no-mode = eqb-true (x .mode) 0 (and-l _ _ f); no-date = eqb-true (x .until) 0 (and-l _ _ (and-r (eqb (x .mode) 0) _ f)) }
 
 pub row-date : (n t : ℕ) (x : Row) → soundRow n t x ≡ true → x .until ≤ latest
 row-date n t x e =
@@ -113,6 +107,14 @@ row-date n t x e =
           let f = and-r (ltb (x .body) bodies) _ (rw d at ((row-parts n t x e) .rest)) in
           date-most (x .mode) (x .until) (and-l _ _ (and-r (leb (x .size) largestSize) _ f))
       | inr d ↦ omega (arith, (row-bare n t x e d) .no-date)
+    ]
+
+-- No row is longer than the largest length.
+pub row-size : (n t : ℕ) (x : Row) → soundRow n t x ≡ true → x .size ≤ largestSize
+row-size n t x e =
+    elim (either (isData x)) [
+      | inl d ↦ leb-true (x .size) largestSize (and-l _ _ (and-r (ltb (x .body) bodies) _ (rw d at ((row-parts n t x e) .rest))))
+      | inr d ↦ omega (arith, (row-bare n t x e d) .no-length)
     ]
 
 pub row-dated : (n t : ℕ) (x : Row) → t ≤ latest → soundRow n t x ≡ true → Dated x

@@ -139,7 +139,7 @@ module _ (s : List ℕ) where
 
   -- One with the word SWEEP asks for that.
   pub asks-sweep : (q : Said) → fieldOf s 2 ≡ bytes "SWEEP" → readLine s ≡ some q → q .verb ≡ model.Sweep
-  unfolding verbByWord queryByWord otherByWord sweepOf
+  unfolding verbByWord otherByWord sweepOf
   asks-sweep q e = line-asks s (λ v. v ≡ model.Sweep) (sweepOf s) (rw e) (search ways depth 16) q
 
   -- where the verb is SWEEP, that is the word
