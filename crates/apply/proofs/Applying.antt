@@ -20,6 +20,8 @@ use Rattle.judge.specs.declared.Change.{Change}
 use Rattle.judge.specs.declared.Change.the-variants.{Keep, Insert, Rewrite, Remove}
 use Rattle.judge.specs.Meaning.{Judged, keyHere, Changeable}
 use Rattle.apply.specs.Applied.{judged, Applicable, Applied}
+use mir.Val.{Fits}
+use mir.Syntax.{w64}
 
 -- The key of a used row, read from the list of the rows.
 head-at : (xs : List Row) (i : ℕ) (d : Row) → i < length xs → places.nthRow xs i ≡ some (getD xs i d)
@@ -45,6 +47,9 @@ module _ (line : List ℕ) (next instant : ℕ) (fates n b : List ℕ) (u : ℕ)
 
     pub insert-within : k .start + k .len ≤ length line
     insert-within = insert-can .3
+
+    pub insert-number : Fits w64 (next + 1)
+    insert-number = omega (arith, insert-can .4)
 
     pub insert-ready : Insertable n b u i
     insert-ready = record { held = h .held; within = omega (arith, long, insert-can .0); free = omega (arith, long, insert-can .1) }
@@ -93,4 +98,4 @@ module _ (line : List ℕ) (next instant : ℕ) (fates n b : List ℕ) (u : ℕ)
   pub kept : v ≡ Keep → Applied j (capacity b) (rowsOf n b u) v n b (record { used = u; next = next })
   kept q = rw q (record { held = h .held; used-is = sym long; next-is = omega arith })
 
-pub ruleset applying = (insert-within, insert-ready, insert-key, inserted, rewrite-ready, rewritten, remove-ready, remove-some, removed, kept)
+pub ruleset applying = (insert-within, insert-number, insert-ready, insert-key, inserted, rewrite-ready, rewritten, remove-ready, remove-some, removed, kept)

@@ -4,7 +4,6 @@ use mathlib.Core.Path.{_≡_}
 use mathlib.Core.List.{List}
 use lib.ListN.{length}
 use Rattle.model.specs.Rows.{Row}
-use Rattle.model.specs.Settings.{spentNumber}
 use Rattle.table.specs.Layout.{rowsOf, capacity, Holds}
 use Rattle.judge.specs.declared.Change.{Change}
 use Rattle.judge.specs.Meaning.{Judged, changeMeans, changeTakes, Changeable}
@@ -20,7 +19,6 @@ pub record Applicable (j : Judged) (numbers keys : List ℕ) (used : ℕ) (chang
   pub can : Changeable j (capacity keys) (rowsOf numbers keys used) change
   pub small : capacity keys ≤ 1024
   pub used-small : used ≤ 1024
-  pub next-fits : j .next ≤ spentNumber
 
 -- The buffers hold the rows that the change leaves, and the counts are theirs.
 pub record Applied (j : Judged) (c : ℕ) (xs : List Row) (change : Change) (numbers keys : List ℕ) (p : Progress) : Type 0 where

@@ -89,7 +89,7 @@ module _ (s : State) (n keys line a : List ℕ) (o : Verdict) (now : ℕ) (fates
     pub plan-can : Applicable (judged line (s .next) now fates) n keys (s .used) (plan .change)
     plan-can =
         let r = p .ready in
-        record { held = r .holds; can = feasible .0; small = r .capacity-fits; used-small = omega (arith, r .used-fits, r .capacity-fits); next-fits = r .next-fits }
+        record { held = r .holds; can = feasible .0; small = r .capacity-fits; used-small = omega (arith, r .used-fits, r .capacity-fits) }
 
     pub plan-prints : Printable (plan .answer)
     plan-prints = feasible .1

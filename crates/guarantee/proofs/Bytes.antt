@@ -11,7 +11,7 @@ use borrow.Author.Tests.{eqb-true, eqb-false, ltb-false}
 use Rattle.buffers.proofs.Tests.{either, and-l}
 use Rattle.buffers.proofs.Choices.{pick-ways}
 use Rattle.model.specs.Run.{left}
-use Rattle.model.specs.LockClause.{Kept}
+use Rattle.model.specs.LockClause.{since, Kept}
 use Rattle.model.proofs.Runs.{left-as, gathered-as}
 use Rattle.settings.specs.Bytes.{settingsLength}
 use Rattle.table.specs.Layout.{capacity}
@@ -27,10 +27,11 @@ use Rattle.knitpasture.proofs.Hub.{HandsOn, hub-range, hub-refused, hub-hands-o
 use Rattle.knitpasture.proofs.FreshBucket.{fresh-made, fresh-hands-on}
 use Rattle.guarantee.specs.Calls.{step, callEvent, callEvents}
 use Rattle.guarantee.specs.Bytes.{Sized, outcomeInBytes, Demand1Bytes, Demand2Bytes, WrongLengths, freshBytes, FreshMade, byteStep, byteEvent, byteEvents, Demand3Bytes}
+use Rattle.guarantee.specs.Carried.{Carriable, RunsOnBytes, SeenWhole}
 use Rattle.guarantee.specs.Exchanges.{Exchange, exchange, exchanges, byteExchange, byteExchanges, isServed}
 use Rattle.guarantee.proofs.Demands.{demand-2}
 use Rattle.guarantee.proofs.Runs.{whole-after}
-use Rattle.guarantee.proofs.LockClause.{fresh-is-whole, demand-3}
+use Rattle.guarantee.proofs.LockClause.{runs-on, fresh-is-whole, fresh-carriable}
 
 -- ## Lengths
 
@@ -58,13 +59,20 @@ sized-fits c b z =
     let m = z .most in
     record { settings-long = z .settings-long; rows-most = omega arith; rows-even = omega arith }
 
+-- A call that does not return 1 tells that the bucket is whole.
+not-1-whole : (b : Lent) (g : Call) → ((outcome b g) .number ≡ 1 → ⊥) → whole b ≡ true
+not-1-whole b g n = elim (either (whole b)) [ inl w ↦ w | inr w ↦ absurd (n (ap (λ (o : Outcome). o .number) (sym (outcome-1 b g w)))) ]
+
+pub seen-whole : SeenWhole
+unfolding hubServed
+seen-whole b g =
+    spelling-ways b (λ (x : ByteOutcome). (x .number ≡ 1 → ⊥) → Sized (capacity (b .keys)) b × (whole (lentOf b) ≡ true))
+    (λ f n. let w = not-1-whole (lentOf b) g (λ e. n (left-number _ (outcome (lentOf b) g) b (g .answer) ∙ e)) in (whole-sized b f w, w))
+    (λ n. absurd (n refl))
+
 -- An accepted call tells that the bytes have the lengths of some c rows.
 pub accepted-sized : (b : Bytes) (g : Call) → (hubServed b g) .number ≡ 0 → Sized (capacity (b .keys)) b
-unfolding hubServed
-accepted-sized b g =
-    spelling-ways b (λ (x : ByteOutcome). x .number ≡ 0 → Sized (capacity (b .keys)) b)
-    (λ f n. whole-sized b f (accepted-of-whole (lentOf b) g (sym (left-number _ (outcome (lentOf b) g) b (g .answer)) ∙ n)))
-    (λ n. absurd (omega arith))
+accepted-sized b g n = (seen-whole b g (λ e. omega arith)) .0
 
 -- ## A call on bytes of the lengths of c rows
 
@@ -191,7 +199,7 @@ fresh-is-made b =
       refuses = fresh-refused b;
     }
 
--- ## A list of calls: demand 3 of the C entries
+-- ## A list of calls: the lock clause and demand 3 of the C entries
 
 module _ (c : ℕ) where
   pub sized-after : (b : Bytes) (g : Call) → Sized c b → Sized c (byteStep b g)
@@ -215,9 +223,11 @@ module _ (c : ℕ) where
       gathered-as byteStep step lentOf (λ g. g) (Sized c) sized-after spelled-after (λ b g. byteExchange b g ∷ []) (λ b g. exchange b g ∷ []) (λ b g z. ap (λ (e : Exchange). e ∷ []) (same-exchange c b g z)) b gs z
       ∙ ap (exchanges (lentOf b)) (map-id gs)
 
+pub runs-on-bytes : RunsOnBytes
+runs-on-bytes c b z p gs =
+    subst⁻¹ (λ (x : Lent). Kept (bucketOf x) (since (bucketOf (lentOf b)) (byteEvents b gs))) (spelled-left c b gs z)
+    (rw (spelled-events c b gs z) (runs-on (lentOf b) p gs))
+
 pub demand-3-bytes : Demand3Bytes
 demand-3-bytes c b z gs =
-    let f = fresh-sized c b z in
-    let e = (fresh-handed c b z) .spells in
-    subst⁻¹ (λ (x : Lent). Kept (bucketOf x) (byteEvents (freshBytes b) gs)) (spelled-left c (freshBytes b) gs f ∙ ap (λ (s : Lent). left step s gs) e)
-    (rw (spelled-events c (freshBytes b) gs f ∙ ap (λ (s : Lent). callEvents s gs) e) (demand-3 c (z .some) (z .most) gs))
+    runs-on-bytes c (freshBytes b) (fresh-sized c b z) (subst⁻¹ Carriable ((fresh-handed c b z) .spells) (fresh-carriable c (z .some) (z .most))) gs

@@ -28,7 +28,7 @@ use Rattle.model.specs.Run.{left, gathered}
 use Rattle.model.specs.Sweep.{marker}
 use Rattle.model.specs.Expiry.{byNumber, byKey}
 use Rattle.model.proofs.Expiry.{expired-due, noncurrent-acts}
-use Rattle.model.specs.LockClause.{Held, InCompliance}
+use Rattle.model.specs.LockClause.{since, Held, InCompliance, byLine}
 use Rattle.model.specs.Effects.{rowOf, added, removed, rowsAfter, setConfig, configAfter}
 use Rattle.model.specs.Locks.{locked, admits}
 use Rattle.model.specs.Refusals.{halfGiven, needs, granted, lacksRight, shortForPage, pastDate, missing, namesMarker, barred, tooLate, spends, full}
@@ -297,7 +297,7 @@ pub record Examples : Type 0 where
   pub date-printed : fieldOf (firstLine ((outcome withLocked get) .answer)) 5 ≡ bytes "2033-01-05T00:00:00.007Z"
   pub date-read : readDate (fieldOf (firstLine ((outcome withLocked get) .answer)) 5) ≡ some 1988496000007
   pub refused-9 : (hubServed (byteStep (freshBytes oneRow) lockedPut) (asks (bytes "2033-01-05T00:00:00.006Z\tdb\tDELETE\tq/7\t1\tyes"))) .number ≡ 9
-  pub held-in-bytes : Held (bucketOf (lentOf (left byteStep (freshBytes oneRow) calls))) (byteEvents (freshBytes oneRow) calls) 1 (InCompliance 1988496000007)
+  pub held-in-bytes : Held (bucketOf (lentOf (left byteStep (freshBytes oneRow) calls))) (since (bucketOf (lentOf (freshBytes oneRow))) (byteEvents (freshBytes oneRow) calls)) 1 (InCompliance 1988496000007)
   pub sent-again : SentAgain
   pub by-midnights : ByMidnights
   pub counted : CountedKeys
@@ -317,7 +317,7 @@ examples =
       date-printed = refl;
       date-read = refl;
       refused-9 = refl;
-      held-in-bytes = (demand-3-bytes 1 oneRow (record { some = lit≤ tt; most = lit≤ tt; settings-long = refl; rows-long = refl; keys-long = refl }) calls) .inCompliance [] [] _ 1 1988496000007 refl refl (lit< tt);
+      held-in-bytes = (demand-3-bytes 1 oneRow (record { some = lit≤ tt; most = lit≤ tt; settings-long = refl; rows-long = refl; keys-long = refl }) calls) .inCompliance 1 1988496000007 [] (byLine [] _ refl refl) (lit< tt);
       sent-again = record {
         is-put = refl;
         no-row-left = refl;

@@ -8,6 +8,7 @@ pub mod Lists
 pub mod Dates
 pub mod Listed
 pub mod Bytes
+pub mod Carried
 pub mod Pages
 pub mod Retries
 pub mod Expiry
@@ -15,4 +16,5 @@ pub mod Comparisons
 pub mod Years
 pub mod Reports
 pub mod PagesFollowed
+pub mod CarriedOver
 pub mod Examples

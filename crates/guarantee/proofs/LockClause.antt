@@ -1,4 +1,4 @@
--- Demand 3, and the journal of accepted calls.
+-- The lock clause over calls, demand 3, and the journal of accepted calls.
 use Prim.Native.Nat.{ℕ, _*_, _≤_}
 use mathlib.Core.Path.{_≡_, refl, ap}
 use mathlib.Core.Logic.{inl, inr}
@@ -7,19 +7,26 @@ use native.Mathlib.Omega.{arith}
 use lib.ListN.{length-replicate}
 use borrow.Author.Tests.{eqb-false}
 use Rattle.buffers.proofs.Tests.{either}
-use Rattle.blocks.specs.Blocks.{blockOf}
 use Rattle.model.specs.Run.{left}
 use Rattle.model.proofs.LockClause.{lock-clause}
-use Rattle.bucket.specs.Whole.{Lent, freshLent}
-use Rattle.bucket.proofs.Whole.{fresh-whole}
+use Rattle.table.specs.Layout.{capacity}
+use Rattle.bucket.specs.Whole.{Lent, freshLent, bucketOf}
+use Rattle.bucket.proofs.Whole.{whole-parts, fresh-whole}
 use Rattle.outcome.specs.Calls.{Call, heard}
 use Rattle.outcome.specs.Outcome.{Outcome, outcome}
 use Rattle.outcome.proofs.Demands.{outcome-refused}
 use Rattle.guarantee.specs.Calls.{step, isAccepted, acceptedCalls}
 use Rattle.guarantee.specs.Promise.{Demand3}
+use Rattle.guarantee.specs.Carried.{Carriable, RunsOn}
 use Rattle.guarantee.proofs.Runs.{Whole, held-left, events-left}
 
--- ## Demand 3
+-- ## The lock clause from any whole bucket whose version numbers all differ (M-106), and demand 3
+
+pub runs-on : RunsOn
+runs-on b p gs =
+    let c = capacity (b .keys) in
+    let w : Whole c b = record { is-whole = p .is-whole; size = refl } in
+    rw (held-left c b gs w, events-left c b gs w) (lock-clause c (bucketOf b) ((whole-parts b (p .is-whole)) .is-sound) (p .numbers-differ) (map heard gs))
 
 pub fresh-is-whole : (c : ℕ) → 1 ≤ c → c ≤ 1024 → Whole c (freshLent c)
 fresh-is-whole c some most =
@@ -28,11 +35,11 @@ fresh-is-whole c some most =
       size = let e = length-replicate {A = ℕ} (64 * c) 0 in omega arith;
     }
 
+pub fresh-carriable : (c : ℕ) → 1 ≤ c → c ≤ 1024 → Carriable (freshLent c)
+fresh-carriable c some most = record { is-whole = fresh-whole c some most; numbers-differ = refl }
+
 pub demand-3 : Demand3
-unfolding blockOf
-demand-3 c some most gs =
-    let w = fresh-is-whole c some most in
-    rw (held-left c (freshLent c) gs w, events-left c (freshLent c) gs w) (lock-clause c (map heard gs))
+demand-3 c some most gs = runs-on (freshLent c) (fresh-carriable c some most) gs
 
 -- ## The journal
 

@@ -10,7 +10,7 @@ use Rattle.buffers.specs.Lists.{all}
 use Rattle.model.specs.Requests.{Request, says}
 use Rattle.model.specs.Refusals.{FirstHolds, lastRefusal}
 use Rattle.model.specs.Run.{Event, left, gathered}
-use Rattle.model.specs.LockClause.{Kept}
+use Rattle.model.specs.LockClause.{since, Kept}
 use Rattle.settings.specs.Bytes.{settingsLength, settingsBytes}
 use Rattle.bucket.specs.Whole.{bucketOf, freshLent}
 use Rattle.outcome.specs.Calls.{Call, heard}
@@ -88,6 +88,10 @@ byteEvent b g = pick (eqb ((hubServed b g) .number) 0) (eventHeard (bucketOf (le
 abbrev pub byteEvents : Bytes → List Call → List Event
 byteEvents b gs = gathered byteStep byteEvent b gs
 
+-- The lock clause of what a list of calls leaves of the bytes.
+abbrev pub KeptSinceBytes : Bytes → List Call → Type 0
+KeptSinceBytes b gs = Kept (bucketOf (lentOf (left byteStep b gs))) (since (bucketOf (lentOf b)) (byteEvents b gs))
+
 -- Demand 3: any bytes of the lengths of some c, made fresh by `knitpasture_fresh`, and any list of calls of `knitpasture_serve`.
 abbrev pub Demand3Bytes : Type 0
-Demand3Bytes = (c : ℕ) (b : Bytes) → Sized c b → (gs : List Call) → Kept (bucketOf (lentOf (left byteStep (freshBytes b) gs))) (byteEvents (freshBytes b) gs)
+Demand3Bytes = (c : ℕ) (b : Bytes) → Sized c b → (gs : List Call) → KeptSinceBytes (freshBytes b) gs

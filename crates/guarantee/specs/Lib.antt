@@ -9,3 +9,4 @@ pub mod Expiry
 pub mod Comparisons
 pub mod Years
 pub mod Reports
+pub mod Carried

@@ -13,7 +13,7 @@ use Rattle.model.specs.Requests.{Name, Get, Ask, Request, says}
 use Rattle.model.specs.Effects.{rowOf}
 use Rattle.model.specs.Refusals.{FirstHolds, lastRefusal}
 use Rattle.model.specs.Run.{left}
-use Rattle.model.specs.LockClause.{Kept}
+use Rattle.model.specs.LockClause.{since, Kept}
 use Rattle.bucket.specs.Whole.{Lent, bucketOf, freshLent}
 use Rattle.outcome.specs.Calls.{Call, heard}
 use Rattle.outcome.specs.Outcome.{Outcome, refused, accepted, conditions, outcome}
@@ -50,6 +50,10 @@ DateReadsBack b g =
     (n : Name) (q : Request) (x : Row) → (outcome b g) .number ≡ 0 → heard g ≡ says q → q .verb ≡ Ask (Get n) → rowOf (bucketOf b .rows) n ≡ some x
     → (x .mode ≡ 0 → ⊥) → readDate (fieldOf (firstLine ((outcome b g) .answer)) 5) ≡ some (x .until)
 
+-- The lock clause of what a list of calls leaves of a bucket.
+abbrev pub KeptSince : Lent → List Call → Type 0
+KeptSince b gs = Kept (bucketOf (left step b gs)) (since (bucketOf b) (callEvents b gs))
+
 -- Demand 3: on a fresh bucket of any capacity, over any list of calls, the lock clause.
 abbrev pub Demand3 : Type 0
-Demand3 = (c : ℕ) → 1 ≤ c → c ≤ 1024 → (gs : List Call) → Kept (bucketOf (left step (freshLent c) gs)) (callEvents (freshLent c) gs)
+Demand3 = (c : ℕ) → 1 ≤ c → c ≤ 1024 → (gs : List Call) → KeptSince (freshLent c) gs

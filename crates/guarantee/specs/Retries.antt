@@ -15,8 +15,7 @@ use Rattle.model.specs.Effects.{after}
 use Rattle.model.specs.Retries.{IsRetry}
 use Rattle.model.specs.Refusals.{leastRoom, outOfRange, halfGiven, lacksRight, pastDate, Check, check, firstOf}
 use Rattle.model.specs.Answers.{made}
-use Rattle.model.specs.Run.{Event}
-use Rattle.model.specs.LockClause.{makes, putsUnder, putsOnHold, noneOf}
+use Rattle.model.specs.LockClause.{History, makes, putsUnder, putsOnHold, noneOf}
 use Rattle.settings.specs.Changes.{withProgress}
 use Rattle.table.specs.Layout.{capacity}
 use Rattle.bucket.specs.Whole.{Lent, lent, bucketOf, laidOut, whole}
@@ -52,9 +51,9 @@ pub record Retried (b : Lent) (g : Call) (q : Request) (x : Row) : Type 0 where
   -- Accepted, it answers the row's number, and of the bucket only the time changes, to the line's now.
   pub does : (outcome b g) .number ≡ 0 → outcome b g ≡ answeredBy (answerText (made (numbered (x .number)))) (atTime b ((nowOf (bucketOf b) (q .context)) .stamp)) (g .answer)
   -- For the lock clause it makes no version, puts none under a mode, and none on hold.
-  pub makes-none : (early : List Event) (v : ℕ) → noneOf (makes early v) (callEvent b g) ≡ true
-  pub puts-none-under : (early : List Event) (mode d v : ℕ) → noneOf (putsUnder early mode d v) (callEvent b g) ≡ true
-  pub puts-none-on-hold : (early : List Event) (v : ℕ) → noneOf (putsOnHold early v) (callEvent b g) ≡ true
+  pub makes-none : (early : History) (v : ℕ) → noneOf (makes early v) (callEvent b g) ≡ true
+  pub puts-none-under : (early : History) (mode d v : ℕ) → noneOf (putsUnder early mode d v) (callEvent b g) ≡ true
+  pub puts-none-on-hold : (early : History) (v : ℕ) → noneOf (putsOnHold early v) (callEvent b g) ≡ true
 
 -- A PUT is heard that is a retry of a row.
 abbrev pub RetryAddsNone : Type 0

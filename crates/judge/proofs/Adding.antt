@@ -94,16 +94,16 @@ module _ (g : Config) (now : ℕ) (r : Retention) (x : NewLock) (e : lockMeans x
 
 -- A version number is left, and a row is free.
 record Spare (c used next : ℕ) : Type 0 where
-  unspent : next ≡ spentNumber → ⊥
+  unspent : next < spentNumber
   free : used < c
 
-has-spare : (c used next k : ℕ) → k ≡ rowRefusal c used next → k ≡ 0 → Spare c used next
+has-spare : (c used next k : ℕ) → next ≤ spentNumber → k ≡ rowRefusal c used next → k ≡ 0 → Spare c used next
 unfolding rowRefusal
-has-spare c used next k e z =
+has-spare c used next k m e z =
     elim (either (eqb next spentNumber)) [
       | inl f ↦ let q : k ≡ 11 = e ∙ rw f in absurd (omega arith)
       | inr f ↦ elim (either (ltb used c)) [
-        | inl l ↦ record { unspent = eqb-false next spentNumber f; free = ltb-true used c l }
+        | inl l ↦ record { unspent = let n = eqb-false next spentNumber f in omega arith; free = ltb-true used c l }
         | inr l ↦ let q : k ≡ 12 = e ∙ simp (f, l) in absurd (omega arith)
       ]
     ]
@@ -171,8 +171,7 @@ module _ (s : State) (numbers keys line : List ℕ) (now : ℕ) (p : Place) (at 
     put-done h none-holds eh =
         let w = placed .place in
         let z = rows-length numbers keys (s .used) in
-        let f = has-spare (capacity keys) (s .used) (s .next) k refusal none-holds in
-        let left = f .unspent in
+        let f = has-spare (capacity keys) (s .used) (s .next) k (placed .asked .ready .next-fits) refusal none-holds in
         let room = f .free in
         let l = lock-is (configBy s rules) now (t .retention) x (lock rules) m d e in
         let row = newRow (bucketBy s rules [] .settings) now (partOf line p) body size t in
@@ -181,10 +180,10 @@ module _ (s : State) (numbers keys line : List ℕ) (now : ℕ) (p : Place) (at 
         (Put (partOf line p) body size t) row
         (put-open s rules (rowsIn s numbers keys) now (partOf line p) body size t (l .in-time)) refl refl
         (record { change = Insert at (record { number = s .next; kind = 1; created = now; body = body; size = size; mode = m; until = d; hold = h }) p; answer = Made (s .next) })
-        (omega (arith, placed .asked .ready .next-fits)) (omega arith)
+        (f .unspent) (omega arith)
         (rw (w .is, l .mode, l .until, eh) (sym (insert-place row (rowsIn s numbers keys))))
         refl refl
-        ((omega (arith, w .most), omega arith, short, placed .inside .end), tt)
+        ((omega (arith, w .most), omega arith, short, placed .inside .end, f .unspent), tt)
 
 pub ruleset new-ways = (put-late, put-refused, put-done)
 
@@ -287,16 +286,15 @@ module _ (s : State) (numbers keys line : List ℕ) (now : ℕ) (p : Place) (y :
   unfolding added rowsAfter reply
   marker-done key at n none-holds inside ek w new =
       let z = rows-length numbers keys (s .used) in
-      let f = has-spare (capacity keys) (s .used) (s .next) k refusal none-holds in
-      let left = f .unspent in
+      let f = has-spare (capacity keys) (s .used) (s .next) k (ready .next-fits) refusal none-holds in
       let room = f .free in
       let row = marker now (s .next) (partOf line p) in
       add-done _ (capacity keys) s rules (rowsIn s numbers keys) now who (AddMarker (partOf line p) y) row
       (marker-open s rules (rowsIn s numbers keys) now (partOf line p) y) refl refl
       (record { change = Insert at n p; answer = Marked (s .next) })
-      (omega (arith, ready .next-fits)) (omega arith)
+      (f .unspent) (omega arith)
       (rw (w .is, ek, new (partOf line p)) (sym (insert-place row (rowsIn s numbers keys))))
       refl refl
-      ((omega (arith, w .most), omega arith, key-short (partOf line p) is-key, inside .end), tt)
+      ((omega (arith, w .most), omega arith, key-short (partOf line p) is-key, inside .end, f .unspent), tt)
 
 pub ruleset marker-ways = (ready-searchable, marker-refused, marker-done)

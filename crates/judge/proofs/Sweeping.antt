@@ -105,13 +105,16 @@ sweep-open s us xs now = record { there = refl; no-marker = refl; unbarred = ref
 
 module _ (s : State) (numbers keys line : List ℕ) (now : ℕ) (who : Rights) (us : List model.Rule) (entry fs : List ℕ) (n : Counts)
     (asked : Asked s numbers keys now Sweep) (judged : JudgedRows us now (rowsIn s numbers keys) (s .used) entry fs n) where
-  pub sweep-spent : model.spentNumber < s .next + n .added → JudgesBy s numbers keys line now who us fs Sweep (Refused 11)
+  pub sweep-spent : model.spentNumber - s .next < n .added → JudgesBy s numbers keys line now who us fs Sweep (Refused 11)
   unfolding added
   sweep-spent l =
       refuse-11 _ (capacity keys) (bucketBy s us (rowsIn s numbers keys)) (both now) who Sweep (sweep-open s us (rowsIn s numbers keys) now)
-      (rw (judged .added .is) at l)
+      (let a = judged .added .is in omega arith)
 
-  module _ (left : s .next + n .added ≤ model.spentNumber) where
+  module _ (enough : n .added ≤ model.spentNumber - s .next) where
+    left : s .next + n .added ≤ model.spentNumber
+    left = omega (arith, asked .ready .next-fits)
+
     pub sweep-full : capacity keys < s .used - n .removed + n .added → JudgesBy s numbers keys line now who us fs Sweep (Refused 12)
     unfolding added rowsAfter
     sweep-full l =

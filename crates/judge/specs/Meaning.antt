@@ -63,7 +63,7 @@ verdictMeans j xs (Accepted p) = does (planMeans j xs p)
 -- A change that a table of capacity c with these rows can carry out.
 abbrev pub Changeable : Judged → ℕ → List Row → Change → Type 0
 Changeable j c xs Keep = Unit
-Changeable j c xs (Insert i n k) = (i ≤ length xs) × (length xs < c) × (length (partOf (j .line) k) ≤ 63) × (k .start + k .len ≤ length (j .line))
+Changeable j c xs (Insert i n k) = (i ≤ length xs) × (length xs < c) × (length (partOf (j .line) k) ≤ 63) × (k .start + k .len ≤ length (j .line)) × (j .next < spentNumber)
 Changeable j c xs (Rewrite i n) = i < length xs
 Changeable j c xs (Remove i) = i < length xs
 Changeable j c xs (Sweep gone new) =

@@ -386,7 +386,8 @@ pub fn judge_sweep(
     let comparisons = judged.comparisons;
     let gone = judged.counts.removed;
     let new = judged.counts.added;
-    if model::SPENT < s.next + new as u64 {
+    // At the end of the numbers the sum of both would not fit.
+    if model::SPENT - s.next < new as u64 {
         return SweepVerdict {
             verdict: Verdict::Refused(model::NUMBERS_SPENT),
             comparisons,

@@ -11,15 +11,15 @@ use Rattle.text.specs.Keys.{isKeyByte, isKey, isPrefix}
 use Rattle.calendar.specs.Calendar.{day}
 use Rattle.calendar.specs.Periods.{periodEnd, expiresAt}
 use Rattle.model.specs.Rows.{governance, compliance, soundRow}
-use Rattle.model.specs.Settings.{fresh, days, soundRules, soundConfig, fits, sound}
+use Rattle.model.specs.Settings.{Bucket, fresh, days, soundRules, soundConfig, fits, sound}
 use Rattle.model.specs.Requests.{Rights, Version, numbered, name, noRetention, Terms, DefaultRetention, LifecycleRule, Get, Report, Verb, Put, Copy, Retain, AddMarker, DeleteVersion, Set, Sweep, Ask, Heard, says, inRange}
 use Rattle.model.specs.Time.{defaultEnd}
 use Rattle.model.specs.Locks.{locked, admits}
 use Rattle.model.specs.Effects.{added, removed as rowsRemoved, rowsAfter, setConfig, configAfter}
 use Rattle.model.specs.Refusals.{halfGiven, needs, granted, lacksRight, shortForPage, pastDate, missing, namesMarker, barred, tooLate, spends, full, refusal}
-use Rattle.model.specs.Answers.{done, made, repeated, marked, removed, sweptCounts, shown, reported, reply}
+use Rattle.model.specs.Answers.{done, made, repeated, marked, removed, removedMarker, sweptCounts, shown, reported, reply}
 use Rattle.model.specs.Run.{Reply, no, ok, replies, run, lineEvents}
-use Rattle.model.specs.LockClause.{Held, InCompliance, InGovernance, OnHold}
+use Rattle.model.specs.LockClause.{History, since, madeWith, Held, InCompliance, InGovernance, OnHold, carriedOver, byLine}
 use Rattle.model.proofs.LockClause.{lock-clause}
 
 -- ## 01's run
@@ -146,6 +146,52 @@ on-hold =
     ∷ line 2 (DeleteVersion key (numbered 1) true)
     ∷ []
 
+-- ## A bucket carried over
+
+-- Spent as long as numbers ended at 4294967295, at time 900: a marker on a file under COMPLIANCE until D, a file under GOVERNANCE until D, and one on hold that was under COMPLIANCE until 1000.
+abbrev old : Bucket
+old =
+    record {
+      settings = record { time = 900; next = 4294967296; config = fresh .settings .config };
+      rows =
+          record { number = 4294967295; kind = 2; created = 900; body = 0; size = 0; mode = 0; until = 0; hold = 0; key = key }
+          ∷ record { number = 1; kind = 1; created = 800; body = 41; size = 300; mode = compliance; until = D; hold = 0; key = key }
+          ∷ record { number = 8; kind = 1; created = 800; body = 43; size = 302; mode = governance; until = D; hold = 0; key = bytes "q/8" }
+          ∷ record { number = 2; kind = 1; created = 800; body = 42; size = 301; mode = compliance; until = 1000; hold = 1; key = bytes "q/9" }
+          ∷ [];
+    }
+
+-- A DELETE of each, at first by a clock that is behind the time carried over, and a COPY of the one on hold.
+abbrev sent : List Heard
+sent =
+    line 100 (DeleteVersion key (numbered 1) true)
+    ∷ line 100 (DeleteVersion (bytes "q/8") (numbered 8) false)
+    ∷ line 1000 (DeleteVersion (bytes "q/9") (numbered 2) true)
+    ∷ line 1000 (DeleteVersion key (numbered 4294967295) true)
+    ∷ line 1000 (Copy (name (bytes "q/9") none) (bytes "r/1") plain)
+    ∷ []
+
+abbrev since-old : History
+since-old = since old (lineEvents 5 old sent)
+
+pub record Carried : Type 0 where
+  pub answered : replies 5 old sent ≡ no 9 ∷ no 9 ∷ no 9 ∷ ok (removedMarker (numbered 4294967295)) ∷ ok (made (numbered 4294967296)) ∷ []
+  pub compliance-held : Held (run 5 old sent) since-old 1 (InCompliance D)
+  pub governance-held : Held (run 5 old sent) since-old 8 (InGovernance D)
+  pub hold-held : Held (run 5 old sent) since-old 2 OnHold
+  -- The copy is made with what its source, carried over, counts as made with.
+  pub copied : madeWith since-old 4294967296 ≡ some (record { key = bytes "r/1"; body = 42; size = 301; created = 1000 })
+  -- A marker carried over counts as made with nothing.
+  pub marker-unmade : madeWith since-old 4294967295 ≡ none
+
+-- ## The end of the numbers
+
+-- The replies to two PUTs where one number is left.
+abbrev atTheEnd : List Reply
+atTheEnd =
+    replies 2 (record { settings = record { time = 0; next = 18446744073709551614; config = fresh .settings .config }; rows = [] })
+    (line 1 (Put key 41 300 plain) ∷ line 2 (Put key 42 300 plain) ∷ [])
+
 -- ## The examples, computed
 
 pub record Examples : Type 0 where
@@ -175,9 +221,11 @@ pub record Examples : Type 0 where
   pub copied-on-top : sentAfter (Copy (name key none) key plain) ≡ ok (made (numbered 1)) ∷ ok (made (numbered 2)) ∷ ok (repeated (numbered 2)) ∷ []
   pub before-its-date : reportAt (D - 1) ≡ totalling 2
   pub on-its-date : reportAt D ≡ totalling 1
-  pub compliance-held : Held (run 1024 fresh four) (lineEvents 1024 fresh four) 1 (InCompliance 1709337600000)
-  pub governance-held : Held (run 1 fresh governed) (lineEvents 1 fresh governed) 1 (InGovernance D)
-  pub hold-held : Held (run 1 fresh on-hold) (lineEvents 1 fresh on-hold) 1 OnHold
+  pub compliance-held : Held (run 1024 fresh four) (since fresh (lineEvents 1024 fresh four)) 1 (InCompliance 1709337600000)
+  pub governance-held : Held (run 1 fresh governed) (since fresh (lineEvents 1 fresh governed)) 1 (InGovernance D)
+  pub hold-held : Held (run 1 fresh on-hold) (since fresh (lineEvents 1 fresh on-hold)) 1 OnHold
+  pub carried-over : Carried
+  pub last-number : atTheEnd ≡ ok (made (numbered 18446744073709551614)) ∷ no 11 ∷ []
 
 pub examples : Examples
 unfolding isKeyByte isKey isPrefix periodEnd expiresAt soundRow soundRules soundConfig fits sound inRange defaultEnd locked admits added rowsRemoved rowsAfter setConfig configAfter halfGiven needs granted lacksRight shortForPage pastDate missing namesMarker barred tooLate spends full refusal reply
@@ -199,7 +247,16 @@ examples =
       copied-on-top = refl;
       before-its-date = refl;
       on-its-date = refl;
-      compliance-held = (lock-clause 1024 four) .inCompliance (_ ∷ []) (_ ∷ []) _ 1 1709337600000 refl refl (lit< tt);
-      governance-held = (lock-clause 1 governed) .inGovernance [] (_ ∷ []) _ 1 D refl refl refl (lit< tt);
-      hold-held = (lock-clause 1 on-hold) .onHold [] [] _ 1 refl refl refl;
+      compliance-held = (lock-clause 1024 fresh refl refl four) .inCompliance 1 1709337600000 (_ ∷ []) (byLine (_ ∷ []) _ refl refl) (lit< tt);
+      governance-held = (lock-clause 1 fresh refl refl governed) .inGovernance 1 D (_ ∷ []) (byLine [] _ refl refl) refl (lit< tt);
+      hold-held = (lock-clause 1 fresh refl refl on-hold) .onHold 1 [] (byLine [] _ refl refl) refl;
+      carried-over = record {
+        answered = refl;
+        compliance-held = (lock-clause 5 old refl refl sent) .inCompliance 1 D _ (carriedOver refl refl) (lit< tt);
+        governance-held = (lock-clause 5 old refl refl sent) .inGovernance 8 D _ (carriedOver refl refl) refl (lit< tt);
+        hold-held = (lock-clause 5 old refl refl sent) .onHold 2 _ (carriedOver refl refl) refl;
+        copied = refl;
+        marker-unmade = refl;
+      };
+      last-number = refl;
     }

@@ -1,23 +1,22 @@
 -- Facts on conditions and on a list of lines: the first condition that holds, version numbers, and time.
 use Prim.Native.Nat.{ℕ, _≤_}
-use mathlib.Core.Path.{_≡_, refl, sym, _∙_, ap, ap₂}
-use mathlib.Core.Logic.{_⊎_, inl, inr}
+use mathlib.Core.Path.{_≡_, refl, sym, ap, ap₂}
+use mathlib.Core.Logic.{inl, inr}
 use mathlib.Core.Bool.{Bool, true, not, _&&_, and-false}
-use mathlib.Core.List.{List, [], _∷_, cons≢nil, tail-eq-of-cons-eq}
+use mathlib.Core.List.{List, [], _∷_}
 use native.Mathlib.Omega.{arith}
 use lib.Dec.{eqb, leb}
 use borrow.Author.Tests.{eq-eqb, leb-true}
 use Rattle.buffers.specs.Choices.{pick}
 use Rattle.buffers.specs.Lists.{all, any}
-use Rattle.buffers.proofs.Tests.{either, and-i, and-l, and-r, or-r}
-use Rattle.model.specs.Rows.{Row}
-use Rattle.model.specs.Settings.{fresh}
+use Rattle.buffers.proofs.Tests.{either, and-l, and-r, or-r}
+use Rattle.model.specs.Settings.{Bucket, sound}
 use Rattle.model.specs.Requests.{Heard}
 use Rattle.model.specs.Refusals.{Check, check, firstOf, FirstHolds}
 use Rattle.model.specs.Run.{run, lineEvents}
-use Rattle.model.specs.LockClause.{timeAfter, versions, distinct}
-use Rattle.model.proofs.Versions.{cons-none}
-use Rattle.model.proofs.LockClause.{good-fresh}
+use Rattle.model.specs.LockClause.{since, timeAfter, distinct}
+use Rattle.model.proofs.Distinct.{once-differ}
+use Rattle.model.proofs.LockClause.{good-history}
 
 -- ## The first condition that holds
 
@@ -72,45 +71,12 @@ first-passed (x ∷ xs) k n e z =
 
 -- ## Version numbers
 
--- The table has at most one row of each number.
-abbrev AtMostOnce : List Row → Type 0
-AtMostOnce xs = (v : ℕ) → (versions v xs ≡ []) ⊎ ((x : Row) × (versions v xs ≡ x ∷ []))
+-- From numbers that all differ they always do, so from a fresh bucket.
+pub always-distinct : (c : ℕ) (b : Bucket) → sound c b ≡ true → distinct (b .rows) ≡ true → (ls : List Heard) → distinct ((run c b ls) .rows) ≡ true
+always-distinct c b s d ls =
+    let i = (good-history c b s d ls) .invariant in
+    once-differ ((run c b ls) .rows) (λ v. elim (i .single v) [ inl e ↦ inl e | inr e ↦ inr (e .0, e .1) ])
 
-none-numbered : (v : ℕ) (xs : List Row) → versions v xs ≡ [] → all (λ y. not (eqb (y .number) v)) xs ≡ true
-none-numbered v [] e = refl
-none-numbered v (x ∷ xs) e =
-    let other = cons-none v x xs e in
-    rw (other .0) (none-numbered v xs (other .1))
-
-rest-once : (x : Row) (xs : List Row) → AtMostOnce (x ∷ xs) → versions (x .number) xs ≡ []
-rest-once x xs h =
-    let here : versions (x .number) (x ∷ xs) ≡ x ∷ versions (x .number) xs = rw (eq-eqb (x .number) (x .number) refl) in
-    elim (h (x .number)) [
-      | inl e ↦ absurd (cons≢nil (sym here ∙ e))
-      | inr e ↦ tail-eq-of-cons-eq (sym here ∙ e .1)
-    ]
-
-tail-once : (x : Row) (xs : List Row) → AtMostOnce (x ∷ xs) → AtMostOnce xs
-tail-once x xs h v =
-    elim (either (eqb (x .number) v)) [
-      | inl e ↦ elim (h v) [
-        | inl n ↦ absurd (cons≢nil (rw e at n))
-        | inr n ↦ inl (tail-eq-of-cons-eq (rw e at (n .1)))
-      ]
-      | inr e ↦ rw e at (h v)
-    ]
-
-distinct-once : (xs : List Row) → AtMostOnce xs → distinct xs ≡ true
-distinct-once [] h = refl
-distinct-once (x ∷ xs) h =
-    and-i (all (λ y. not (eqb (y .number) (x .number))) xs) _ (none-numbered (x .number) xs (rest-once x xs h)) (distinct-once xs (tail-once x xs h))
-
--- From a fresh bucket all version numbers differ.
-pub always-distinct : (c : ℕ) (ls : List Heard) → distinct ((run c fresh ls) .rows) ≡ true
-always-distinct c ls =
-    let i = (good-fresh c ls) .invariant in
-    distinct-once ((run c fresh ls) .rows) (λ v. elim (i .single v) [ inl e ↦ inl e | inr e ↦ inr (e .0, e .1) ])
-
--- The bucket's time is the largest clock reading of the accepted lines.
-pub always-time : (c : ℕ) (ls : List Heard) → (run c fresh ls) .settings .time ≡ timeAfter (lineEvents c fresh ls)
-always-time c ls = (good-fresh c ls) .invariant .time
+-- The bucket's time is that of its history: no accepted line sets it back.
+pub always-time : (c : ℕ) (b : Bucket) → sound c b ≡ true → distinct (b .rows) ≡ true → (ls : List Heard) → (run c b ls) .settings .time ≡ timeAfter (since b (lineEvents c b ls))
+always-time c b s d ls = (good-history c b s d ls) .invariant .time

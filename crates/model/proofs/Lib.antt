@@ -7,10 +7,12 @@ pub mod History
 pub mod Invariant
 pub mod Locks
 pub mod Placing
-pub mod LockClause
 pub mod SoundRows
 pub mod Pages
 pub mod Sound
+pub mod Distinct
+pub mod Carried
+pub mod LockClause
 pub mod Retries
 pub mod Room
 pub mod Expiry

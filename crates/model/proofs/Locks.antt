@@ -16,8 +16,7 @@ use Rattle.model.specs.Requests.{Retention, Verb, Context, isThe, bypass
 use Rattle.model.specs.Time.{nowOf}
 use Rattle.model.specs.Locks.{locked, noEarlier, admits}
 use Rattle.model.specs.Effects.{setRetention, setHold, holdNumber, rowsAfter, after}
-use Rattle.model.specs.Run.{Event}
-use Rattle.model.specs.LockClause.{namesIn, holdOff, versions, Held, InCompliance, InGovernance, OnHold}
+use Rattle.model.specs.LockClause.{History, namesIn, holdOff, versions, Held, InCompliance, InGovernance, OnHold}
 use Rattle.model.proofs.Accepted.{Accepted}
 use Rattle.model.proofs.Line.{Change, kept, relocked, reheld, dropped, changed}
 use Rattle.model.proofs.Invariant.{Invariant, asked, with, made-before}
@@ -31,26 +30,26 @@ pub record Lasts (xs : List Row) (now : ℕ) (w : Verb) (v : ℕ) (L : Row → T
   pub stay : (x : Row) (bypass : Bool) → L x → locked now bypass x ≡ false → ((namesIn xs v w && bypassOf w) ≡ false → bypass ≡ false) → ⊥
 
 -- A held version's number is taken.
-held-below : (b : Bucket) (es : List Event) (v : ℕ) (L : Row → Type 0) → Invariant b es → Held b es v L → v < b .settings .next
-held-below b es v L i s =
+held-below : (b : Bucket) (past : History) (v : ℕ) (L : Row → Type 0) → Invariant b past → Held b past v L → v < b .settings .next
+held-below b past v L i s =
     elim (either (leb (b .settings .next) v)) [
       | inl e ↦ absurd (nil≢cons (sym (i .unused v (leb-true (b .settings .next) v e)) ∙ s .once))
       | inr e ↦ leb-false (b .settings .next) v e
     ]
 
-held-changed : (b : Bucket) (es : List Event) (g : Context) (w : Verb) (v : ℕ) (L : Row → Type 0) (s : Held b es v L) → Lasts (b .rows) ((nowOf b g) .judge) w v L → Change (b .rows) ((nowOf b g) .judge) w v (s .row) (versions v (rowsAfter b (nowOf b g) w)) → Held (after b (asked g w)) (with es b g w) v L
-held-changed b es g w v L s h (kept e) =
-    record { row = s .row; once = e; isData = s .isData; unaltered = made-before b es g w v _ (s .unaltered); lock = s .lock }
-held-changed b es g w v L s h (relocked r y e p q n) =
-    record { row = _; once = e; isData = s .isData; unaltered = made-before b es g w v _ (s .unaltered); lock = h .relock (s .row) r y (s .lock) p q n }
-held-changed b es g w v L s h (reheld on e n) =
-    record { row = _; once = e; isData = s .isData; unaltered = made-before b es g w v _ (s .unaltered); lock = h .rehold (s .row) on (s .lock) n }
-held-changed b es g w v L s h (dropped y e p n) = absurd (h .stay (s .row) y (s .lock) p n)
+held-changed : (b : Bucket) (past : History) (g : Context) (w : Verb) (v : ℕ) (L : Row → Type 0) (s : Held b past v L) → Lasts (b .rows) ((nowOf b g) .judge) w v L → Change (b .rows) ((nowOf b g) .judge) w v (s .row) (versions v (rowsAfter b (nowOf b g) w)) → Held (after b (asked g w)) (with past b g w) v L
+held-changed b past g w v L s h (kept e) =
+    record { row = s .row; once = e; isData = s .isData; unaltered = made-before b past g w v _ (s .unaltered); lock = s .lock }
+held-changed b past g w v L s h (relocked r y e p q n) =
+    record { row = _; once = e; isData = s .isData; unaltered = made-before b past g w v _ (s .unaltered); lock = h .relock (s .row) r y (s .lock) p q n }
+held-changed b past g w v L s h (reheld on e n) =
+    record { row = _; once = e; isData = s .isData; unaltered = made-before b past g w v _ (s .unaltered); lock = h .rehold (s .row) on (s .lock) n }
+held-changed b past g w v L s h (dropped y e p n) = absurd (h .stay (s .row) y (s .lock) p n)
 
 -- Each accepted line keeps a held version whose lock outlasts it.
-pub held-after : (c : ℕ) (b : Bucket) (es : List Event) (g : Context) (w : Verb) → Accepted c b g (nowOf b g) w → Invariant b es → (v : ℕ) (L : Row → Type 0) → Lasts (b .rows) ((nowOf b g) .judge) w v L → Held b es v L → Held (after b (asked g w)) (with es b g w) v L
-held-after c b es g w p i v L h s =
-    held-changed b es g w v L s h (changed c b g (nowOf b g) w p v (s .row) (held-below b es v L i s) (s .once))
+pub held-after : (c : ℕ) (b : Bucket) (past : History) (g : Context) (w : Verb) → Accepted c b g (nowOf b g) w → Invariant b past → (v : ℕ) (L : Row → Type 0) → Lasts (b .rows) ((nowOf b g) .judge) w v L → Held b past v L → Held (after b (asked g w)) (with past b g w) v L
+held-after c b past g w p i v L h s =
+    held-changed b past g w v L s h (changed c b g (nowOf b g) w p v (s .row) (held-below b past v L i s) (s .once))
 
 -- ## COMPLIANCE
 

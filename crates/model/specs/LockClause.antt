@@ -1,4 +1,4 @@
--- 01, "The lock clause": its words over the accepted lines of a list, each by what it means, and the claim.
+-- 01, "The lock clause": its words over a history, which is a bucket to begin with and the accepted lines since, each by what it means, and the claim.
 use Prim.Native.Nat.{ℕ, _≤_, _<_, max}
 use mathlib.Core.Path.{_≡_}
 use mathlib.Core.Logic.{_⊎_}
@@ -7,21 +7,35 @@ use mathlib.Core.List.{List, [], _∷_, _++_}
 use mathlib.Core.Option.{Option, some, none}
 use lib.Dec.{eqb}
 use Rattle.buffers.specs.Choices.{pick, thenSome, isSome}
-use Rattle.buffers.specs.Lists.{keep, all}
-use Rattle.model.specs.Rows.{Row, governance, compliance}
-use Rattle.model.specs.Settings.{Bucket, fresh}
+use Rattle.buffers.specs.Lists.{keep, first, all}
+use Rattle.model.specs.Rows.{Row, isData, governance, compliance}
+use Rattle.model.specs.Settings.{Bucket, sound}
 use Rattle.model.specs.Requests.{Retention, Verb, Put, Copy, Retain, Hold, AddMarker, DeleteVersion, Set, Sweep, Ask, Heard, isThe, termsOf, bypassOf}
 use Rattle.model.specs.Time.{nowOf, defaultEnd}
 use Rattle.model.specs.Effects.{rowOf}
 use Rattle.model.specs.Refusals.{namedRow}
 use Rattle.model.specs.Run.{Event, run, lineEvents}
 
+-- ## The history
+
+-- The bucket to begin with, fresh or carried over, and the accepted lines since, in order.
+pub record History : Type 0 where
+  pub begun : Bucket
+  pub lines : List Event
+
+abbrev pub since : Bucket → List Event → History
+since b es = record { begun = b; lines = es }
+
 -- ## Time
 
--- The bucket's time: the largest clock reading of the accepted lines, 0 when fresh.
-abbrev pub timeAfter : List Event → ℕ
-timeAfter [] = 0
-timeAfter (e ∷ es) = max (e .request .context .clock) (timeAfter es)
+-- The largest clock reading of the lines, or this time where it is larger.
+abbrev pub timeFrom : ℕ → List Event → ℕ
+timeFrom t [] = t
+timeFrom t (e ∷ es) = max (e .request .context .clock) (timeFrom t es)
+
+-- The bucket's time: the largest clock reading of the accepted lines, or the time that it began with where that is larger, 0 when fresh.
+abbrev pub timeAfter : History → ℕ
+timeAfter h = timeFrom (h .begun .settings .time) (h .lines)
 
 -- The line's now, from which creation and dates are taken.
 abbrev pub lineNow : Event → ℕ
@@ -36,7 +50,7 @@ namesIn xs v w = thenSome (namedRow xs w) false (λ x. eqb (x .number) v)
 abbrev pub names : ℕ → Event → Bool
 names v e = namesIn (e .before .rows) v (e .request .verb)
 
--- ## Made by, made with
+-- ## Made with
 
 -- What a version is made with.
 pub record Making : Type 0 where
@@ -44,6 +58,33 @@ pub record Making : Type 0 where
   pub body : ℕ
   pub size : ℕ
   pub created : ℕ
+
+abbrev pub makingOf : Row → Making
+makingOf x = record { key = x .key; body = x .body; size = x .size; created = x .created }
+
+-- ## Carried over (M-106)
+
+-- The rows with this version number.
+abbrev pub versions : ℕ → List Row → List Row
+versions v xs = keep (λ x. eqb (x .number) v) xs
+
+-- The data row of this number that the bucket begins with.
+abbrev pub carried : Bucket → ℕ → Option Row
+carried b v = first isData (versions v (b .rows))
+
+-- It counts as made with what it holds,
+abbrev pub carriedMaking : Bucket → ℕ → Option Making
+carriedMaking b v = thenSome (carried b v) none (λ x. some (makingOf x))
+
+-- as put under its mode until its date,
+abbrev pub carriedUnder : Bucket → ℕ → ℕ → ℕ → Bool
+carriedUnder b mode d v = thenSome (carried b v) false (λ x. eqb (x .mode) mode && eqb (x .until) d)
+
+-- and as put on hold where its hold is on.
+abbrev pub carriedOnHold : Bucket → ℕ → Bool
+carriedOnHold b v = thenSome (carried b v) false (λ x. eqb (x .hold) 1)
+
+-- ## Made by
 
 -- The line is a PUT or COPY, no retry, and answers this number.
 abbrev pub answers : ℕ → Event → Bool
@@ -71,11 +112,11 @@ abbrev pub makingFrom : (ℕ → Option Making) → List Event → ℕ → Optio
 makingFrom earlier [] v = earlier v
 makingFrom earlier (e ∷ es) v = makingFrom (makingAfter earlier e) es v
 
-abbrev pub madeWith : List Event → ℕ → Option Making
-madeWith es v = makingFrom (λ u. none) es v
+abbrev pub madeWith : History → ℕ → Option Making
+madeWith h v = makingFrom (carriedMaking (h .begun)) (h .lines) v
 
--- *Made by* (01): after the lines `early`, this is the accepted PUT or COPY that first answers the number.
-abbrev pub makes : List Event → ℕ → Event → Bool
+-- *Made by* (01): after the history `early`, this is the accepted PUT or COPY that first answers the number.
+abbrev pub makes : History → ℕ → Event → Bool
 makes early v e = answers v e && not (isSome (madeWith early v))
 
 -- ## Puts under a mode until D, puts on hold, takes off hold, bypasses
@@ -99,7 +140,7 @@ retainFields Sweep = none
 retainFields (Ask q) = none
 
 -- *Puts under a mode until D* (01): the line that makes it, or a RETAIN naming it with that mode and D.
-abbrev pub putsUnder : List Event → ℕ → ℕ → ℕ → Event → Bool
+abbrev pub putsUnder : History → ℕ → ℕ → ℕ → Event → Bool
 putsUnder early mode d v e =
     thenSome (termsOf (e .request .verb))
     (thenSome (retainFields (e .request .verb)) false (λ r. names v e && (isThe mode (r .mode) && isThe d (r .date))))
@@ -122,7 +163,7 @@ holdField Sweep = none
 holdField (Ask q) = none
 
 -- *Puts on hold* (01): the line that makes it with hold ON, or a HOLD ON naming it.
-abbrev pub putsOnHold : List Event → ℕ → Event → Bool
+abbrev pub putsOnHold : History → ℕ → Event → Bool
 putsOnHold early v e =
     thenSome (termsOf (e .request .verb))
     (thenSome (holdField (e .request .verb)) false (λ on. names v e && on))
@@ -142,24 +183,17 @@ bypasses v e = names v e && bypassOf (e .request .verb)
 
 -- ## The claim
 
--- The rows with this version number.
-abbrev pub versions : ℕ → List Row → List Row
-versions v xs = keep (λ x. eqb (x .number) v) xs
-
 -- The numbers of the rows all differ.
 abbrev pub distinct : List Row → Bool
 distinct [] = true
 distinct (x ∷ xs) = all (λ y. not (eqb (y .number) (x .number))) xs && distinct xs
 
-abbrev pub makingOf : Row → Making
-makingOf x = record { key = x .key; body = x .body; size = x .size; created = x .created }
-
 -- The table holds the version number exactly once, as data with the key, body, length and creation that it was made with, and under this lock.
-pub record Held (b : Bucket) (es : List Event) (v : ℕ) (Lock : Row → Type 0) : Type 0 where
+pub record Held (b : Bucket) (h : History) (v : ℕ) (Lock : Row → Type 0) : Type 0 where
   pub row : Row
   pub once : versions v (b .rows) ≡ row ∷ []
   pub isData : row .kind ≡ 1
-  pub unaltered : madeWith es v ≡ some (makingOf row)
+  pub unaltered : madeWith h v ≡ some (makingOf row)
   pub lock : Lock row
 
 abbrev pub InCompliance : ℕ → Row → Type 0
@@ -175,28 +209,48 @@ OnHold x = x .hold ≡ 1
 abbrev pub noneOf : (Event → Bool) → List Event → Bool
 noneOf p es = all (λ e. not (p e)) es
 
--- What the accepted lines `es` left in the bucket, for each way to split them at one line: `early`, the line e, `late`.
-pub record Kept (b : Bucket) (es : List Event) : Type 0 where
-  -- Under COMPLIANCE until D: while the bucket's time is before D.
-  pub inCompliance : (early late : List Event) (e : Event) (v d : ℕ)
-      → es ≡ early ++ e ∷ late
-      → putsUnder early compliance d v e ≡ true
-      → timeAfter es < d
-      → Held b es v (InCompliance d)
-  -- Under GOVERNANCE until D: while that is so, and no later line bypasses it.
-  pub inGovernance : (early late : List Event) (e : Event) (v d : ℕ)
-      → es ≡ early ++ e ∷ late
-      → putsUnder early governance d v e ≡ true
-      → noneOf (bypasses v) late ≡ true
-      → timeAfter es < d
-      → Held b es v (InGovernance d)
-  -- On hold: while no later line takes it off hold.
-  pub onHold : (early late : List Event) (e : Event) (v : ℕ)
-      → es ≡ early ++ e ∷ late
-      → putsOnHold early v e ≡ true
-      → noneOf (takesOffHold v) late ≡ true
-      → Held b es v OnHold
+-- How a version came under a lock, `late` being the lines since: it was carried over so, or a line after the lines `early` put it so.
+pub data Placed (h : History) (carries : Bucket → Bool) (puts : History → Event → Bool) (late : List Event) : Type 0 where
+  carriedOver : carries (h .begun) ≡ true → late ≡ h .lines → Placed h carries puts late
+  byLine : (early : List Event) (e : Event) → h .lines ≡ early ++ e ∷ late → puts (since (h .begun) early) e ≡ true → Placed h carries puts late
 
--- The lock clause (demand 3): a fresh bucket of any capacity, any list of lines.
+-- The version was put under the mode until D,
+abbrev pub PutUnder : ℕ → ℕ → ℕ → History → List Event → Type 0
+PutUnder mode d v h late = Placed h (λ b. carriedUnder b mode d v) (λ early e. putsUnder early mode d v e) late
+
+-- or on hold.
+abbrev pub PutOnHold : ℕ → History → List Event → Type 0
+PutOnHold v h late = Placed h (λ b. carriedOnHold b v) (λ early e. putsOnHold early v e) late
+
+-- What a history left in the bucket.
+pub record Kept (b : Bucket) (h : History) : Type 0 where
+  -- Under COMPLIANCE until D: while the bucket's time is before D.
+  pub inCompliance : (v d : ℕ) (late : List Event)
+      → PutUnder compliance d v h late
+      → timeAfter h < d
+      → Held b h v (InCompliance d)
+  -- Under GOVERNANCE until D: while that is so, and no later line bypasses it.
+  pub inGovernance : (v d : ℕ) (late : List Event)
+      → PutUnder governance d v h late
+      → noneOf (bypasses v) late ≡ true
+      → timeAfter h < d
+      → Held b h v (InGovernance d)
+  -- On hold: while no later line takes it off hold.
+  pub onHold : (v : ℕ) (late : List Event)
+      → PutOnHold v h late
+      → noneOf (takesOffHold v) late ≡ true
+      → Held b h v OnHold
+
+-- The lock clause: a sound bucket of any capacity whose version numbers all differ, as a fresh one's do, and any list of lines.
 abbrev pub LockClause : Type 0
-LockClause = (c : ℕ) (ls : List Heard) → Kept (run c fresh ls) (lineEvents c fresh ls)
+LockClause = (c : ℕ) (b : Bucket) → sound c b ≡ true → distinct (b .rows) ≡ true → (ls : List Heard) → Kept (run c b ls) (since b (lineEvents c b ls))
+
+-- A row carried over counts so after any lines: as made with what it holds, as put under its mode until its date, and as put on hold where its hold is on (M-106).
+pub record Counts (b : Bucket) (es : List Event) (x : Row) : Type 0 where
+  pub made : madeWith (since b es) (x .number) ≡ some (makingOf x)
+  pub under : PutUnder (x .mode) (x .until) (x .number) (since b es) es
+  pub on-hold : x .hold ≡ 1 → PutOnHold (x .number) (since b es) es
+
+-- Each data row does, where the numbers all differ.
+abbrev pub EachCounts : Type 0
+EachCounts = (b : Bucket) → distinct (b .rows) ≡ true → (xs ys : List Row) (x : Row) → b .rows ≡ xs ++ x ∷ ys → x .kind ≡ 1 → (es : List Event) → Counts b es x

@@ -38,10 +38,10 @@ pub record Bucket : Type 0 where
 
 -- The largest version number, and the next version number that means spent: one more.
 abbrev pub largestNumber : ℕ
-largestNumber = 4294967295
+largestNumber = 18446744073709551614
 
 abbrev pub spentNumber : ℕ
-spentNumber = 4294967296
+spentNumber = 18446744073709551615
 
 -- ## Fresh
 

@@ -48,9 +48,9 @@ pub const GAINS: u8 = 2;
 pub const LARGEST_SIZE: u64 = 5497558138880;
 
 // The largest version number, and the next version number that means spent.
-pub const LARGEST_NUMBER: u64 = 4294967295;
+pub const LARGEST_NUMBER: u64 = 18446744073709551614;
 
-pub const SPENT: u64 = 4294967296;
+pub const SPENT: u64 = 18446744073709551615;
 
 // The longest period, in days and in years; a rule's days have the same limit.
 pub const MOST_DAYS: u64 = 36500;

@@ -76,7 +76,7 @@ pub record Examples : Type 0 where
       })
   -- pages: from the start, and from a place that needs no row
   pub listFirst : readLine (withTabs (bytes "2024-03-01T00:00:00Z|r|LIST|q/||0|1000")) ≡ asks 1709251200000 reader (Ask (ListVersions (page (bytes "q/") [] 0 1000)))
-  pub listNext : readLine (withTabs (bytes "2024-03-01T00:00:00Z|r|LIST||q/7|4294967295|1")) ≡ asks 1709251200000 reader (Ask (ListVersions (page [] (bytes "q/7") 4294967295 1)))
+  pub listNext : readLine (withTabs (bytes "2024-03-01T00:00:00Z|r|LIST||q/7|18446744073709551614|1")) ≡ asks 1709251200000 reader (Ask (ListVersions (page [] (bytes "q/7") 18446744073709551614 1)))
   pub listDashes : readLine (withTabs (bytes "2024-03-01T00:00:00Z|r|LIST|-|-|0|1")) ≡ asks 1709251200000 reader (Ask (ListVersions (page (bytes "-") (bytes "-") 0 1)))
   -- totals of a prefix, and of all rows
   pub report : readLine (withTabs (bytes "2024-03-01T00:00:00Z|r|REPORT|q/")) ≡ asks 1709251200000 reader (Ask (Report (bytes "q/")))
@@ -85,6 +85,7 @@ pub record Examples : Type 0 where
   pub reportBare : readLine (withTabs (bytes "2024-03-01T00:00:00Z|r|REPORT")) ≡ none
   pub reportTwo : readLine (withTabs (bytes "2024-03-01T00:00:00Z|r|REPORT|q/|r/")) ≡ none
   pub emptyKeyVersion : readLine (withTabs (bytes "2024-03-01T00:00:00Z|r|LIST|q/||1|10")) ≡ none
+  pub versionSpent : readLine (withTabs (bytes "2024-03-01T00:00:00Z|r|LIST|q/|q/7|18446744073709551615|10")) ≡ none
   pub versionDash : readLine (withTabs (bytes "2024-03-01T00:00:00Z|r|LIST|q/|q/7|-|10")) ≡ none
   pub countZero : readLine (withTabs (bytes "2024-03-01T00:00:00Z|r|LIST|q/||0|0")) ≡ none
   pub countLarge : readLine (withTabs (bytes "2024-03-01T00:00:00Z|r|LIST|q/||0|1001")) ≡ none
@@ -119,6 +120,7 @@ examples =
       reportBare = refl;
       reportTwo = refl;
       emptyKeyVersion = refl;
+      versionSpent = refl;
       versionDash = refl;
       countZero = refl;
       countLarge = refl;

@@ -14,7 +14,7 @@ apply-change-spec =
     (λ c κs. search (needs, applying, sweeping))
     (λ c κs. search (needs, applying, sweeping))
     (λ c. search needs)
-    (λ c. search needs)
+    (λ c. search (needs, applying, sweeping))
     (λ c. search needs)
     (λ c κs. search (needs, applying, sweeping))
     (λ c. search needs)
