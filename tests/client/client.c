@@ -1,5 +1,6 @@
 /* What modem firmware does, through each entry: lend three buffers, serve lines, send a PUT again, follow pages, ask for
- * totals, save, load and go on, also with what an earlier release left; and what a sweep counts. */
+ * totals, save, load and go on, also with what an earlier release left, up to the last version number; and what a sweep
+ * counts. */
 #include "../../samples/page.h"
 #include "../../samples/save.h"
 
@@ -188,8 +189,8 @@ static void sent_again_full(struct bucket *bucket) {
     lent = CAPACITY;
 }
 
-/* Where the default retention stands in the settings. */
-enum { DEFAULT_MODE = 24, DEFAULT_COUNT = 32, DEFAULT_UNIT = 40, DEFAULT_BYTES = 24 };
+/* Where the next version number and the default retention stand in the settings. */
+enum { NEXT_NUMBER = 16, DEFAULT_MODE = 24, DEFAULT_COUNT = 32, DEFAULT_UNIT = 40, DEFAULT_BYTES = 24 };
 
 /* A default of one year that an earlier release has set stays as it is and ends by the calendar from now on; the row that
  * got its date from it when a year had 365 days keeps that. */
@@ -351,7 +352,7 @@ static const struct step filled[] = {
 };
 
 /* Its rows in the table's order, as LIST prints them. */
-static const char *const shown[] = {
+static const char *const filled_rows[] = {
     "gauge-7|5|data|2024-07-02T00:00:00.000Z|0|0|-|-|OFF",
     "gauge-7/flow|4|marker|2024-07-02T00:00:00.000Z|-|-|-|-|OFF",
     "gauge-7/flow|2|data|2024-07-01T00:00:01.500Z|42|120|COMPLIANCE|2033-01-05T00:00:00.000Z|OFF",
@@ -362,7 +363,13 @@ static const char *const shown[] = {
     LONGEST_KEY "|6|data|2024-07-03T00:00:00.000Z|18446744073709551615|5497558138880|GOVERNANCE|9999-12-31T23:59:59.999Z|ON",
 };
 
-enum { SHOWN = sizeof shown / sizeof shown[0], BEHIND = 256 };
+/* The rows that pages are to show. */
+static const char *const *shown;
+static size_t shown_rows;
+
+#define SHOW(rows) (shown = rows, shown_rows = sizeof rows / sizeof rows[0])
+
+enum { BEHIND = 256 };
 
 /* The answer buffer of a page, and bytes behind what is lent of it, so that one written there is seen. */
 static uint8_t sheet[KNITPASTURE_PAGE_ROOM(KNITPASTURE_MAX_COUNT) + BEHIND];
@@ -379,7 +386,7 @@ static uint64_t ask(struct bucket *bucket, const char *rights, const char *prefi
 
 /* The first row from one on whose key begins with the prefix. */
 static size_t next_match(const char *prefix, size_t row) {
-    while (row < SHOWN && strncmp(shown[row], prefix, strlen(prefix)) != 0) {
+    while (row < shown_rows && strncmp(shown[row], prefix, strlen(prefix)) != 0) {
         row++;
     }
     return row;
@@ -402,7 +409,7 @@ static size_t pass_page(const struct page *page, const char *prefix, size_t row)
     const char *said = pass((const char *)sheet, first);
     for (size_t i = 0; i < page->rows; i++) {
         row = next_match(prefix, row);
-        check(row < SHOWN, "a page shows no other rows");
+        check(row < shown_rows, "a page shows no other rows");
         said = pass(said, shown[row++]);
     }
     check(said == (const char *)sheet + page->length, "a page ends with its last line");
@@ -427,7 +434,7 @@ static void follow(struct bucket *bucket, const char *prefix, size_t count) {
         check(untouched(sheet, page.length, length + BEHIND), "bytes after a page are untouched");
         row = pass_page(&page, prefix, row);
     } while (page.rows == count);
-    check(next_match(prefix, row) == SHOWN, "the pages show every row");
+    check(next_match(prefix, row) == shown_rows, "the pages show every row");
     only_time_set(&before, bucket);
 }
 
@@ -442,17 +449,25 @@ static void page_room(struct bucket *bucket, size_t count) {
     check(ask(bucket, "r", "", &START, count, length) == 0, "the room of a page is enough");
 }
 
+/* Follows the pages of some prefixes, of one row to more than there are. */
+static void follow_all(struct bucket *bucket, const char *const *prefixes, size_t length) {
+    for (size_t i = 0; i < length; i++) {
+        for (size_t count = 1; count <= shown_rows + 1; count++) {
+            follow(bucket, prefixes[i], count);
+        }
+    }
+}
+
+#define FOLLOW(bucket, prefixes) follow_all(bucket, prefixes, sizeof prefixes / sizeof prefixes[0])
+
 static void pages(struct bucket *bucket) {
     static const char *const prefixes[] = {"", "gauge-7", "gauge-7/", "gauge-7/level", "k", "level"};
     make_fresh(bucket);
     TAKE(bucket, filled);
-    for (size_t i = 0; i < sizeof prefixes / sizeof prefixes[0]; i++) {
-        for (size_t count = 1; count <= SHOWN + 1; count++) {
-            follow(bucket, prefixes[i], count);
-        }
-    }
+    SHOW(filled_rows);
+    FOLLOW(bucket, prefixes);
     page_room(bucket, 1);
-    page_room(bucket, SHOWN);
+    page_room(bucket, shown_rows);
     page_room(bucket, KNITPASTURE_MAX_COUNT);
     take(bucket, &(struct step){"2024-07-05T00:00:00Z|r|LIST|level||0|1", "no|13"});
     take(bucket, &(struct step){"2024-07-05T00:00:00Z|r|LIST|level||0|1001", "no|3"});
@@ -490,7 +505,7 @@ static void report(struct bucket *bucket, const char *now, const char *prefix) {
           "a report has four numbers");
     check(answer[end] == '\n' && untouched((uint8_t *)answer, (size_t)end + 1, KNITPASTURE_MIN_ANSWER),
           "bytes after a report are untouched");
-    for (size_t row = next_match(prefix, 0); row < SHOWN; row = next_match(prefix, row + 1)) {
+    for (size_t row = next_match(prefix, 0); row < shown_rows; row = next_match(prefix, row + 1)) {
         count_row(&counted, shown[row], now);
     }
     check(memcmp(&said, &counted, sizeof said) == 0, "its numbers are those of the rows");
@@ -510,6 +525,7 @@ static void reports(struct bucket *bucket) {
     };
     make_fresh(bucket);
     TAKE(bucket, filled);
+    SHOW(filled_rows);
     TAKE(bucket, steps);
     for (size_t i = 0; i < sizeof clocks / sizeof clocks[0]; i++) {
         for (size_t j = 0; j < sizeof prefixes / sizeof prefixes[0]; j++) {
@@ -517,6 +533,123 @@ static void reports(struct bucket *bucket) {
         }
     }
     take(bucket, &(struct step){"2024-07-04T00:00:00Z|r|REPORT|gauge-7/", "ok|4|1|1050|1"});
+}
+
+/* What release 1.6.0 showed of the bucket that it saved: its next number is 4294967296, so that it added no row more. */
+static const char *const carried_rows[] = {
+    "gauge-7/copy|4294967294|data|2024-06-30T12:00:06.000Z|41|300|-|-|OFF",
+    "gauge-7/flow|4294967289|data|2024-06-30T12:00:01.000Z|42|301|GOVERNANCE|2030-01-01T00:00:00.000Z|OFF",
+    "gauge-7/level|4294967293|data|2024-06-30T12:00:05.000Z|45|304|-|-|ON",
+    "gauge-7/level|4294967288|data|2024-06-30T12:00:00.000Z|41|300|COMPLIANCE|2033-01-05T00:00:00.000Z|OFF",
+    "gauge-7/sluice|4294967290|data|2024-06-30T12:00:02.000Z|43|302|COMPLIANCE|2024-08-01T00:00:00.000Z|ON",
+    "logger/a|4294967292|marker|2024-06-30T12:00:04.000Z|-|-|-|-|OFF",
+    "logger/a|4294967291|data|2024-06-30T12:00:03.000Z|44|303|-|-|OFF",
+    "logger/b|4294967295|data|2024-06-30T12:00:07.000Z|46|305|-|-|OFF",
+};
+
+/* It is loaded and goes on: rows are added, the default and the rule are those that were set, and what was locked is held
+ * until its date, a bypass or the end of its hold. */
+static void carried_over(struct bucket *bucket, const char *folder) {
+    static const char *const prefixes[] = {"", "gauge-7/", "gauge-7/level", "logger/", "none"};
+    static const struct step steps[] = {
+        {"2024-07-04T00:00:00Z|r|REPORT|", "ok|7|1|2115|4"},
+        {"2024-07-04T00:00:00Z|w|PUT|logger/c|47|306|-|-|-", "ok|4294967296"},
+        {"2024-07-04T00:00:00Z|w|PUT|logger/c|47|306|-|-|-", "ok|4294967296"},
+        {"2024-07-04T00:00:00Z|r|GET|logger/c|-", "ok|4294967296|47|306|GOVERNANCE|2025-07-04T00:00:00.000Z|OFF"},
+        {"2024-07-04T00:00:00Z|rwt|COPY|gauge-7/level|4294967288|gauge-7/copy|GOVERNANCE|2024-07-05T00:00:00Z|-",
+         "ok|4294967297"},
+        {"2024-07-04T00:00:00Z|r|GET|gauge-7/copy|-", "ok|4294967297|41|300|GOVERNANCE|2024-07-05T00:00:00.000Z|OFF"},
+        {"2024-07-04T00:00:00Z|r|GET|gauge-7/copy|4294967294", "ok|4294967294|41|300|-|-|OFF"},
+        {"2024-07-04T00:00:00Z|rwdthbc|DELETE|gauge-7/level|4294967288|yes", "no|9"},
+        {"2024-07-04T00:00:00Z|tb|RETAIN|gauge-7/level|4294967288|-|-|yes", "no|9"},
+        {"2024-07-04T00:00:00Z|tb|RETAIN|gauge-7/level|4294967288|COMPLIANCE|2033-01-04T23:59:59.999Z|yes", "no|9"},
+        {"2024-07-04T00:00:00Z|tb|RETAIN|gauge-7/level|4294967288|GOVERNANCE|2033-01-05T00:00:00Z|yes", "no|9"},
+        {"2024-07-04T00:00:00Z|d|DELETE|gauge-7/flow|4294967289|no", "no|9"},
+        {"2024-07-04T00:00:00Z|db|DELETE|gauge-7/flow|4294967289|yes", "ok|4294967289|removed"},
+        {"2024-07-31T23:59:59.999Z|rwdthbc|DELETE|gauge-7/sluice|4294967290|yes", "no|9"},
+        {"2024-08-01T00:00:00Z|rwdthbc|DELETE|gauge-7/sluice|4294967290|yes", "no|9"},
+        {"2024-08-01T00:00:00Z|h|HOLD|gauge-7/sluice|4294967290|OFF", "ok"},
+        {"2024-08-01T00:00:00Z|d|DELETE|gauge-7/sluice|4294967290|no", "ok|4294967290|removed"},
+        {"2024-08-01T00:00:00Z|c|SWEEP", "ok|1|1"},
+        {"2024-08-01T00:00:00Z|r|GET|logger/a|4294967291", "no|7"},
+        {"2024-08-01T00:00:00Z|d|DELETE|logger/a|4294967292|no", "ok|4294967292|removed-marker"},
+        {"2024-08-01T00:00:00Z|d|DELETE|logger/b|4294967298|no", "ok|4294967298|removed-marker"},
+        {"2024-08-01T00:00:00Z|d|DELETE|logger/b|4294967295|no", "ok|4294967295|removed"},
+        {"2033-01-04T23:59:59.999Z|rwdthbc|DELETE|gauge-7/level|4294967288|yes", "no|9"},
+        {"2033-01-05T00:00:00Z|d|DELETE|gauge-7/level|4294967288|no", "ok|4294967288|removed"},
+        {"9999-12-31T23:59:59.999Z|rwdthbc|DELETE|gauge-7/level|4294967293|yes", "no|9"},
+        {"9999-12-31T23:59:59.999Z|r|GET|gauge-7/level|-", "ok|4294967293|45|304|-|-|ON"},
+    };
+    check(load(bucket, folder, "saved-by-1.6.0") == 1, "what release 1.6.0 saved is loaded");
+    struct bucket before = *bucket;
+    SHOW(carried_rows);
+    FOLLOW(bucket, prefixes);
+    TAKE(bucket, steps);
+    check(memcmp(before.settings + DEFAULT_MODE, bucket->settings + DEFAULT_MODE, sizeof before.settings - DEFAULT_MODE) == 0,
+          "the default and the rules are as they were set");
+}
+
+/* A fresh bucket, of whose version numbers only so many are left. */
+static void make_near_end(struct bucket *bucket, uint64_t left) {
+    uint64_t next = UINT64_MAX - left;
+    make_fresh(bucket);
+    for (size_t i = 0; i < 8; i++) {
+        bucket->settings[NEXT_NUMBER + i] = (uint8_t)(next >> 8 * i);
+    }
+}
+
+/* Rows whose numbers have 20 digits, the last one's line of the most bytes. */
+static const char *const last_rows[] = {
+    "gauge/1|18446744073709551612|data|2024-07-01T00:00:00.000Z|7|70|-|-|OFF",
+    "gauge/2|18446744073709551613|data|2024-07-01T00:00:00.000Z|7|70|-|-|OFF",
+    LONGEST_KEY "|18446744073709551614|data|2024-07-01T00:00:00.000Z|18446744073709551615|5497558138880|COMPLIANCE|"
+                "9999-12-31T23:59:59.999Z|OFF",
+};
+
+/* The last version number is given once; then 11 meets whatever adds a row, and whatever adds none is served. */
+static void last_numbers(struct bucket *bucket) {
+    static const char *const prefixes[] = {"", "gauge/", "gauge/2", "k"};
+    static const struct step before[] = {
+        {"2024-07-01T00:00:00Z|w|PUT|gauge/1|7|70|-|-|-", "ok|18446744073709551612"},
+        {"2024-07-01T00:00:00Z|rw|COPY|gauge/1|-|gauge/2|-|-|-", "ok|18446744073709551613"},
+        {"2024-07-01T00:00:00Z|c|RULE|0|gauge/|1|0", "ok"},
+        {"2024-07-02T00:00:00Z|c|SWEEP", "no|11"},
+        {"2024-07-01T00:00:00Z|wth|PUT|" LONGEST_KEY
+         "|18446744073709551615|5497558138880|COMPLIANCE|9999-12-31T23:59:59.999Z|OFF", "ok|18446744073709551614"},
+    };
+    static const struct step after[] = {
+        {"2024-07-04T00:00:00Z|w|PUT|gauge/3|8|80|-|-|-", "no|11"},
+        {"2024-07-04T00:00:00Z|rw|COPY|gauge/1|-|gauge/1|-|-|-", "no|11"},
+        {"2024-07-04T00:00:00Z|d|DELETE|gauge/1|-|no", "no|11"},
+        {"2024-07-04T00:00:00Z|c|SWEEP", "no|11"},
+        {"2024-07-04T00:00:00Z|c|RULE|0|gauge/|0|1", "ok"},
+        {"2024-07-04T00:00:00Z|c|SWEEP", "ok|0|0"},
+        {"2024-07-04T00:00:00Z|w|PUT|gauge/1|7|70|-|-|-", "ok|18446744073709551612"},
+        {"2024-07-04T00:00:00Z|r|GET|gauge/2|18446744073709551613", "ok|18446744073709551613|7|70|-|-|OFF"},
+        {"2024-07-04T00:00:00Z|r|GET|gauge/2|18446744073709551614", "no|7"},
+        {"2024-07-04T00:00:00Z|r|GET|gauge/2|18446744073709551615", "no|3"},
+        {"2024-07-04T00:00:00Z|rwdthbc|DELETE|" LONGEST_KEY "|18446744073709551614|yes", "no|9"},
+        {"2024-07-04T00:00:00Z|d|DELETE|gauge/2|18446744073709551613|no", "ok|18446744073709551613|removed"},
+        {"2024-07-04T00:00:00Z|w|PUT|gauge/2|8|80|-|-|-", "no|11"},
+    };
+    static const struct step marked[] = {
+        {"2024-07-01T00:00:00Z|w|PUT|gauge/1|7|70|-|-|-", "ok|18446744073709551611"},
+        {"2024-07-01T00:00:00Z|w|PUT|gauge/2|8|80|-|-|-", "ok|18446744073709551612"},
+        {"2024-07-01T00:00:00Z|c|RULE|0|gauge/|1|0", "ok"},
+        {"2024-07-02T00:00:00Z|c|SWEEP", "ok|0|2"},
+        {"2024-07-02T00:00:00Z|d|DELETE|gauge/2|18446744073709551614|no", "ok|18446744073709551614|removed-marker"},
+        {"2024-07-02T00:00:00Z|d|DELETE|gauge/1|18446744073709551613|no", "ok|18446744073709551613|removed-marker"},
+        {"2024-07-02T00:00:00Z|c|SWEEP", "no|11"},
+    };
+    make_near_end(bucket, 3);
+    TAKE(bucket, before);
+    SHOW(last_rows);
+    FOLLOW(bucket, prefixes);
+    check(ask(bucket, "r", "k", &START, 1, KNITPASTURE_PAGE_ROOM(1)) == 0, "the longest row fits the room of a page of one");
+    check(page_in((const char *)sheet).length == strlen("ok|1\n") + 190, "and its line has 190 bytes");
+    TAKE(bucket, after);
+    make_near_end(bucket, 4);
+    TAKE(bucket, marked);
 }
 
 /* Longer buffers whose new rows are zero hold the same bucket. */
@@ -584,6 +717,8 @@ int main(int count, char **words) {
         sent_again(bucket);
         sent_again_full(bucket);
         years_from_before(bucket);
+        carried_over(bucket, words[1]);
+        last_numbers(bucket);
         kept_through_reload(bucket, words[1]);
         wrong_lengths(bucket);
     }

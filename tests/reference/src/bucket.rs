@@ -21,7 +21,7 @@ pub const DATA: u64 = 1;
 pub const MARKER: u64 = 2;
 
 pub const MAX_CAPACITY: usize = 1024;
-pub const MAX_VERSION: u64 = 4294967295;
+pub const MAX_VERSION: u64 = 18446744073709551614;
 pub const MAX_LENGTH: u64 = 5497558138880;
 pub const MAX_KEY: usize = 63;
 

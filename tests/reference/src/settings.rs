@@ -5,8 +5,8 @@ use crate::dates;
 pub const BYTES: usize = 688;
 pub const MAX_DAYS: u64 = 36500;
 pub const MAX_YEARS: u64 = 100;
-/// The next version number that means that all are spent.
-pub const SPENT: u64 = 4294967296;
+/// The next version number that means that all are spent: the one behind the last.
+pub const SPENT: u64 = bucket::MAX_VERSION + 1;
 
 pub const DAYS: u64 = 1;
 pub const YEARS: u64 = 2;

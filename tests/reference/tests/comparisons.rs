@@ -283,8 +283,7 @@ fn a_sweep_that_can_not_be_read_or_lacks_its_right_gives_no_count() {
 #[test]
 fn a_sweep_whose_outcome_does_not_fit_gives_no_count() {
     for (next, refusal) in [(1, 12), (SPENT - 1, 11)] {
-        let mut hub = Hub::new(1);
-        hub.bucket.settings.next = next;
+        let mut hub = Hub::from_number(1, next);
         put(&mut hub, "a");
         rule(&mut hub, 0, "a", [1, 0]);
         assert_eq!(counts(&mut hub, "2024-05-01T23:59:59.999Z|c|SWEEP"), Some(1));

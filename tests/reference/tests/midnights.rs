@@ -186,8 +186,7 @@ fn a_defaults_date_is_not_rounded() {
 #[test]
 fn refusals_11_and_12_wait_for_the_midnight() {
     for (next, refusal) in [(1, "no|12"), (SPENT - 1, "no|11")] {
-        let mut hub = Hub::new(1);
-        hub.bucket.settings.next = next;
+        let mut hub = Hub::from_number(1, next);
         hub.run(&[
             ("2024-05-01T10:30:00Z|w|PUT|a|1|1|-|-|-", &format!("ok|{next}")),
             ("2024-05-01T10:30:00Z|c|RULE|0||3|0", "ok"),

@@ -3,7 +3,7 @@ mod common;
 #[path = "../src/bin/compare/plain.rs"]
 mod plain;
 use common::Hub;
-use reference::bucket::{Row, VERSION};
+use reference::bucket::{Row, MAX_VERSION, VERSION};
 use reference::dates;
 use reference::settings::SPENT;
 
@@ -134,7 +134,7 @@ fn version_0_is_before_the_keys_first_row() {
 
 #[test]
 fn the_place_needs_no_row() {
-    shows("|a|4294967295|1000", 1..9);
+    shows(&format!("|a|{MAX_VERSION}|1000"), 1..9);
     shows("|a|7|1000", 1..9);
     shows("|a|5|1000", 2..9);
     shows("|a|2|1000", 2..9);
@@ -143,9 +143,9 @@ fn the_place_needs_no_row() {
     shows("|!|0|1000", 0..9);
     shows("|!|1|1000", 0..9);
     shows("|a/10|0|1000", 7..9);
-    shows("|a/10|4294967295|1000", 7..9);
+    shows(&format!("|a/10|{MAX_VERSION}|1000"), 7..9);
     shows("|~|0|1000", 9..9);
-    shows("|~|4294967295|1000", 9..9);
+    shows(&format!("|~|{MAX_VERSION}|1000"), 9..9);
     shows(&format!("|{}|1|1000", "a".repeat(63)), 8..9);
 }
 
@@ -163,17 +163,26 @@ fn a_place_before_or_behind_the_prefixs_rows() {
 fn an_empty_key_with_version_0_only() {
     shows("||0|3", 0..3);
     shows("a/1||0|3", 3..6);
-    refused(3, &["||1|3", "||4294967295|3", "||-|3", "|||3", "a/1||1|3"]);
+    refused(3, &["||1|3", &format!("||{MAX_VERSION}|3"), "||-|3", "|||3", "a/1||1|3"]);
 }
 
 #[test]
 fn versions() {
     shows("|a|0|1", 1..2);
     shows("|a|1|1", 3..4);
-    shows("|a|4294967295|1", 1..2);
+    shows("|a|18446744073709551614|1", 1..2);
     refused(
         3,
-        &["|a|-|1", "|a||1", "|a|4294967296|1", "|a|00|1", "|a|01|1", "|a|+1|1", "|a|-1|1", "|a|1x|1"],
+        &[
+            "|a|-|1",
+            "|a||1",
+            "|a|18446744073709551615|1",
+            "|a|00|1",
+            "|a|01|1",
+            "|a|+1|1",
+            "|a|-1|1",
+            "|a|1x|1",
+        ],
     );
     refused(3, &["|a|18446744073709551616|1"]);
 }
@@ -292,15 +301,14 @@ fn an_accepted_page_moves_the_time_and_nothing_else() {
 #[test]
 fn an_empty_table() {
     let mut hub = Hub::new(4);
-    for fields in ["||0|1", "||0|1000", "a||0|7", "a|a|4294967295|7"] {
+    for fields in ["||0|1", "||0|1000", "a||0|7", &format!("a|a|{MAX_VERSION}|7")] {
         assert_eq!(list(&mut hub, fields), "ok|0");
     }
 }
 
 #[test]
 fn the_longest_page_fits_the_least_buffer() {
-    let mut hub = Hub::new(1024);
-    hub.bucket.settings.next = SPENT - 1024;
+    let mut hub = Hub::from_number(1024, SPENT - 1024);
     for number in 0..1024 {
         let line = format!(
             "9999-12-30T00:00:00.123Z|wth|PUT|{}{number:04}|18446744073709551615|5497558138880|COMPLIANCE|9999-12-31T23:59:59.999Z|OFF",
@@ -312,29 +320,9 @@ fn the_longest_page_fits_the_least_buffer() {
     let lines: Vec<&str> = said.lines().collect();
     assert_eq!((lines[0], lines.len()), ("ok|1000", 1001));
     assert!(
-        lines[1..].iter().all(|line| line.len() == 179),
-        "a row's line has at most 180 bytes with its feed"
+        lines[1..].iter().all(|line| line.len() == 189),
+        "a row's line has at most 190 bytes with its feed"
     );
-}
-
-/// The lines of the pages of one prefix, followed from the start by the last line's key and version.
-fn followed(hub: &mut Hub, prefix: &str, count: usize) -> Vec<String> {
-    let mut shown: Vec<String> = Vec::new();
-    let mut place = "|0".to_string();
-    loop {
-        let said = hub.say_in(256 + 256 * count, &format!("{T}|r|LIST|{prefix}|{place}|{count}"));
-        let mut lines = said.lines().map(str::to_string);
-        let rows: usize = lines.next().unwrap().strip_prefix("ok|").unwrap().parse().unwrap();
-        let before = shown.len();
-        shown.extend(lines);
-        assert_eq!(shown.len(), before + rows, "as many rows as the first line says");
-        assert!(rows <= count);
-        if rows < count {
-            return shown;
-        }
-        let mut fields = shown[shown.len() - 1].split('|');
-        place = format!("{}|{}", fields.next().unwrap(), fields.next().unwrap());
-    }
 }
 
 /// A bucket of many versions under keys that begin one another.
@@ -361,7 +349,7 @@ fn followed_pages_show_every_matching_row_once_and_no_others() {
             let lines = plain::matching(&hub.bucket, prefix);
             let matching: Vec<String> = lines.iter().map(|line| line.replace('\t', "|")).collect();
             for count in [1, 2, 3, 7, matching.len().max(1), matching.len() + 1, 1000] {
-                assert_eq!(followed(&mut hub, prefix, count), matching, "{prefix} by {count}");
+                assert_eq!(hub.followed(prefix, count), matching, "{prefix} by {count}");
             }
         }
     }
@@ -380,7 +368,7 @@ fn each_place_against_a_plain_filter() {
     let mut hub = many();
     let table = hub.table();
     for key in ["!", "a", "a/", "a/1", "a/10", "a/2", "b", "~", "~~"] {
-        for version in (0..=151).chain([4294967295]) {
+        for version in (0..=151).chain([MAX_VERSION]) {
             for prefix in ["", "a", "a/1", "~"] {
                 let said = hub.say_in(256 + 256 * 5, &format!("{T}|r|LIST|{prefix}|{key}|{version}|5"));
                 assert_eq!(said, filtered(&table, prefix, key, version), "{prefix}|{key}|{version}");

@@ -64,7 +64,7 @@ fn refusal_3() {
             "r|GET|a|-|",
             "r|GET||-",
             "r|GET|a|0",
-            "r|GET|a|4294967296",
+            "r|GET|a|18446744073709551615",
             "|GET|a|-",
             "rr|GET|a|-",
             "x|GET|a|-",
@@ -207,17 +207,16 @@ fn refusal_10_at_the_last_instant() {
 
 #[test]
 fn refusal_11_before_12() {
-    let mut hub = Hub::new(1);
-    hub.bucket.settings.next = SPENT - 1;
+    let mut hub = Hub::from_number(1, SPENT - 1);
     hub.run(&[
-        ("2024-01-01T00:00:00Z|w|PUT|a|1|1|-|-|-", "ok|4294967295"),
+        ("2024-01-01T00:00:00Z|w|PUT|a|1|1|-|-|-", "ok|18446744073709551614"),
         ("2024-01-01T00:00:00Z|w|PUT|a|2|1|-|-|-", "no|11"),
         ("2024-01-01T00:00:00Z|d|DELETE|a|-|no", "no|11"),
         ("2024-01-01T00:00:00Z|rw|COPY|a|-|b|-|-|-", "no|11"),
         ("2024-01-01T00:00:00Z|c|RULE|0||1|0", "ok"),
         ("2024-01-01T00:00:00Z|c|SWEEP", "ok|0|0"),
         ("2024-01-02T00:00:00Z|c|SWEEP", "no|11"),
-        ("2024-01-02T00:00:00Z|d|DELETE|a|4294967295|no", "ok|4294967295|removed"),
+        ("2024-01-02T00:00:00Z|d|DELETE|a|18446744073709551614|no", "ok|18446744073709551614|removed"),
     ]);
 }
 

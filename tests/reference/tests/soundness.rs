@@ -1,7 +1,7 @@
 //! When the whole is sound, and what the engine hands back of a key.
 mod common;
 use common::{names, Hub};
-use reference::bucket::{block, Bucket};
+use reference::bucket::{block, Bucket, MAX_VERSION};
 use reference::dates;
 use reference::settings::{DefaultRetention, Rule, Settings, BYTES, SPENT};
 
@@ -33,8 +33,9 @@ fn settings_numbers() {
     assert!(!after(|b| b.settings.used = 5));
     assert!(!after(|b| b.settings.used = u64::MAX));
     assert!(!after(|b| b.settings.next = 3), "a version number is not below the next one");
-    assert!(after(|b| b.settings.next = SPENT));
-    assert!(!after(|b| b.settings.next = SPENT + 1));
+    for next in [4, 4294967295, 4294967296, 4294967297, SPENT - 1, SPENT] {
+        assert!(after(|b| b.settings.next = next), "{next} is a next number");
+    }
     let mut fresh = Bucket::fresh(1);
     fresh.settings.next = 0;
     assert!(!fresh.sound());
@@ -77,6 +78,7 @@ fn rules() {
 fn row_numbers() {
     let sound = |at: usize, place: usize, value| after(|b| b.rows[at][place] = value);
     assert!(!sound(0, 0, 0) && !sound(0, 0, 1) && !sound(0, 0, 4) && sound(0, 0, 3));
+    assert!(!sound(0, 0, 4294967299), "3 in its lower half alone");
     assert!(!sound(1, 1, 0) && sound(1, 1, 1) && !sound(1, 1, 2) && !sound(1, 1, 3));
     assert!(
         sound(1, 2, 0) && sound(1, 3, u64::MAX) && sound(1, 4, 5497558138880) && !sound(1, 4, 5497558138881)
@@ -88,6 +90,20 @@ fn row_numbers() {
         assert!(!sound(2, place, 1), "in a marker the last five are 0");
         assert!(!sound(3, place, 1), "unused rows are zero");
     }
+}
+
+#[test]
+fn version_numbers_up_to_the_last() {
+    let sound = |number, next| {
+        after(|b| {
+            b.rows[0][0] = number;
+            b.settings.next = next;
+        })
+    };
+    for number in [4294967295, 4294967296, 4294967297, 1 << 63, MAX_VERSION] {
+        assert!(sound(number, number + 1) && sound(number, SPENT) && !sound(number, number), "{number}");
+    }
+    assert!(!sound(SPENT, SPENT), "the number behind the last is none");
 }
 
 #[test]

@@ -13,6 +13,13 @@ impl Hub {
         Hub { bucket: Bucket::fresh(capacity) }
     }
 
+    /// A fresh bucket but for its next version number.
+    pub fn from_number(capacity: usize, next: u64) -> Hub {
+        let mut hub = Hub::new(capacity);
+        hub.bucket.settings.next = next;
+        hub
+    }
+
     /// A full bucket without a version number left, its default ending after the last instant; its row is a marker of m.
     pub fn spent() -> Hub {
         let mut hub = Hub::new(1);
@@ -61,6 +68,27 @@ impl Hub {
     pub fn run(&mut self, lines: &[(&str, &str)]) {
         for (line, expected) in lines {
             assert_eq!(self.say(line), *expected, "{line}");
+        }
+    }
+
+    /// The lines of the pages of one prefix, followed from the start by the last line's key and version.
+    pub fn followed(&mut self, prefix: &str, count: usize) -> Vec<String> {
+        let mut shown: Vec<String> = Vec::new();
+        let mut place = "|0".to_string();
+        loop {
+            let line = format!("1970-01-01T00:00:00Z|r|LIST|{prefix}|{place}|{count}");
+            let said = self.say_in(256 + 256 * count, &line);
+            let mut lines = said.lines().map(str::to_string);
+            let rows: usize = lines.next().unwrap().strip_prefix("ok|").unwrap().parse().unwrap();
+            let before = shown.len();
+            shown.extend(lines);
+            assert_eq!(shown.len(), before + rows, "as many rows as the first line says");
+            assert!(rows <= count);
+            if rows < count {
+                return shown;
+            }
+            let mut fields = shown[shown.len() - 1].split('|');
+            place = format!("{}|{}", fields.next().unwrap(), fields.next().unwrap());
         }
     }
 

@@ -1,14 +1,15 @@
 //! Buckets that are damaged: bits, numbers, places and lengths.
+use crate::carried::ONCE_SPENT;
 use crate::lines::near_midnight;
 use crate::random::Random;
 use crate::sides::{Lent, Side};
-use reference::bucket::{CREATED, MAX_LENGTH};
+use reference::bucket::{CREATED, DATA, HOLD, KIND, MAX_LENGTH, MODE, UNTIL, VERSION};
 use reference::dates::{DAY, LAST};
 use reference::settings::SPENT;
 
 fn some_number(side: &Side, random: &mut Random) -> u64 {
     let (time, next) = (side.settings.word(0), side.settings.word(16));
-    let near = [time, next, LAST, SPENT, MAX_LENGTH, 36500, 100, 0, 1, 2, 3, u64::MAX, 1 << 63, 1024];
+    let near = [time, next, LAST, ONCE_SPENT, MAX_LENGTH, 36500, 100, 0, 1, 2, 3, u64::MAX, 1 << 63, 1024];
     random.pick(&near).wrapping_add(random.pick(&[0, 0, 1, u64::MAX]))
 }
 
@@ -54,7 +55,7 @@ fn set_limits(side: &mut Side, random: &mut Random) {
             side.settings.set_word(32, random.pick(&[0, 1, 4, 100, 101, 36500, 36501]));
             side.settings.set_word(40, random.pick(&[0, 1, 1, 2, 2, 3]));
         }
-        1 => side.settings.set_word(16, random.pick(&[0, 1, SPENT, SPENT + 1])),
+        1 => side.settings.set_word(16, random.pick(&[0, 1, ONCE_SPENT, SPENT])),
         _ => side.settings.set_word(8, random.pick(&[0, used + 1, used.wrapping_sub(1), 1025])),
     }
 }
@@ -114,21 +115,74 @@ pub fn lengths(side: &mut Side, random: &mut Random) {
     }
 }
 
+/// Raises the next number, unless it is larger already.
+fn raise_next(side: &mut Side, number: u64) {
+    let next = side.next_number();
+    side.settings.set_word(16, next.max(number));
+}
+
+/// A next number at or around the old end, or one for which few, some or many numbers are left.
+fn some_next(random: &mut Random) -> u64 {
+    let near = random.below(8) as u64;
+    match random.below(8) {
+        0 | 1 => ONCE_SPENT,
+        2 | 3 => ONCE_SPENT - near,
+        4 => ONCE_SPENT + near,
+        5 => SPENT - near,
+        6 => SPENT - 1000 * (1 + near),
+        _ => random.next(),
+    }
+}
+
+/// Leaves so few numbers that adding some rows meets the end.
+pub fn leave_few(side: &mut Side, random: &mut Random) {
+    raise_next(side, SPENT - random.below(8) as u64);
+}
+
+/// Raises a row's number to one next below that of the next newer row of its key, or below the next number.
+fn raise_number(side: &mut Side, at: usize, random: &mut Random) {
+    let newer = at.checked_sub(1).filter(|newer| key_at(side, *newer) == key_at(side, at));
+    let above = newer.map_or(side.next_number(), |newer| side.rows.word(64 * newer + 8 * VERSION));
+    let place = 64 * at + 8 * VERSION;
+    let raised = (above - 1).saturating_sub(random.below(4) as u64);
+    side.rows.set_word(place, side.rows.word(place).max(raised));
+}
+
+fn key_at(side: &Side, at: usize) -> &[u8] {
+    &side.keys.seen()[64 * at..64 * at + 64]
+}
+
+/// Gives a data row a lock that perhaps no line could have given it.
+fn set_lock(side: &mut Side, at: usize, random: &mut Random) {
+    let time = side.settings.word(0);
+    let mode = random.below(3) as u64;
+    let days = random.next() % (4 * DAY);
+    let until = random.pick(&[1, time, time + 1, time + days, time + 365 * DAY, LAST]).clamp(1, LAST);
+    let numbers = [(MODE, mode), (UNTIL, if mode == 0 { 0 } else { until }), (HOLD, random.below(2) as u64)];
+    if side.rows.word(64 * at + 8 * KIND) == DATA {
+        numbers.into_iter().for_each(|(place, number)| side.rows.set_word(64 * at + 8 * place, number));
+    }
+}
+
+/// Sets a row's creation back.
+fn set_back(side: &mut Side, at: usize, random: &mut Random) {
+    let place = 64 * at + 8 * CREATED;
+    let created = side.rows.word(place);
+    let earlier = created - random.next() % (3 * DAY).min(created + 1);
+    side.rows.set_word(place, near_midnight(earlier, random).min(created));
+}
+
 /// A change that leaves a sound bucket sound, and that lines reach only after a long time, if at all.
 pub fn sound_change(side: &mut Side, random: &mut Random) {
-    let (time, next) = (side.settings.word(0), side.settings.word(16));
-    match random.below(5) {
-        0 => side.settings.set_word(16, next.max(SPENT - random.below(8) as u64)),
-        1 => side.settings.set_word(0, time.max(near_midnight(LAST - random.next() % (3 * DAY), random))),
-        2 => side.settings.set_word(0, time.max(LAST - random.next() % (40000 * DAY))),
-        _ => {
-            let used = side.settings.word(8) as usize;
-            if used > 0 {
-                let at = 64 * random.below(used) + 8 * CREATED;
-                let created = side.rows.word(at);
-                let earlier = created - random.next() % (3 * DAY).min(created + 1);
-                side.rows.set_word(at, near_midnight(earlier, random).min(created));
-            }
-        }
+    let time = side.settings.word(0);
+    let used = side.settings.word(8) as usize;
+    match random.below(12) {
+        0 => side.settings.set_word(0, time.max(near_midnight(LAST - random.next() % (3 * DAY), random))),
+        1 => side.settings.set_word(0, time.max(LAST - random.next() % (40000 * DAY))),
+        2..=4 => raise_next(side, some_next(random)),
+        _ if used == 0 => {}
+        5 | 6 => raise_number(side, random.below(used), random),
+        7..=9 => set_lock(side, random.below(used), random),
+        _ => set_back(side, random.below(used), random),
     }
 }

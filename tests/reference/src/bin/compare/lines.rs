@@ -1,14 +1,18 @@
 //! Request lines that fit the bucket's state often enough to reach every number.
+use crate::carried::ONCE_SPENT;
 use crate::random::Random;
 use crate::sides::Side;
 use crate::years::year_of;
 use reference::bucket::{CREATED, MAX_LENGTH, MAX_VERSION, UNTIL, VERSION};
 use reference::dates::{self, up_to_midnight, DAY, LAST};
-use reference::settings::{MAX_YEARS, YEARS};
+use reference::settings::{MAX_YEARS, SPENT, YEARS};
 
 const KEYS: [&str; 8] = ["a", "b", "a/1", "a/2", "a/", "-", "!", "~"];
 /// The key and version fields of the place before every row.
 pub const START: &str = "\t0";
+/// Version numbers around both ends, and one more than the last.
+const VERSIONS: [u64; 9] =
+    [1, 2, 5, ONCE_SPENT - 1, ONCE_SPENT, ONCE_SPENT + 1, MAX_VERSION - 1, MAX_VERSION, SPENT];
 const PREFIXES: [&str; 6] = ["", "a", "a/", "-", "b", "zz"];
 
 /// First days of years, 29 February, 1 March of common and leap years, and the last day of all.
@@ -192,11 +196,19 @@ impl Maker<'_> {
     fn name(&mut self) -> String {
         if let (false, Some(at)) = (self.random.once_in(8), self.row()) {
             let (key, version) = self.named(at);
-            let version = if self.random.once_in(4) { "-".into() } else { version.to_string() };
-            return format!("{key}\t{version}");
+            return format!("{key}\t{}", self.version(version));
         }
-        let version = ["-", "1", "2", "5", "4294967295"][self.random.below(5)];
-        format!("{}\t{version}", self.key())
+        let version = self.random.pick(&VERSIONS);
+        format!("{}\t{}", self.key(), self.version(version))
+    }
+
+    /// A version field: mostly a number, seldom one that has it in its lower half, else the current one.
+    fn version(&mut self, number: u64) -> String {
+        match self.random.below(32) {
+            0..=7 => "-".into(),
+            8 => number.wrapping_add(ONCE_SPENT).to_string(),
+            _ => number.to_string(),
+        }
     }
 
     /// A mode and a date, seldom only one of them.
@@ -271,7 +283,8 @@ impl Maker<'_> {
 
     /// The key and version fields of a place: at, before or behind a row that is there, or anywhere.
     fn place(&mut self) -> String {
-        let any = self.random.pick(&[0, 0, 1, 2, 5, 100, MAX_VERSION]);
+        let version = self.random.pick(&VERSIONS);
+        let any = self.random.pick(&[0, 0, 100, version, version, version]);
         let Some(at) = self.row().filter(|_| !self.random.once_in(6)) else {
             return if self.random.once_in(2) { START.into() } else { format!("{}\t{any}", self.key()) };
         };
@@ -374,6 +387,27 @@ impl Maker<'_> {
         verbs.into_iter().map(line).collect()
     }
 
+    /// Lines that add rows where few numbers are left: a sweep that marks what it can, and PUT, COPY and DELETE from some
+    /// turn on, the PUT sent again at last.
+    pub fn ending(&mut self) -> Vec<String> {
+        let (now, later) = (self.time(), up_to_midnight(self.time() + DAY).min(LAST));
+        let (key, target) = (self.key(), self.key());
+        let put = format!("PUT\t{key}\t{}\t7\t-\t-\t-", self.random.next());
+        let mut adding = [
+            (later, "SWEEP".to_string()),
+            (later, format!("PUT\t{target}\t{}\t8\t-\t-\t-", self.random.next())),
+            (later, format!("COPY\t{key}\t-\t{target}\t-\t-\t-")),
+            (later, format!("DELETE\t{target}\t-\tno")),
+        ];
+        let turn = self.random.below(adding.len());
+        adding.rotate_left(turn);
+        let mut verbs = vec![(now, "RULE\t0\t\t1\t0".to_string()), (now, put.clone())];
+        verbs.extend(adding.iter().chain(&adding).cloned());
+        verbs.push((later, put));
+        let line = |(clock, verb): (u64, String)| format!("{}\trwdthbc\t{verb}", self.date(clock));
+        verbs.into_iter().map(line).collect()
+    }
+
     /// Lines that keep a row that is there, and a new one, until the same date soon.
     pub fn locks(&mut self) -> Vec<String> {
         let (now, instant) = (self.time(), self.soon().max(self.time() + 1).min(LAST));
@@ -422,7 +456,8 @@ impl Maker<'_> {
         ];
         if !self.random.once_in(4) {
             let next = self.side.settings.word(16);
-            let made = [(&key, next), (&target, next + 1), (&key, next + 2)];
+            let made =
+                [(&key, 0), (&target, 1), (&key, 2)].map(|(key, behind)| (key, next.saturating_add(behind)));
             verbs.extend(made.map(|(key, number)| (later, format!("DELETE\t{key}\t{number}\tyes"))));
             verbs.push((later, "DEFAULT\t-\t-".into()));
         }

@@ -1,4 +1,5 @@
 //! One list of lines, from a fresh bucket or a filled one.
+use crate::carried::{self, Carried, Released};
 use crate::comparisons::Comparisons;
 use crate::damage;
 use crate::lines::{near_midnight, some_day, Maker, START};
@@ -8,7 +9,7 @@ use crate::random::Random;
 use crate::sides::{asks_for, put_in, Fault, Put, Side, Sides};
 use crate::tally::Tally;
 use crate::totals::{self, Report};
-use crate::{pages, plain};
+use crate::{numbers, pages, plain};
 use reference::answers::{page_buffer, LEAST_BUFFER};
 use reference::bucket::{block, HOLD, MODE, UNTIL};
 use reference::dates::{self, DAY, LAST};
@@ -22,6 +23,8 @@ struct List<'a> {
     keys: usize,
     /// The PUTs that have added rows, to be sent again.
     puts: Vec<String>,
+    /// What was carried over at some moment, until something other than a line changes the bucket.
+    carried: Option<Carried>,
     tally: &'a mut Tally,
 }
 
@@ -135,8 +138,14 @@ impl List<'_> {
 
     fn serve_in(&mut self, room: usize, line: &[u8]) -> Result<u64, String> {
         self.lend_answer(room);
+        let next = self.sides.engine.next_number();
+        let released = self.carried.as_ref().and_then(|_| carried::released(line, &self.sides.engine));
         let served = self.sides.serve(line).map_err(|difference| format!("{}\n{difference}", shown(line)))?;
         self.tally.count(line, served.number);
+        self.tally.count_numbers(numbers::kinds(line, served.number, next, &self.sides.engine));
+        if served.number == 0 {
+            self.check_carried(released).map_err(|said| format!("{}\n{said}", shown(line)))?;
+        }
         if let Some(sweep) = &served.swept {
             self.check_sweep(sweep, served.comparisons).map_err(|said| format!("{}\n{said}", shown(line)))?;
         }
@@ -156,6 +165,24 @@ impl List<'_> {
             _ => {}
         }
         Ok(served.number)
+    }
+
+    /// Has the bucket carried over as it is: from here on what it holds is held.
+    fn carry_over(&mut self) {
+        self.carried = Carried::of(&self.sides.engine);
+        self.tally.buckets += u64::from(self.carried.is_some());
+    }
+
+    /// Whether what was carried over is held after an accepted line, but for what the line has released.
+    fn check_carried(&mut self, released: Option<Released>) -> Result<(), String> {
+        let Some(carried) = &mut self.carried else { return Ok(()) };
+        released.iter().for_each(|released| carried.release(released));
+        if self.sides.fault == Fault::Carried {
+            carried.spoil(&mut self.sides.engine, &mut self.random);
+        }
+        let rows = carried.check(&self.sides.engine)?;
+        self.tally.count_carried(rows);
+        Ok(())
     }
 
     /// Judges a sweep a second time: the rows whose midnights have come, and how many comparisons it was to make.
@@ -279,9 +306,27 @@ impl List<'_> {
         Ok(())
     }
 
+    /// Meets the end of the numbers on the bucket as it is carried over with few left, and then puts the bucket back.
+    fn pass_the_end(&mut self) -> Result<(), String> {
+        let (before, held) = (self.sides.engine.clone(), self.carried.take());
+        damage::leave_few(&mut self.sides.engine, &mut self.random);
+        self.carry_over();
+        self.maker().ending().iter().try_for_each(|line| self.serve(line.as_bytes()))?;
+        self.follow()?;
+        self.sides.engine = before;
+        self.carried = held;
+        Ok(())
+    }
+
+    /// Changes the bucket as no line does, and has it carried over from there.
+    fn change(&mut self) {
+        damage::sound_change(&mut self.sides.engine, &mut self.random);
+        self.carry_over();
+    }
+
     /// Serves a line on a bucket that something was done to, and then puts the bucket back.
     fn serve_changed(&mut self, change: fn(&mut Side, &mut Random), line: &[u8]) -> Result<(), String> {
-        let before = self.sides.engine.clone();
+        let (before, held) = (self.sides.engine.clone(), self.carried.take());
         change(&mut self.sides.engine, &mut self.random);
         self.serve(line)?;
         if self.random.once_in(8) {
@@ -289,6 +334,7 @@ impl List<'_> {
             self.make_fresh()?;
         }
         self.sides.engine = before;
+        self.carried = held;
         Ok(())
     }
 
@@ -309,11 +355,13 @@ impl List<'_> {
         match self.random.below(60) {
             0..=2 => self.serve_changed(damage::bucket, &line)?,
             3 => self.serve_changed(damage::lengths, &line)?,
-            4 if self.random.once_in(3) => damage::sound_change(&mut self.sides.engine, &mut self.random),
+            4 if self.random.once_in(2) => self.change(),
             5 if self.random.once_in(3) => self.follow()?,
             6 if self.random.once_in(3) => self.pass_midnight()?,
             7 if self.random.once_in(3) => self.pass_years()?,
             8 if self.random.once_in(3) => self.pass_dates()?,
+            9 if self.random.once_in(3) => self.pass_the_end()?,
+            10 => self.carry_over(),
             _ => {}
         }
         self.serve(&line)
@@ -328,10 +376,11 @@ pub fn run(seed: u64, fault: Fault, tally: &mut Tally) -> Result<(), String> {
     let (side, puts) = if fill { filled(capacity, &mut random) } else { (Side::new(capacity), Vec::new()) };
     let keys = 1 + random.below(8);
     let steps = 50 + random.below(300);
-    let mut list = List { sides: Sides::new(side, fault), random, keys, puts, tally };
+    let mut list = List { sides: Sides::new(side, fault), random, keys, puts, carried: None, tally };
     if !fill {
         list.make_fresh()?;
     }
+    list.carry_over();
     for step in 0..steps {
         list.step().map_err(|said| format!("step {step}, capacity {capacity}, {said}"))?;
     }

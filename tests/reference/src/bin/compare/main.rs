@@ -1,4 +1,5 @@
 //! Compares the engine, through its C entries, with the reference: each number, each byte and each count of comparisons.
+mod carried;
 mod comparisons;
 mod damage;
 mod engine;
@@ -6,6 +7,7 @@ mod lines;
 mod lists;
 mod midnights;
 mod mutate;
+mod numbers;
 mod pages;
 mod plain;
 mod random;
@@ -64,6 +66,11 @@ fn lacking(tally: &Tally) -> Vec<String> {
         (!tally.uncompared().is_empty(), format!("counts that no sweep had: {:?}", tally.uncompared())),
         (!tally.unended().is_empty(), format!("lines under years that never came: {:?}", tally.unended())),
         (!tally.untold().is_empty(), format!("reports that never came: {:?}", tally.untold())),
+        (
+            !tally.unnumbered().is_empty(),
+            format!("lines about numbers that never came: {:?}", tally.unnumbered()),
+        ),
+        (!tally.unbound().is_empty(), format!("parts that bound no row carried over: {:?}", tally.unbound())),
         (tally.report_numbers() != REPORT_NUMBERS, format!("a REPORT came to {:?}", tally.report_numbers())),
     ];
     tests.into_iter().filter(|(lacks, _)| *lacks).map(|(_, said)| said).collect()
@@ -72,7 +79,7 @@ fn lacking(tally: &Tally) -> Vec<String> {
 fn main() -> ExitCode {
     let Some(options) = options() else {
         eprintln!(
-            "usage: compare [--seconds N] [--seed S] [--lists N] [--break answer|page|following|retry|midnight|count|years|totals]"
+            "usage: compare [--seconds N] [--seed S] [--lists N] [--break answer|page|following|retry|midnight|count|years|totals|carried|spent]"
         );
         return ExitCode::from(2);
     };

@@ -2,7 +2,7 @@
 use crate::random::Random;
 
 /// Fields at and over the limits, to stand in for some other field.
-const FIELDS: [&str; 39] = [
+const FIELDS: [&str; 41] = [
     "",
     "-",
     "0",
@@ -23,8 +23,10 @@ const FIELDS: [&str; 39] = [
     "0d",
     "4294967295",
     "4294967296",
+    "4294967297",
     "5497558138880",
     "5497558138881",
+    "18446744073709551614",
     "18446744073709551615",
     "18446744073709551616",
     "99999999999999999999999",

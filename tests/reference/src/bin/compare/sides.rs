@@ -1,8 +1,10 @@
 //! The sides that are compared: equal buffers, lent to two entries of the engine and to the reference.
+use crate::carried::ONCE_SPENT;
 use crate::comparisons::Comparisons;
 use crate::midnights::Sweep;
 use crate::years::Contract;
 use crate::{engine, pages};
+use reference::refusals::NUMBERS_SPENT;
 use reference::requests::{self, Retention, Verb};
 use reference::settings::{word, BYTES};
 use reference::Bucket;
@@ -110,7 +112,7 @@ impl Side {
     }
 
     /// The next version number that the settings say.
-    fn next_number(&self) -> u64 {
+    pub fn next_number(&self) -> u64 {
         self.settings.word(16)
     }
 
@@ -170,6 +172,10 @@ pub enum Fault {
     Years,
     /// In the totals of followed pages, which count a date equal to now as one that locks.
     Totals,
+    /// In rows that were carried over, which lose a hold or a millisecond on all sides alike.
+    Carried,
+    /// In the reference's numbers, which are spent where those of 32 bits were.
+    Spent,
 }
 
 impl Fault {
@@ -183,6 +189,8 @@ impl Fault {
             "count" => Some(Fault::Count),
             "years" => Some(Fault::Years),
             "totals" => Some(Fault::Totals),
+            "carried" => Some(Fault::Carried),
+            "spent" => Some(Fault::Spent),
             _ => None,
         }
     }
@@ -292,7 +300,7 @@ impl Sides {
         let swept = self.sweep(line);
         let engine = self.engine.serve(serve, line);
         let counted = self.counted.serve_counted(line);
-        let number = self.reference.serve_reference(line);
+        let number = self.serve_reference(line);
         let retried = number == 0 && self.reference.next_number() == next && put_in(line).is_some();
         let comparisons = self.counted.comparisons;
         let swept = swept.filter(|_| number == 0);
@@ -306,6 +314,17 @@ impl Sides {
         let agreed = self.agreed(&self.counted, counted, number).and_then(|_| self.counted_alike());
         agreed.map_err(|said| format!("serve_counted: {said}"))?;
         Ok(served)
+    }
+
+    /// Has the reference serve a line.
+    fn serve_reference(&mut self, line: &[u8]) -> u64 {
+        let next = self.reference.next_number();
+        let number = self.reference.serve_reference(line);
+        let adds_past = number == 0 && self.reference.next_number() > next.max(ONCE_SPENT);
+        if self.fault == Fault::Spent && adds_past {
+            return NUMBERS_SPENT;
+        }
+        number
     }
 
     /// The sweep that a line is, if it can be read as one and the bucket is sound.

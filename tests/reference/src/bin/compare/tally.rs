@@ -1,6 +1,8 @@
 //! How often each number came, by verb, and each entry was called.
+use crate::carried::PARTS;
 use crate::comparisons::Comparisons;
 use crate::midnights::Midnights;
+use crate::numbers::TELLING_NUMBERS;
 use crate::sides::ENTRIES;
 use crate::totals::TELLING_REPORTS;
 use crate::years::{Contract, TELLING_YEARS};
@@ -39,6 +41,11 @@ pub struct Tally {
     /// The reports that were counted by pages, and those of them of each kind.
     totals: u64,
     reports: [u64; TELLING_REPORTS.len()],
+    /// The lines of each kind that tells where numbers go on and end.
+    numbers: [u64; TELLING_NUMBERS.len()],
+    /// The buckets that were carried over, and how often a line left a row of theirs that each part of the clause bound.
+    pub buckets: u64,
+    carried: [u64; PARTS.len()],
     entries: [u64; ENTRIES.len()],
     counts: [[u64; NUMBERS]; VERBS.len()],
 }
@@ -95,6 +102,24 @@ impl Tally {
     pub fn count_report(&mut self, kinds: [bool; TELLING_REPORTS.len()]) {
         self.totals += 1;
         self.reports.iter_mut().zip(kinds).for_each(|(sum, is)| *sum += u64::from(is));
+    }
+
+    pub fn count_numbers(&mut self, kinds: [bool; TELLING_NUMBERS.len()]) {
+        self.numbers.iter_mut().zip(kinds).for_each(|(sum, is)| *sum += u64::from(is));
+    }
+
+    /// The kinds of lines that tell of numbers and never came.
+    pub fn unnumbered(&self) -> Vec<&str> {
+        uncounted(TELLING_NUMBERS, &self.numbers)
+    }
+
+    pub fn count_carried(&mut self, rows: [u64; PARTS.len()]) {
+        self.carried.iter_mut().zip(rows).for_each(|(sum, count)| *sum += count);
+    }
+
+    /// The parts of the lock clause that bound no row carried over.
+    pub fn unbound(&self) -> Vec<&str> {
+        uncounted(PARTS, &self.carried)
     }
 
     /// The kinds of reports that were never counted by pages.
@@ -182,6 +207,11 @@ impl Tally {
         for (kind, count) in TELLING_REPORTS.iter().zip(&self.reports) {
             println!("  {kind}: {count}");
         }
+        println!("lines that tell of version numbers:");
+        for (kind, count) in TELLING_NUMBERS.iter().zip(&self.numbers) {
+            println!("  {kind}: {count}");
+        }
+        println!("carried over: {} buckets; rows held, by {PARTS:?}: {:?}", self.buckets, self.carried);
         print!("{:8}", "number");
         (0..NUMBERS).for_each(|number| print!("{number:>9}"));
         println!();
