@@ -25,9 +25,9 @@
 extern "C" {
 #endif
 
-#define KNITPASTURE_VERSION "1.6.0"
+#define KNITPASTURE_VERSION "1.7.0"
 #define KNITPASTURE_VERSION_MAJOR 1
-#define KNITPASTURE_VERSION_MINOR 6
+#define KNITPASTURE_VERSION_MINOR 7
 #define KNITPASTURE_VERSION_PATCH 0
 
 #define KNITPASTURE_SETTINGS_BYTES 688
@@ -118,6 +118,9 @@ uint64_t knitpasture_fresh(uint8_t *settings, size_t settings_length,
  * lock, whatever mode, date and hold it gives, and its answer doesn't tell; GET shows the lock, RETAIN and HOLD set it.
  * The refusals up to KNITPASTURE_PAST_DATE stand as for any PUT, so a date that has passed since the line was first sent
  * is refused.
+ *
+ * Version numbers are 1 to 18446744073709551614, so that they need 64 bits. A bucket that a release before 1.7.0 left is
+ * served on as it is, its locks too; where such a release had spent its numbers, at 4294967295, they go on from there.
  *
  * A default retention of years ends in the later year at the same month, day and time of day (UTC), from 29 February on
  * 28 February where the later year has none; one of days is of 86400 seconds each. A default that a release before 1.5.0
