@@ -12,7 +12,7 @@ use Rattle.buffers.proofs.Tests.{either, and-l}
 use Rattle.buffers.proofs.Choices.{pick-ways}
 use Rattle.model.specs.Run.{left}
 use Rattle.model.specs.LockClause.{since, Kept}
-use Rattle.model.proofs.Runs.{left-as, gathered-as}
+use Rattle.model.proofs.Runs.{left-keeps, left-as, gathered-as}
 use Rattle.settings.specs.Bytes.{settingsLength}
 use Rattle.table.specs.Layout.{capacity}
 use Rattle.bucket.specs.Whole.{Lent, bucketOf, freshLent, whole}
@@ -20,7 +20,7 @@ use Rattle.bucket.proofs.Whole.{whole-parts}
 use Rattle.outcome.specs.Calls.{Call}
 use Rattle.outcome.specs.Outcome.{Outcome, outcome}
 use Rattle.outcome.proofs.Deciding.{outcome-1}
-use Rattle.outcome.proofs.Demands.{outcome-refused, accepted-of-whole}
+use Rattle.outcome.proofs.Demands.{outcome-refused, whole-unless-1, accepted-of-whole}
 use Rattle.knitpasture.specs.Bytes.{numbersFrom, tableLength, Bytes, lentOf, ByteOutcome, byteOutcome, outcomeBytes, hubServed, fitRows, FreshOutcome, freshOutcome, hubFresh}
 use Rattle.knitpasture.proofs.Left.{Fitting, spelling-ways, reads-as, left-number}
 use Rattle.knitpasture.proofs.Hub.{HandsOn, hub-range, hub-refused, hub-hands-on}
@@ -31,7 +31,7 @@ use Rattle.guarantee.specs.Carried.{Carriable, RunsOnBytes, SeenWhole}
 use Rattle.guarantee.specs.Exchanges.{Exchange, exchange, exchanges, byteExchange, byteExchanges, isServed}
 use Rattle.guarantee.proofs.Demands.{demand-2}
 use Rattle.guarantee.proofs.Runs.{whole-after}
-use Rattle.guarantee.proofs.LockClause.{runs-on, fresh-is-whole, fresh-carriable}
+use Rattle.guarantee.proofs.LockClause.{runs-on, fresh-capacity, fresh-carriable}
 
 -- ## Lengths
 
@@ -59,15 +59,11 @@ sized-fits c b z =
     let m = z .most in
     record { settings-long = z .settings-long; rows-most = omega arith; rows-even = omega arith }
 
--- A call that does not return 1 tells that the bucket is whole.
-not-1-whole : (b : Lent) (g : Call) → ((outcome b g) .number ≡ 1 → ⊥) → whole b ≡ true
-not-1-whole b g n = elim (either (whole b)) [ inl w ↦ w | inr w ↦ absurd (n (ap (λ (o : Outcome). o .number) (sym (outcome-1 b g w)))) ]
-
 pub seen-whole : SeenWhole
 unfolding hubServed
 seen-whole b g =
     spelling-ways b (λ (x : ByteOutcome). (x .number ≡ 1 → ⊥) → Sized (capacity (b .keys)) b × (whole (lentOf b) ≡ true))
-    (λ f n. let w = not-1-whole (lentOf b) g (λ e. n (left-number _ (outcome (lentOf b) g) b (g .answer) ∙ e)) in (whole-sized b f w, w))
+    (λ f n. let w = whole-unless-1 (lentOf b) g (λ e. n (left-number _ (outcome (lentOf b) g) b (g .answer) ∙ e)) in (whole-sized b f w, w))
     (λ n. absurd (n refl))
 
 -- An accepted call tells that the bytes have the lengths of some c rows.
@@ -166,7 +162,7 @@ module _ (c : ℕ) (b : Bytes) (z : Sized c b) where
   fresh-handed = fresh-hands-on b c (z .some) (z .most) (z .settings-long) (z .rows-long) (z .keys-long)
 
   fresh-sized : Sized c (freshBytes b)
-  fresh-sized = handed-sized c b (freshBytes b) (freshLent c) z ((fresh-is-whole c (z .some) (z .most)) .size) fresh-handed
+  fresh-sized = handed-sized c b (freshBytes b) (freshLent c) z (fresh-capacity c) fresh-handed
 
 -- Bytes that are made fresh have the lengths of some c rows.
 fit-sized : (b : Bytes) → length (b .settings) ≡ settingsLength → length (b .rows) ≡ length (b .keys) → fitRows (length (b .keys)) ≡ true → Sized (capacity (b .keys)) b
@@ -209,8 +205,7 @@ module _ (c : ℕ) where
   spelled-after b g z = (spells-after c b g z) .is
 
   pub sized-left : (b : Bytes) (gs : List Call) → Sized c b → Sized c (left byteStep b gs)
-  sized-left b [] z = z
-  sized-left b (g ∷ gs) z = sized-left (byteStep b g) gs (sized-after b g z)
+  sized-left = left-keeps byteStep (Sized c) sized-after
 
   pub spelled-left : (b : Bytes) (gs : List Call) → Sized c b → lentOf (left byteStep b gs) ≡ left step (lentOf b) gs
   spelled-left b gs z = left-as byteStep step lentOf (λ g. g) (Sized c) sized-after spelled-after b gs z ∙ ap (left step (lentOf b)) (map-id gs)

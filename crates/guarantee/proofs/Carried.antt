@@ -1,8 +1,8 @@
 -- M-106: what calls leave can be carried over again, and what was whole before is whole.
 use Prim.Native.Nat.{ℕ}
 use mathlib.Core.Path.{_≡_, refl, sym, _∙_, subst⁻¹}
-use mathlib.Core.Bool.{Bool, true, _&&_, false≢true}
-use mathlib.Core.List.{List, [], _∷_, map}
+use mathlib.Core.Bool.{Bool, true, _&&_}
+use mathlib.Core.List.{map}
 use native.Mathlib.Omega.{arith}
 use lib.Dec.{leb}
 use borrow.Author.Tests.{leb-true, le-leb}
@@ -10,18 +10,15 @@ use Rattle.buffers.specs.Lists.{same}
 use Rattle.buffers.proofs.Tests.{and-i, and-l, and-r}
 use Rattle.calendar.specs.Calendar.{latest}
 use Rattle.model.specs.Settings.{Settings, Bucket, spentNumber, soundSettings, fits, sound}
-use Rattle.model.specs.Requests.{Heard, unreadable, says}
-use Rattle.model.specs.Refusals.{firstOf, checks}
-use Rattle.model.specs.Run.{left}
 use Rattle.model.specs.LockClause.{distinct}
-use Rattle.model.proofs.Facts.{first-among, always-distinct}
+use Rattle.model.proofs.Facts.{always-distinct}
+use Rattle.model.proofs.Runs.{left-keeps}
 use Rattle.settings.specs.Meaning.{prefixesAre}
 use Rattle.table.specs.Layout.{numbersOf, keysOf, capacity}
-use Rattle.bucket.specs.Whole.{Lent, usedRows, bucketOf, whole}
+use Rattle.bucket.specs.Whole.{usedRows, bucketOf, whole}
 use Rattle.bucket.proofs.Whole.{whole-parts}
-use Rattle.outcome.specs.Calls.{Call, heard}
-use Rattle.outcome.specs.Outcome.{refusalOf}
-use Rattle.outcome.proofs.Demands.{outcome-number}
+use Rattle.outcome.specs.Calls.{heard}
+use Rattle.outcome.proofs.Demands.{whole-not-1}
 use Rattle.knitpasture.specs.Bytes.{lentOf}
 use Rattle.guarantee.specs.Calls.{step}
 use Rattle.guarantee.specs.Carried.{Carriable, CarriedAgain, CarriedAgainBytes, settingsBefore, soundBefore, WholeStill, ServedStill}
@@ -30,16 +27,12 @@ use Rattle.guarantee.proofs.Bytes.{same-number, spelled-left}
 
 -- ## Carried over again
 
-whole-left : (c : ℕ) (b : Lent) (gs : List Call) → Whole c b → Whole c (left step b gs)
-whole-left c b [] w = w
-whole-left c b (g ∷ gs) w = whole-left c (step b g) gs (whole-after c b g w)
-
 pub carried-again : CarriedAgain
 carried-again b p gs =
     let c = capacity (b .keys) in
     let w : Whole c b = record { is-whole = p .is-whole; size = refl } in
     record {
-      is-whole = (whole-left c b gs w) .is-whole;
+      is-whole = (left-keeps step (Whole c) (whole-after c) b gs w) .is-whole;
       numbers-differ = subst⁻¹ (λ (x : Bucket). distinct (x .rows) ≡ true) (held-left c b gs w)
           (always-distinct c (bucketOf b) ((whole-parts b (p .is-whole)) .is-sound) (p .numbers-differ) (map heard gs));
     }
@@ -76,13 +69,5 @@ whole-still b =
     (and-as (prefixesAre (b .settings .rules))
     (sound-still c (bucketOf b)))))))
 
--- A whole bucket never meets 1.
-never-1 : (c : ℕ) (b : Bucket) (l : Heard) → firstOf (checks true c b l) ≡ 1 → ⊥
-never-1 c b (unreadable room) e = false≢true (first-among (checks true c b (unreadable room)) 1 e (λ z. omega arith))
-never-1 c b (says q) e = false≢true (first-among (checks true c b (says q)) 1 e (λ z. omega arith))
-
 pub served-still : ServedStill
-unfolding refusalOf
-served-still c b z w g e =
-    let n : refusalOf (lentOf b) g ≡ 1 = sym (outcome-number (lentOf b) g) ∙ sym (same-number c b g z) ∙ e in
-    never-1 (capacity (b .keys)) (bucketOf (lentOf b)) (heard g) (rw (whole-still (lentOf b) w) at n)
+served-still c b z w g e = whole-not-1 (lentOf b) g (whole-still (lentOf b) w) (sym (same-number c b g z) ∙ e)

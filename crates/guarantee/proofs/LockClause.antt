@@ -28,12 +28,8 @@ runs-on b p gs =
     let w : Whole c b = record { is-whole = p .is-whole; size = refl } in
     rw (held-left c b gs w, events-left c b gs w) (lock-clause c (bucketOf b) ((whole-parts b (p .is-whole)) .is-sound) (p .numbers-differ) (map heard gs))
 
-pub fresh-is-whole : (c : ℕ) → 1 ≤ c → c ≤ 1024 → Whole c (freshLent c)
-fresh-is-whole c some most =
-    record {
-      is-whole = fresh-whole c some most;
-      size = let e = length-replicate {A = ℕ} (64 * c) 0 in omega arith;
-    }
+pub fresh-capacity : (c : ℕ) → capacity ((freshLent c) .keys) ≡ c
+fresh-capacity c = let e = length-replicate {A = ℕ} (64 * c) 0 in omega arith
 
 pub fresh-carriable : (c : ℕ) → 1 ≤ c → c ≤ 1024 → Carriable (freshLent c)
 fresh-carriable c some most = record { is-whole = fresh-whole c some most; numbers-differ = refl }

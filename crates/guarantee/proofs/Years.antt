@@ -36,8 +36,7 @@ use Rattle.request.specs.Grammar as grammar
 use Rattle.request.proofs.Words.{line-clock, AsksRow, put-asks-row, copy-asks-row, asks-current}
 use Rattle.outcome.specs.Calls.{Call, heard}
 use Rattle.outcome.specs.Outcome.{Outcome, refusalOf, outcome}
-use Rattle.outcome.proofs.Deciding.{outcome-1}
-use Rattle.outcome.proofs.Demands.{outcome-number, outcome-refused, accepted-of-whole}
+use Rattle.outcome.proofs.Demands.{outcome-number, outcome-refused, whole-unless-1, accepted-of-whole}
 use Rattle.outcome.proofs.Kept.{model-accepts, accepted-bucket}
 use Rattle.knitpasture.specs.Bytes.{Bytes, lentOf, ByteOutcome, hubServed}
 use Rattle.knitpasture.proofs.Left.{spelling-ways, left-number}
@@ -169,7 +168,7 @@ module _ (b : Lent) (g : Call) (clock : ℕ) (x : TakesYears (bucketOf b) (g .se
       number-is = sym (outcome-number b g) ∙ z
 
       is-whole : whole b ≡ true
-      is-whole = elim (either (whole b)) [ inl w ↦ w | inr w ↦ absurd (omega (arith, z, ap (λ (o : Outcome). o .number) (outcome-1 b g w))) ]
+      is-whole = whole-unless-1 b g (λ e. omega arith)
 
       by-heard : (l : Heard) → heard g ≡ l → Judged
       by-heard (unreadable room) e = let m = first-most 3 (checks (whole b) (capacity (b .keys)) bucket (unreadable room)) refl in absurd (omega (arith, m, rw e at number-is))

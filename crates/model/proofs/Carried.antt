@@ -1,6 +1,6 @@
 -- What holds of the bucket that a history begins with, before the first line.
 use Prim.Native.Nat.{ℕ, _≤_}
-use mathlib.Core.Path.{_≡_, refl, _∙_, ap}
+use mathlib.Core.Path.{_≡_, refl, _∙_}
 use mathlib.Core.Logic.{inl, inr}
 use mathlib.Core.Bool.{Bool, true, false, not, _&&_, false≢true}
 use mathlib.Core.List.{List, [], _∷_}
@@ -91,7 +91,7 @@ each-counts b d xs ys x q k es =
     let once : versions v (b .rows) ≡ x ∷ [] = rw q (differ-alone xs ys x (rw q at d)) in
     let found : carried b v ≡ some x = carried-one b v x once ∙ rw (eq-eqb (x .kind) 1 k) in
     record {
-      made = making-stays (carriedMaking b) es v (makingOf x) (ap (λ (o : Option Row). thenSome o none (λ y. some (makingOf y))) found);
-      under = carriedOver (ap (λ (o : Option Row). thenSome o false (λ y. eqb (y .mode) (x .mode) && eqb (y .until) (x .until))) found ∙ and-i _ _ (eq-eqb (x .mode) (x .mode) refl) (eq-eqb (x .until) (x .until) refl)) refl;
-      on-hold = λ h. carriedOver (ap (λ (o : Option Row). thenSome o false (λ y. eqb (y .hold) 1)) found ∙ eq-eqb (x .hold) 1 h) refl;
+      made = making-stays (carriedMaking b) es v (makingOf x) (rw found);
+      under = carriedOver (rw found (and-i _ _ (eq-eqb (x .mode) (x .mode) refl) (eq-eqb (x .until) (x .until) refl))) refl;
+      on-hold = λ h. carriedOver (rw found (eq-eqb (x .hold) 1 h)) refl;
     }

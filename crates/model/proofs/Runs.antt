@@ -8,6 +8,11 @@ module _ {S C : Type 0} (step : S → C → S) where
   left-append s [] ds = refl
   left-append s (c ∷ cs) ds = left-append (step s c) cs ds
 
+  -- What each call keeps, a list of calls keeps.
+  pub left-keeps : (Known : S → Type 0) → ((s : S) (c : C) → Known s → Known (step s c)) → (s : S) (cs : List C) → Known s → Known (left step s cs)
+  left-keeps Known stays s [] k = k
+  left-keeps Known stays s (c ∷ cs) k = left-keeps Known stays (step s c) cs (stays s c k)
+
   pub gathered-append : {A : Type 0} (tell : S → C → List A) (s : S) (cs ds : List C) → gathered step tell s (cs ++ ds) ≡ gathered step tell s cs ++ gathered step tell (left step s cs) ds
   gathered-append tell s [] ds = refl
   gathered-append {A} tell s (c ∷ cs) ds =

@@ -2,14 +2,14 @@
 use Prim.Native.Nat.{ℕ, _≤_}
 use mathlib.Core.Path.{_≡_, refl, sym, _∙_, ap}
 use mathlib.Core.Logic.{inl, inr}
-use mathlib.Core.Bool.{Bool, true, false}
+use mathlib.Core.Bool.{Bool, true, false, false≢true}
 use native.Mathlib.Omega.{arith}
 use lib.Dec.{eqb, ltb}
 use borrow.Author.Tests.{eqb-true, eqb-false, ne-eqb}
 use Rattle.buffers.proofs.Tests.{either}
 use Rattle.model.specs.Requests.{Request, Heard, unreadable, says}
 use Rattle.model.specs.Refusals.{FirstHolds, firstOf, lastRefusal, checks}
-use Rattle.model.proofs.Facts.{first-most, first-holds}
+use Rattle.model.proofs.Facts.{first-most, first-holds, first-among}
 use Rattle.table.specs.Layout.{capacity}
 use Rattle.bucket.specs.Whole.{Lent, bucketOf, whole}
 use Rattle.outcome.specs.Calls.{Call, heard}
@@ -68,15 +68,20 @@ module _ (b : Lent) (g : Call) where
   pub outcome-refused : ((outcome b g) .number ≡ 0 → ⊥) → outcome b g ≡ refused ((outcome b g) .number) b (g .answer)
   outcome-refused z = refused-unchanged (λ q. z (outcome-number ∙ q)) ∙ ap (λ (k : ℕ). refused k b (g .answer)) (sym outcome-number)
 
-  -- Refusal 1 meets every call on a bucket that is not whole.
-  pub unsound-refused : whole b ≡ false → refusalOf b g ≡ 0 → ⊥
+  -- Refusal 1 meets every call on a bucket that is not whole,
+  pub whole-unless-1 : ((outcome b g) .number ≡ 1 → ⊥) → whole b ≡ true
   unfolding refusalOf
-  unsound-refused e z = omega (arith, rw e at z)
+  whole-unless-1 n = elim (either (whole b)) [ inl w ↦ w | inr w ↦ absurd (n (outcome-number ∙ rw w)) ]
 
-  -- An accepted outcome comes of what is whole.
+  -- so that an accepted one tells that it is,
   pub accepted-of-whole : (outcome b g) .number ≡ 0 → whole b ≡ true
-  accepted-of-whole z =
-      elim (either (whole b)) [
-        | inl t ↦ t
-        | inr t ↦ absurd (unsound-refused t (sym outcome-number ∙ z))
-      ]
+  accepted-of-whole z = whole-unless-1 (λ e. omega arith)
+
+  -- and none on one that is.
+  pub whole-not-1 : whole b ≡ true → (outcome b g) .number ≡ 1 → ⊥
+  unfolding refusalOf
+  whole-not-1 w e = go (heard g) (rw w at (sym outcome-number ∙ e))
+    where
+      go : (h : Heard) → firstOf (checks true (capacity (b .keys)) (bucketOf b) h) ≡ 1 → ⊥
+      go (unreadable room) e = false≢true (first-among (checks true (capacity (b .keys)) (bucketOf b) (unreadable room)) 1 e (λ z. omega arith))
+      go (says q) e = false≢true (first-among (checks true (capacity (b .keys)) (bucketOf b) (says q)) 1 e (λ z. omega arith))
