@@ -1,5 +1,6 @@
 //! A bucket for the tests, served with lines in which `|` stands for a tab.
 #![allow(dead_code)]
+use reference::answers::page_buffer;
 use reference::bucket::{Block, Row};
 use reference::settings::SPENT;
 use reference::Bucket;
@@ -77,7 +78,7 @@ impl Hub {
         let mut place = "|0".to_string();
         loop {
             let line = format!("1970-01-01T00:00:00Z|r|LIST|{prefix}|{place}|{count}");
-            let said = self.say_in(256 + 256 * count, &line);
+            let said = self.say_in(page_buffer(count), &line);
             let mut lines = said.lines().map(str::to_string);
             let rows: usize = lines.next().unwrap().strip_prefix("ok|").unwrap().parse().unwrap();
             let before = shown.len();
