@@ -1,35 +1,29 @@
 -- Laws of lines: where the first one ends, and what is left behind it.
-use Prim.Native.Nat.{ℕ, suc, _+_, _-_, _≤_, _<_}
-use mathlib.Core.Path.{_≡_, refl, sym, _∙_, subst}
+use Prim.Native.Nat.{ℕ, zero, suc, _+_, _-_, _≤_, _<_}
+use mathlib.Core.Path.{_≡_, sym, _∙_, subst}
 use mathlib.Core.Logic.{inl, inr}
-use mathlib.Core.Bool.{Bool, false, _||_, or-assoc, or-false}
+use mathlib.Core.Bool.{false}
 use mathlib.Core.List.{List, [], _∷_, _++_}
 use native.Mathlib.Omega.{arith}
+use native.Mathlib.Nat.{add-zero}
 use lib.Dec.{eqb}
-use lib.ListN.{length, getD, take, drop, length-drop, take-append-drop, drop-of-length-le}
-use lib.Seq.{drop-drop, length-take-le}
+use lib.ListN.{length, getD, take, drop, drop-of-length-le}
+use lib.Seq.{drop-drop}
+use lib.Count.{trailingZeros}
+use mir.Syntax.{w64}
+use mir.Val.{Fits}
 use borrow.Author.Tests.{eq-eqb, ne-eqb}
 use Rattle.buffers.specs.Ranges.{Within}
 use Rattle.buffers.proofs.Tests.{either, or-none}
-use Rattle.buffers.proofs.Parts.{part-cut}
+use Rattle.buffers.proofs.Parts.{part-cut, part-element}
 use Rattle.text.specs.Fields.{onFirst}
+use Rattle.text.specs.Bits.{bitsOf}
 use Rattle.text.specs.Keys.{contains}
-use Rattle.text.specs.Lines.{linesOf, feedAt}
+use Rattle.text.specs.Lines.{linesOf, feedAt, Clear}
 use Rattle.text.proofs.Scans.{next}
+use Rattle.text.proofs.Bits.{First, lowest, none-left, block-long, absent, zeros-fit}
 
--- ## Blocks without a line feed
-
-module _ (s : List ℕ) (f : Bool) (i : ℕ) (l : length s ≡ 16) (q : contains s 10 ≡ f || contains (drop i s) 10) where
-  pub found-step : i < 16 → contains s 10 ≡ (f || eqb (getD s i 0) 10) || contains (drop (i + 1) s) 10
-  found-step h = q ∙ rw (next s i (omega arith)) (sym (or-assoc f (eqb (getD s i 0) 10) (contains (drop (i + 1) s) 10)))
-
-  pub found-end : 16 ≤ i → f ≡ contains s 10
-  found-end h = sym (q ∙ rw (drop-of-length-le s {i = i} (omega arith)) (or-false f))
-
-pub found-start : (s : List ℕ) → contains s 10 ≡ false || contains (drop 0 s) 10
-found-start s = refl
-
-pub ruleset found-cases = (found-start, found-step, found-end)
+-- ## Bytes without a line feed
 
 pub feed-clear : (s u : List ℕ) → contains s 10 ≡ false → feedAt (s ++ u) ≡ length s + feedAt u
 feed-clear [] u e = omega arith
@@ -38,36 +32,61 @@ feed-clear (b ∷ s) u e =
     let x = feed-clear s u (p .1) in
     rw (p .0) (omega arith)
 
-module _ (s : List ℕ) (i : ℕ) (h : 16 ≤ length s - i) where
-  pub block-long : length (take (i + 16 - i) (drop i s)) ≡ 16
-  block-long =
-      let d = length-drop i s in
-      rw (part-cut s i 16) (length-take-le 16 (drop i s) (omega arith))
-
-  pub skip-step : (r : Bool) → r ≡ contains (take (i + 16 - i) (drop i s)) 10 → r ≡ false → feedAt s ≡ i + feedAt (drop i s) → feedAt s ≡ i + 16 + feedAt (drop (i + 16) s)
-  skip-step r e t q =
-      let z : i + 16 - i ≡ 16 = omega arith in
-      let d = length-drop i s in
-      let c : contains (take 16 (drop i s)) 10 ≡ false = rw z at (sym e ∙ t) in
-      let l = length-take-le 16 (drop i s) (omega arith) in
-      let x = rw (take-append-drop 16 (drop i s)) at (feed-clear (take 16 (drop i s)) (drop 16 (drop i s)) c) in
-      rw (← drop-drop 16 i s) (omega arith)
-
-pub ruleset skip-cases = (block-long, skip-step)
-
 -- ## The first line's length
 
-module _ (s : List ℕ) (i : ℕ) where
-  pub feed-stop : i < length s → getD s i 0 ≡ 10 → feedAt s ≡ i + feedAt (drop i s) → Within i (feedAt s) (length s)
-  feed-stop h t q = record { is = sym (q ∙ rw (next s i h, eq-eqb _ _ t) (omega arith)); most = omega arith }
+pub clear-start : (s : List ℕ) → Clear s 0
+clear-start s = record { within = omega arith; feed = omega arith }
 
-  pub feed-step : i < length s → (getD s i 0 ≡ 10 → ⊥) → feedAt s ≡ i + feedAt (drop i s) → feedAt s ≡ i + 1 + feedAt (drop (i + 1) s)
-  feed-step h t q = q ∙ rw (next s i h, ne-eqb _ _ t) (omega arith)
+module _ (s : List ℕ) (i : ℕ) (q : Clear s i) where
+  pub feed-stop : i < length s → getD s i 0 ≡ 10 → Within i (feedAt s) (length s)
+  feed-stop h t = record { is = sym (q .feed ∙ rw (next s i h, eq-eqb _ _ t) (omega arith)); most = omega arith }
 
-  pub feed-end : length s ≤ i → i ≤ length s → feedAt s ≡ i + feedAt (drop i s) → Within i (feedAt s) (length s)
-  feed-end h k q = record { is = sym (q ∙ rw (drop-of-length-le s h) (omega arith)); most = k }
+  pub feed-step : i < length s → (getD s i 0 ≡ 10 → ⊥) → Clear s (i + 1)
+  feed-step h t = record { within = omega arith; feed = q .feed ∙ rw (next s i h, ne-eqb _ _ t) (omega arith) }
+
+  pub feed-end : length s ≤ i → Within i (feedAt s) (length s)
+  feed-end h = record { is = sym (q .feed ∙ rw (drop-of-length-le s h) (omega arith)); most = q .within }
 
 pub ruleset feed-cases = (feed-stop, feed-step, feed-end)
+
+clear-pass : (s : List ℕ) (i : ℕ) → Clear s i → (d : ℕ) → i + d ≤ length s → ((x : ℕ) → i ≤ x → x < i + d → getD s x 0 ≡ 10 → ⊥) → Clear s (i + d)
+clear-pass s i q zero h f = rw (add-zero i) q
+clear-pass s i q (suc d) h f =
+    let e : i + suc d ≡ i + d + 1 = omega arith in
+    rw e (feed-step s (i + d) (clear-pass s i q d (omega arith) (λ x a b. f x a (omega arith))) (omega arith) (f (i + d) (omega arith) (omega arith)))
+
+module _ (s : List ℕ) (i r : ℕ) (h : 16 ≤ length s - i) (q : Clear s i) (e : r ≡ bitsOf 10 (take (i + 16 - i) (drop i s))) where
+  long : length (take 16 (drop i s)) ≡ 16
+  long = rw (part-cut s i 16) at (block-long s i h)
+
+  is : r ≡ bitsOf 10 (take 16 (drop i s))
+  is = rw (part-cut s i 16) at e
+
+  pub block-clear : r ≡ 0 → Clear s (i + 16)
+  block-clear z =
+      let l = long in
+      let f = absent 10 s i 16 0 16 (omega arith) (λ x a b. none-left 10 0 (take 16 (drop i s)) (sym is ∙ z) x a (rw l b)) in
+      clear-pass s i q 16 (omega arith) (λ x a b. f x (omega arith) b)
+
+  module _ (n : r ≡ 0 → ⊥) where
+    found : First 10 0 (take 16 (drop i s)) (trailingZeros 32 r)
+    found = rw is (lowest 10 32 0 (take 16 (drop i s)) (rw long (omega arith)) (λ z. n (is ∙ z)))
+
+    pub block-feed : Within (i + trailingZeros 32 r) (feedAt s) (length s)
+    block-feed =
+        let l = long in
+        let w = found .within in
+        let f = absent 10 s i 16 0 (trailingZeros 32 r) (omega arith) (found .none) in
+        let c = clear-pass s i q (trailingZeros 32 r) (omega arith) (λ x a b. f x (omega arith) b) in
+        feed-stop s (i + trailingZeros 32 r) c (omega arith) (part-element s i (trailingZeros 32 r) 16 (omega arith) ∙ found .hit)
+
+    pub block-fits : Fits w64 (length s) → Fits w64 (i + trailingZeros 32 r)
+    block-fits f =
+        let b = block-feed .most in
+        let c = f .fits in
+        record { fits = omega arith }
+
+pub ruleset block-cases = (clear-start, zeros-fit, block-long, block-clear, block-feed, block-fits)
 
 -- ## The first line and the lines behind it
 

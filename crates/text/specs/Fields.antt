@@ -1,5 +1,5 @@
 -- The fields of a line, parted by tabs (0x09), and where they stand in it.
-use Prim.Native.Nat.{ℕ, zero, suc, _+_, _-_}
+use Prim.Native.Nat.{ℕ, zero, suc, _+_, _-_, _≤_, _<_}
 use mathlib.Core.Path.{_≡_}
 use mathlib.Core.List.{List, [], _∷_, _++_}
 use lib.Dec.{eqb}
@@ -63,3 +63,19 @@ partOf s p = take (p .len) (drop (p .start) s)
 pub record Split (s : List ℕ) (marks : List ℕ) : Type 0 where
   pub is : marks ≡ marksOf s
   pub long : length marks ≡ 10
+
+-- i bytes of the line are passed, with n tabs among them: the fields that have ended are marked, the others are left at the line's end
+pub record Marking (s : List ℕ) (i n : ℕ) (m : List ℕ) : Type 0 where
+  pub within : i ≤ length s
+  pub few : n ≤ i
+  pub long : length m ≡ 10
+  pub count : tabsIn s ≡ n + tabsIn (drop i s)
+  pub ended : (j : ℕ) → j < 9 → j < n → getD m j 0 ≡ endOf s j
+  pub left : (j : ℕ) → j < 9 → n ≤ j → getD m j 0 ≡ length s
+  pub rest : (j : ℕ) → n ≤ j → endOf s j ≡ i + endOf (drop i s) (j - n)
+
+-- a part of the line that has at most k bytes
+pub record Piece (s : List ℕ) (start end k : ℕ) : Type 0 where
+  pub from : start ≤ end
+  pub to : end ≤ length s
+  pub most : end ≤ start + k

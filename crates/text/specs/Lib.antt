@@ -1,4 +1,5 @@
 pub mod Numbers
+pub mod Bits
 pub mod Fields
 pub mod Lines
 pub mod Keys

@@ -1,13 +1,16 @@
 // Parts of a text: lines, fields between tabs, whole numbers, words, keys and prefixes, and printed numbers. The definitions are in specs/.
 ghost use mathlib.Core.Path.{_≡_};
-ghost use Prim.Native.Nat.{_+_, _≤_, _<_};
-ghost use lib.ListN.{length, drop};
+ghost use Prim.Native.Nat.{_+_, _-_, _≤_, _<_};
+ghost use lib.Dec.{eqb};
+ghost use lib.ListN.{length, take, drop};
+ghost use Rattle.buffers.specs.Choices.{pick};
 ghost use Rattle.buffers.specs.Lists.{same, begins};
 ghost use Rattle.buffers.specs.Ranges.{Within};
 ghost use Rattle.buffers.specs.Writes.{Wrote};
 ghost use Rattle.text.specs.Numbers.{valueOf, isDigit, leadingZero, digitMore, digitsOf, numberOf, positiveOf};
-ghost use Rattle.text.specs.Fields.{tabsIn, startOf, fieldOf, placeOf, partOf, Split};
-ghost use Rattle.text.specs.Lines.{feedAt};
+ghost use Rattle.text.specs.Fields.{tabsIn, startOf, fieldOf, placeOf, partOf, Split, Marking, Piece};
+ghost use Rattle.text.specs.Bits.{bitsOf};
+ghost use Rattle.text.specs.Lines.{feedAt, Clear};
 ghost use Rattle.text.specs.Keys.{isKeyByte, keyBytes, isPrefix, isKey, contains};
 ghost use Rattle.text.specs.Printing.{pairOf, fourOf, eightOf, digits};
 
@@ -23,12 +26,77 @@ pub struct Place {
     pub len: usize,
 }
 
-// A line's marks: where its first nine fields end, and behind them the count of its tabs. The line is passed through once.
-pub fn split(line: &[u8]) -> [usize; 10]
-    ensures { λ r. ⌜ Split (now (line .entry)) r ⌝ }
+// A bit where the byte is b, no bit where it is another.
+fn byte_bit(a: u8, b: u8, bit: u32) -> u32
+    ensures { λ r. ⌜ Within r (pick (eqb a b) bit 0) bit ⌝ }
 {
-    let len = line.len();
-    let mut marks = [len; 10];
+    if a == b {
+        return bit;
+    }
+    0
+}
+
+// The first eight bits of `byte_bits`.
+fn low_bits(block: &[u8], b: u8) -> u32
+    requires { ⌜ length (now block) ≡ 16 ⌝ }
+    ensures { λ r. ⌜ Within r (bitsOf b (take 8 (now (block .entry)))) 255 ⌝ }
+{
+    let mut m = 0;
+    let mut i = 0;
+    while i < 8 {
+        m = m / 2 + byte_bit(block[i], b, 128);
+        i += 1;
+    }
+    m
+}
+
+// A bit for each of 16 bytes, the first one's lowest, set where the byte is b. In two loops it is compiled to one comparison of vectors and one mask.
+fn byte_bits(block: &[u8], b: u8) -> u32
+    requires { ⌜ length (now block) ≡ 16 ⌝ }
+    ensures { λ r. ⌜ r ≡ bitsOf b (now (block .entry)) ⌝ }
+{
+    let mut m = low_bits(block, b) * 256;
+    let mut i = 8;
+    while i < 16 {
+        m = m / 2 + byte_bit(block[i], b, 32768);
+        i += 1;
+    }
+    m
+}
+
+// Marks the tabs between two places, given as bits; returns how many there are up to there.
+fn mark_bits(
+    line: &[u8],
+    marks: &mut [usize],
+    start: usize,
+    end: usize,
+    tabs: usize,
+    bits: u32,
+) -> usize
+    requires { ⌜ Marking (now line) start tabs (now marks) ⌝ }
+    requires { ⌜ Piece (now line) start end 16 ⌝ }
+    requires { ⌜ bits ≡ bitsOf 9 (take (end - start) (drop start (now line))) ⌝ }
+    ensures { λ r. ⌜ Marking (now (line .entry)) end r (now (marks .exit)) ⌝ }
+{
+    let mut n = tabs;
+    let mut m = bits;
+    while m != 0 {
+        let at = start + u32::trailing_zeros(m) as usize;
+        m = m & (m - 1);
+        let k = n;
+        n += 1;
+        if k < 9 {
+            marks[k] = at;
+        }
+    }
+    n
+}
+
+// Marks the tabs of a line, byte by byte.
+fn mark_bytes(line: &[u8], marks: &mut [usize]) -> usize
+    requires { ⌜ Marking (now line) 0 0 (now marks) ⌝ }
+    ensures { λ r. ⌜ Marking (now (line .entry)) (length (now (line .entry))) r (now (marks .exit)) ⌝ }
+{
     let mut tabs = 0;
     let mut i = 0;
     while i < line.len() {
@@ -42,6 +110,47 @@ pub fn split(line: &[u8]) -> [usize; 10]
             }
         }
     }
+    tabs
+}
+
+// The bits of a line's last bytes, fewer than 16: those of the 16 bytes that end with the line, without the first.
+fn last_bits(line: &[u8], start: usize) -> u32
+    requires { ⌜ (16 ≤ length (now line)) × (start ≤ length (now line)) × (length (now line) ≤ start + 16) ⌝ }
+    ensures { λ r. ⌜ r ≡ bitsOf 9 (take (length (now (line .entry)) - start) (drop start (now (line .entry)))) ⌝ }
+{
+    let len = line.len();
+    let first = len - 16;
+    byte_bits(&line[first..len], b'\t') >> (start - first)
+}
+
+// Marks the tabs of a line, 16 bytes at a time.
+fn mark_tabs(line: &[u8], marks: &mut [usize]) -> usize
+    requires { ⌜ Marking (now line) 0 0 (now marks) ⌝ }
+    ensures { λ r. ⌜ Marking (now (line .entry)) (length (now (line .entry))) r (now (marks .exit)) ⌝ }
+{
+    let len = line.len();
+    if len < 16 {
+        return mark_bytes(line, marks);
+    }
+    let mut tabs = 0;
+    let mut i = 0;
+    while 16 <= len - i {
+        let end = i + 16;
+        let bits = byte_bits(&line[i..end], b'\t');
+        tabs = mark_bits(line, marks, i, end, tabs, bits);
+        i = end;
+    }
+    let bits = last_bits(line, i);
+    mark_bits(line, marks, i, len, tabs, bits)
+}
+
+// A line's marks: where its first nine fields end, and behind them the count of its tabs. The line is passed through once.
+pub fn split(line: &[u8]) -> [usize; 10]
+    ensures { λ r. ⌜ Split (now (line .entry)) r ⌝ }
+{
+    let len = line.len();
+    let mut marks = [len; 10];
+    let tabs = mark_tabs(line, &mut marks);
     marks[9] = tabs;
     marks
 }
@@ -70,31 +179,17 @@ fn find_start(line: &[u8], marks: &[usize], i: usize) -> usize
     end
 }
 
-// A line feed stands among the 16 bytes. With no way out of it the loop is compiled to vector code.
-fn has_feed(block: &[u8]) -> bool
-    requires { ⌜ length (now block) ≡ 16 ⌝ }
-    ensures { λ r. ⌜ r ≡ contains (now (block .entry)) 10 ⌝ }
+// The bytes before the first line feed, byte by byte: none stands before `start`.
+fn feed_from(rest: &[u8], start: usize) -> usize
+    requires { ⌜ Clear (now rest) start ⌝ }
+    ensures { λ r. ⌜ Within r (feedAt (now (rest .entry))) (length (now (rest .entry))) ⌝ }
 {
-    let mut found = false;
-    let mut i = 0;
-    while i < 16 {
-        found = found | (block[i] == b'\n');
-        i += 1;
-    }
-    found
-}
-
-// Passes blocks of 16 bytes that have no line feed, and returns where they end.
-fn skip_blocks(rest: &[u8]) -> usize
-    ensures { λ r. ⌜ (r ≤ length (now (rest .entry))) × (feedAt (now (rest .entry)) ≡ r + feedAt (drop r (now (rest .entry)))) ⌝ }
-{
-    let mut i = 0;
-    while 16 <= rest.len() - i {
-        let end = i + 16;
-        if has_feed(&rest[i..end]) {
+    let mut i = start;
+    while i < rest.len() {
+        if rest[i] == b'\n' {
             return i;
         }
-        i = end;
+        i += 1;
     }
     i
 }
@@ -103,14 +198,16 @@ fn skip_blocks(rest: &[u8]) -> usize
 pub fn line_length(rest: &[u8]) -> usize
     ensures { λ r. ⌜ Within r (feedAt (now (rest .entry))) (length (now (rest .entry))) ⌝ }
 {
-    let mut i = skip_blocks(rest);
-    while i < rest.len() {
-        if rest[i] == b'\n' {
-            return i;
+    let mut i = 0;
+    while 16 <= rest.len() - i {
+        let end = i + 16;
+        let bits = byte_bits(&rest[i..end], b'\n');
+        if bits != 0 {
+            return i + u32::trailing_zeros(bits) as usize;
         }
-        i += 1;
+        i = end;
     }
-    i
+    feed_from(rest, i)
 }
 
 // The place of field i, counted from 0.

@@ -1,15 +1,14 @@
 -- `line_length` meets its contract.
-use Prim.Native.Nat.{_+_, _-_, _≤_}
-use mathlib.Core.Path.{_≡_}
-use lib.ListN.{length, drop}
-use Rattle.text.specs.Lines.{feedAt}
-use Rattle.text.proofs.Lines.{feed-cases}
+use Prim.Native.Nat.{_-_}
+use lib.ListN.{length}
+use Rattle.text.specs.Lines.{Clear}
+use Rattle.text.proofs.Lines.{block-cases}
 use borrow.Author.Needs.{needs}
 use Rattle.text.proofs.line_length.Statement.{statement}
 use Rattle.text.proofs.line_length.Tie as tie
 
 abbrev Inv-loop : tie.InvT-loop
-Inv-loop rest i₀ i = (i ≤ length rest) × (feedAt rest ≡ i + feedAt (drop i rest))
+Inv-loop rest i₀ i = Clear rest i
 
 abbrev μ-loop : tie.MeasureT-loop
 μ-loop rest i₀ i = length rest - i
@@ -20,11 +19,17 @@ line-length-spec =
     (tie.spec
     Inv-loop
     μ-loop
-    (λ c κs. search needs)
-    (λ c. search (needs, feed-cases))
-    (λ c. search (needs, feed-cases))
-    (λ c. search (needs, feed-cases))
-    (λ c. search (needs, feed-cases))
-    (λ c. search (needs, feed-cases))
-    (λ c. search (needs, feed-cases))
-    (λ c. search (needs, feed-cases)))
+    (λ c. search (needs, block-cases))
+    (λ c. search (needs, block-cases))
+    (λ c. search (needs, block-cases))
+    (λ c. search (needs, block-cases))
+    (λ c. search (needs, block-cases))
+    (λ c. search (needs, block-cases))
+    (λ c κs. search (needs, block-cases))
+    (λ c. search (needs, block-cases))
+    (λ c. search (needs, block-cases))
+    (λ c. search (needs, block-cases))
+    (λ c. search (needs, block-cases))
+    (λ c. search (needs, block-cases))
+    (λ c κs. search (needs, block-cases))
+    (λ c. search (needs, block-cases)))
