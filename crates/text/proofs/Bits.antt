@@ -17,7 +17,7 @@ use borrow.Author.Tests.{eq-eqb, ne-eqb, eqb-true, eqb-false}
 use Rattle.buffers.specs.Choices.{pick}
 use Rattle.buffers.specs.Ranges.{Within}
 use Rattle.buffers.proofs.Tests.{either}
-use Rattle.buffers.proofs.Parts.{part-cut, part-element}
+use Rattle.buffers.proofs.Parts.{part-element}
 use Rattle.text.specs.Bits.{bitsOf}
 use Rattle.text.proofs.Scans.{next}
 
@@ -245,11 +245,6 @@ none-left b zero (a ∷ s) e zero g h =
 none-left b zero (a ∷ s) e (suc i) g h = none-left b 0 s (omega arith) i (omega arith) (omega arith)
 
 -- ## A part of a text
-
-pub block-long : (s : List ℕ) (i : ℕ) → 16 ≤ length s - i → length (take (i + 16 - i) (drop i s)) ≡ 16
-block-long s i h =
-    let d = length-drop i s in
-    rw (part-cut s i 16) (length-take-le 16 (drop i s) (omega arith))
 
 -- What doesn't stand in a part doesn't stand there in the text.
 pub absent : (b : ℕ) (s : List ℕ) (start n lo hi : ℕ) → hi ≤ n → ((i : ℕ) → lo ≤ i → i < hi → getD (take n (drop start s)) i 0 ≡ b → ⊥)

@@ -1,6 +1,7 @@
 pub mod Keys
 pub mod Values
 pub mod Scans
+pub mod Sixteens
 pub mod Bits
 pub mod Fields
 pub mod Marks

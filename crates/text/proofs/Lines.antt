@@ -21,7 +21,8 @@ use Rattle.text.specs.Bits.{bitsOf}
 use Rattle.text.specs.Keys.{contains}
 use Rattle.text.specs.Lines.{linesOf, feedAt, Clear}
 use Rattle.text.proofs.Scans.{next}
-use Rattle.text.proofs.Bits.{First, lowest, none-left, block-long, absent, zeros-fit}
+use Rattle.text.proofs.Sixteens.{block-long}
+use Rattle.text.proofs.Bits.{First, lowest, none-left, absent, zeros-fit}
 
 -- ## Bytes without a line feed
 

@@ -19,7 +19,8 @@ use Rattle.text.specs.declared.Place.{Place}
 use Rattle.text.specs.Fields.{fieldOf, tabsIn, startOf, endOf, marksOf, placeOf, Split, Marking, Piece}
 use Rattle.text.specs.Bits.{bitsOf}
 use Rattle.text.proofs.Scans.{next}
-use Rattle.text.proofs.Bits.{bitsFrom, First, lowest, cleared, none-left, absent, zeros-fit, bits-drop, block-long}
+use Rattle.text.proofs.Sixteens.{block-long, last-long}
+use Rattle.text.proofs.Bits.{bitsFrom, First, lowest, cleared, none-left, absent, zeros-fit, bits-drop}
 use Rattle.text.proofs.Fields.{start-zero, end-tab, end-other, next-start, last-start, end-is}
 
 -- ## The loop
@@ -220,9 +221,6 @@ module _ (s : List ℕ) (i : ℕ) where
   last-is r h k e =
       let z : length s - 16 + (i - (length s - 16)) ≡ i = omega arith in
       rw (e, rest-all (length s - 16) s, rest-all i s, bits-drop 9 (i - (length s - 16)) (drop (length s - 16) s), drop-drop (i - (length s - 16)) (length s - 16) s, z)
-
-pub last-long : (s : List ℕ) → 16 ≤ length s → length (take (length s - (length s - 16)) (drop (length s - 16) s)) ≡ 16
-last-long s h = rw (rest-all (length s - 16) s, length-drop (length s - 16) s) (omega arith)
 
 pub ruleset last-cases = (last-long, last-is)
 

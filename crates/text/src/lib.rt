@@ -373,7 +373,22 @@ fn is_key_byte(b: u8) -> bool
     b <= 0x7E
 }
 
-fn key_bytes(text: &[u8]) -> bool
+// Every one of 16 bytes may stand in a key. With no way out of it the loop is compiled to vector code.
+fn key_block(block: &[u8]) -> bool
+    requires { ⌜ length (now block) ≡ 16 ⌝ }
+    ensures { λ r. ⌜ r ≡ keyBytes (now (block .entry)) ⌝ }
+{
+    let mut ok = true;
+    let mut i = 0;
+    while i < 16 {
+        ok = ok & is_key_byte(block[i]);
+        i += 1;
+    }
+    ok
+}
+
+// Every byte may stand in a key, one after the other.
+fn few_key_bytes(text: &[u8]) -> bool
     ensures { λ r. ⌜ r ≡ keyBytes (now (text .entry)) ⌝ }
 {
     let mut i = 0;
@@ -385,6 +400,27 @@ fn key_bytes(text: &[u8]) -> bool
         }
     }
     true
+}
+
+// Every byte may stand in a key, 16 at a time: the last 16 end with the text, and some of them may be tested twice.
+fn key_bytes(text: &[u8]) -> bool
+    ensures { λ r. ⌜ r ≡ keyBytes (now (text .entry)) ⌝ }
+{
+    let n = text.len();
+    if n < 16 {
+        return few_key_bytes(text);
+    }
+    let last = n - 16;
+    let mut i = 0;
+    while i < last {
+        let end = i + 16;
+        if key_block(&text[i..end]) {
+            i = end;
+        } else {
+            return false;
+        }
+    }
+    key_block(&text[last..n])
 }
 
 // A prefix has 0 to 63 such bytes.

@@ -1,0 +1,30 @@
+-- `few_key_bytes` meets its contract.
+use Prim.Native.Nat.{_-_, _≤_}
+use mathlib.Core.Path.{_≡_}
+use lib.ListN.{length, drop}
+use Rattle.text.specs.Keys.{keyBytes}
+use Rattle.text.proofs.Scans.{all-cases}
+use borrow.Author.Needs.{needs}
+use Rattle.text.proofs.few_key_bytes.Statement.{statement}
+use Rattle.text.proofs.few_key_bytes.Tie as tie
+
+abbrev Inv-loop : tie.InvT-loop
+Inv-loop text i₀ i = (i ≤ length text) × (keyBytes text ≡ keyBytes (drop i text))
+
+abbrev μ-loop : tie.MeasureT-loop
+μ-loop text i₀ i = length text - i
+
+pub few-key-bytes-spec : {M : Type 1} → statement M
+few-key-bytes-spec =
+    tie.close
+    (tie.spec
+    Inv-loop
+    μ-loop
+    (λ c. search (needs, all-cases))
+    (λ c. search (needs, all-cases))
+    (λ c κs. search (needs, all-cases))
+    (λ c. search (needs, all-cases))
+    (λ c. search (needs, all-cases))
+    (λ c. search (needs, all-cases))
+    (λ c. search (needs, all-cases))
+    (λ c. search (needs, all-cases)))
