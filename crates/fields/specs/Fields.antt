@@ -1,5 +1,5 @@
 -- 01, "Request lines": the values of fields, as the code holds them; Meaning says what they stand for. A field that can't be read is `none`.
-use Prim.Native.Nat.{ℕ, _-_}
+use Prim.Native.Nat.{ℕ, _+_, _-_, _*_}
 use mathlib.Core.Bool.{Bool, true, false}
 use mathlib.Core.List.{List, [], _∷_}
 use mathlib.Core.Option.{Option, some, none}
@@ -35,6 +35,18 @@ dash = bytes "-"
 abbrev pub lettersOnce : List ℕ → Bool
 lettersOnce [] = true
 lettersOnce (b ∷ s) = pick (contains (bytes "rwdthbc") b) (pick (contains s b) false (lettersOnce s)) false
+
+-- 1 where the byte stands in the text
+abbrev pub bitIn : List ℕ → ℕ → ℕ
+bitIn s b = pick (contains s b) 1 0
+
+-- the letters that stand in a text as bits, each at its place in the alphabet from b on: b, c, d, h, r, t, w
+unfoldable pub letterBits : List ℕ → ℕ
+letterBits s = bitIn s 98 + 2 * bitIn s 99 + 4 * bitIn s 100 + 64 * bitIn s 104 + 65536 * bitIn s 114 + 262144 * bitIn s 116 + 2097152 * bitIn s 119
+
+-- the bits of letters of rights, each at most once
+abbrev pub lettersIn : List ℕ → Option ℕ
+lettersIn s = pick (lettersOnce s) (some (letterBits s)) none
 
 -- the letters that stand in a text
 unfoldable pub rightsIn : List ℕ → Rights

@@ -3,10 +3,15 @@ use dates::DateRead;
 use text::Place;
 use text::Value;
 ghost use mathlib.Core.Path.{_≡_};
-ghost use Prim.Native.Nat.{_<_};
+ghost use mathlib.Core.Bool.{true};
+ghost use Prim.Native.Nat.{_-_, _^_, _<_};
 ghost use Rattle.buffers.specs.Choices.{isSome, orZero, thenSome};
+ghost use Rattle.buffers.specs.Ranges.{Within};
+ghost use Rattle.buffers.specs.Texts.{bytes};
 ghost use Rattle.text.specs.Fields.{Split};
-ghost use Rattle.fields.specs.Fields.{lettersOnce, rightsIn, readRights, readKey, readPrefix, readVersion, readMode, readUntil, readSwitch, readHold, readBypass, readPeriod};
+ghost use Rattle.text.specs.Keys.{contains};
+ghost use Rattle.text.specs.Numbers.{valueOf};
+ghost use Rattle.fields.specs.Fields.{letterBits, lettersIn, rightsIn, readRights, readKey, readPrefix, readVersion, readMode, readUntil, readSwitch, readHold, readBypass, readPeriod};
 ghost use Rattle.fields.specs.Meaning.{modeMeans, untilMeans, holdMeans, periodMeans, keyFrom, rightsFrom, versionFrom, modeFrom, untilFrom, flagFrom, holdFrom, periodFrom};
 
 // A mode, `-` for missing.
@@ -106,37 +111,49 @@ pub enum RightsRead {
     Bad,
 }
 
-// Letters of rights, each at most once.
-fn letters_once(text: &[u8]) -> bool
-    ensures { λ r. ⌜ r ≡ lettersOnce (now (text .entry)) ⌝ }
+// The bit of a letter of rights: its place in the alphabet from b on.
+fn letter_bit(b: u8) -> u64
+    requires { ⌜ contains (bytes "rwdthbc") b ≡ true ⌝ }
+    ensures { λ r. ⌜ Within r (2 ^ (b - 98)) 2097152 ⌝ }
 {
-    let mut i = 0;
-    while i < text.len() {
-        let b = text[i];
-        i += 1;
-        if text::contains(b"rwdthbc", b) {
-            if text::contains(&text[i..], b) {
-                return false;
-            }
-        } else {
-            return false;
-        }
-    }
-    true
+    1 << (b - b'b')
 }
 
-// The letters that stand in a text.
-fn rights_in(text: &[u8]) -> Rights
+// Letters of rights, each at most once, as bits. From the last one on, since a letter may not stand behind itself.
+fn read_letters(text: &[u8]) -> Value
+    ensures { λ r. ⌜ valueOf r ≡ lettersIn (now (text .entry)) ⌝ }
+{
+    let mut seen = 0;
+    let mut i = text.len();
+    while 0 < i {
+        i -= 1;
+        let b = text[i];
+        if text::contains(b"rwdthbc", b) {
+            let bit = letter_bit(b);
+            if seen & bit != 0 {
+                return Value::Bad;
+            }
+            seen += bit;
+        } else {
+            return Value::Bad;
+        }
+    }
+    Value::Is(seen)
+}
+
+// The letters that stand in a text, from their bits.
+fn rights_in(text: &[u8], bits: u64) -> Rights
+    requires { ⌜ bits ≡ letterBits (now text) ⌝ }
     ensures { λ r. ⌜ r ≡ rightsIn (now (text .entry)) ⌝ }
 {
     Rights {
-        r: text::contains(text, b'r'),
-        w: text::contains(text, b'w'),
-        d: text::contains(text, b'd'),
-        t: text::contains(text, b't'),
-        h: text::contains(text, b'h'),
-        b: text::contains(text, b'b'),
-        c: text::contains(text, b'c'),
+        r: bits / 65536 % 2 == 1,
+        w: bits / 2097152 % 2 == 1,
+        d: bits / 4 % 2 == 1,
+        t: bits / 262144 % 2 == 1,
+        h: bits / 64 % 2 == 1,
+        b: bits % 2 == 1,
+        c: bits / 2 % 2 == 1,
     }
 }
 
@@ -145,15 +162,15 @@ pub fn read_rights(text: &[u8]) -> RightsRead
     ensures { λ r. ⌜ rightsFrom r ≡ readRights (now (text .entry)) ⌝ }
 {
     if text::is_word(text, b"-") {
-        return RightsRead::Is(rights_in(text));
+        return RightsRead::Is(rights_in(text, 0));
     }
     if text.len() == 0 {
         return RightsRead::Bad;
     }
-    if letters_once(text) {
-        return RightsRead::Is(rights_in(text));
-    }
-    RightsRead::Bad
+    let Value::Is(bits) = read_letters(text) else {
+        return RightsRead::Bad;
+    };
+    RightsRead::Is(rights_in(text, bits))
 }
 
 // Field i as a key.
