@@ -15,7 +15,7 @@ use Rattle.buffers.specs.Ranges.{Span}
 use Rattle.buffers.proofs.Tests.{either, clash}
 use Rattle.text.specs.declared.Value.{Value}
 use Rattle.text.specs.declared.Value.the-variants.{Is, Bad}
-use Rattle.text.specs.Numbers.{valueOf, isDigit, spelt, atMost, digitMore, digitsOf, leadingZero, numberOf, positiveOf}
+use Rattle.text.specs.Numbers.{valueOf, isDigit, spelt, atMost, digitMore, nextDigit, digitsOf, leadingZero, numberOf, positiveOf}
 use Rattle.text.proofs.Scans.{next}
 
 -- ## One digit more
@@ -80,29 +80,50 @@ more-none k n b s e =
       | inr t ↦ simp t
     ]
 
-more-some : (k n b m : ℕ) (s : List ℕ) → digitMore k n b ≡ some m → (restOf k n (b ∷ s) ≡ restOf k m s) × (m ≤ k)
+more-some : (k n b m : ℕ) (s : List ℕ) → digitMore k n b ≡ some m → restOf k n (b ∷ s) ≡ restOf k m s
 unfolding digitMore
 more-some k n b m s e =
     elim (either (isDigit b)) [
-      | inl t ↦ let h = at-most-some k (n * 10 + (b - 48)) m (rw t at e) in (simp (t, h .0), h .1)
+      | inl t ↦ let h = at-most-some k (n * 10 + (b - 48)) m (rw t at e) in simp (t, h .0)
       | inr t ↦ let z : none ≡ some m = rw t at e in let q : _≡_ {A = ℕ} 0 1 = cc in absurd (omega arith)
     ]
 
-pub digits-most : (k n b m : ℕ) (v : Value) → valueOf v ≡ digitMore k n b → v ≡ Is m → m ≤ k
-digits-most k n b m v e t = (more-some k n b m [] (sym e ∙ ap valueOf t)) .1
+next-none : (k n b : ℕ) (s : List ℕ) → nextDigit k n b ≡ none → restOf k n (b ∷ s) ≡ none
+unfolding nextDigit
+next-none k n b s e =
+    elim (either (isDigit b)) [
+      | inl t ↦ elim (either (ltb 1000000000000000000 n)) [
+        | inl u ↦ more-none k n b s (simp (t, u) at e)
+        | inr u ↦ let z : some (n * 10 + (b - 48)) ≡ none = simp (t, u) at e in let q : _≡_ {A = ℕ} 0 1 = cc in absurd (omega arith)
+      ]
+      | inr t ↦ simp t
+    ]
 
-module _ (k : ℕ) (s : List ℕ) (i n : ℕ) where
-  pub digits-stop : (v : Value) → i < length s → valueOf v ≡ digitMore k n (getD s i 0) → v ≡ Bad → digitsOf k s ≡ restOf k n (drop i s) → none ≡ digitsOf k s
-  digits-stop v h e t q = sym (q ∙ rw (next s i h) (more-none k n (getD s i 0) (drop (i + 1) s) (sym e ∙ ap valueOf t)))
+next-some : (k n b m : ℕ) (s : List ℕ) → nextDigit k n b ≡ some m → restOf k n (b ∷ s) ≡ restOf k m s
+unfolding nextDigit
+next-some k n b m s e =
+    elim (either (isDigit b)) [
+      | inl t ↦ elim (either (ltb 1000000000000000000 n)) [
+        | inl u ↦ more-some k n b m s (simp (t, u) at e)
+        | inr u ↦ let z : some (n * 10 + (b - 48)) ≡ some m = simp (t, u) at e in let q : n * 10 + (b - 48) ≡ m = cc in simp (t, q)
+      ]
+      | inr t ↦ let z : none ≡ some m = rw t at e in let q : _≡_ {A = ℕ} 0 1 = cc in absurd (omega arith)
+    ]
 
-  pub digits-step : (v : Value) (m : ℕ) → i < length s → valueOf v ≡ digitMore k n (getD s i 0) → v ≡ Is m → digitsOf k s ≡ restOf k n (drop i s)
-      → digitsOf k s ≡ restOf k m (drop (i + 1) s)
-  digits-step v m h e t q = q ∙ rw (next s i h) ((more-some k n (getD s i 0) m (drop (i + 1) s) (sym e ∙ ap valueOf t)) .0)
+module _ (k : ℕ) (s : List ℕ) (i n : ℕ) (q : digitsOf k s ≡ restOf k n (drop i s)) where
+  pub digits-stop : (v : Value) → i < length s → valueOf v ≡ nextDigit k n (getD s i 0) → v ≡ Bad → none ≡ digitsOf k s
+  digits-stop v h e t = sym (q ∙ rw (next s i h) (next-none k n (getD s i 0) (drop (i + 1) s) (sym e ∙ ap valueOf t)))
 
-  pub digits-end : length s ≤ i → n ≤ k → digitsOf k s ≡ restOf k n (drop i s) → some n ≡ digitsOf k s
-  digits-end h m q = sym (q ∙ rw (drop-of-length-le s h) (simp (le-ltb k n m)))
+  pub digits-step : (v : Value) (m : ℕ) → i < length s → valueOf v ≡ nextDigit k n (getD s i 0) → v ≡ Is m → digitsOf k s ≡ restOf k m (drop (i + 1) s)
+  digits-step v m h e t = q ∙ rw (next s i h) (next-some k n (getD s i 0) m (drop (i + 1) s) (sym e ∙ ap valueOf t))
 
-pub ruleset digits-cases = (digits-stop, digits-step, digits-most, digits-end)
+  pub digits-over : length s ≤ i → k < n → none ≡ digitsOf k s
+  digits-over h m = sym (q ∙ rw (drop-of-length-le s h) (simp (lt-ltb k n m)))
+
+  pub digits-end : length s ≤ i → n ≤ k → some n ≡ digitsOf k s
+  digits-end h m = sym (q ∙ rw (drop-of-length-le s h) (simp (le-ltb k n m)))
+
+pub ruleset digits-cases = (digits-stop, digits-step, digits-over, digits-end)
 
 -- ## The range
 

@@ -32,6 +32,10 @@ atMost k n = pick (ltb k n) none (some n)
 unfoldable pub digitMore : ℕ → ℕ → ℕ → Option ℕ
 digitMore k n b = pick (isDigit b) (atMost k (n * 10 + (b - 48))) none
 
+-- the same, where n is so small that any digit may stand behind it without the test
+unfoldable pub nextDigit : ℕ → ℕ → ℕ → Option ℕ
+nextDigit k n b = pick (isDigit b) (pick (ltb 1000000000000000000 n) (digitMore k n b) (some (n * 10 + (b - 48)))) none
+
 -- digits only, which spell a number at most k
 abbrev pub digitsOf : ℕ → List ℕ → Option ℕ
 digitsOf k s = pick (all isDigit s) (atMost k (spelt 0 s)) none

@@ -7,7 +7,7 @@ ghost use Rattle.buffers.specs.Choices.{pick};
 ghost use Rattle.buffers.specs.Lists.{same, begins};
 ghost use Rattle.buffers.specs.Ranges.{Within};
 ghost use Rattle.buffers.specs.Writes.{Wrote};
-ghost use Rattle.text.specs.Numbers.{valueOf, isDigit, leadingZero, digitMore, digitsOf, numberOf, positiveOf};
+ghost use Rattle.text.specs.Numbers.{valueOf, isDigit, leadingZero, digitMore, nextDigit, digitsOf, numberOf, positiveOf};
 ghost use Rattle.text.specs.Fields.{tabsIn, startOf, fieldOf, placeOf, partOf, Split, Marking, Piece};
 ghost use Rattle.text.specs.Bits.{bitsOf};
 ghost use Rattle.text.specs.Lines.{feedAt, Clear};
@@ -270,6 +270,19 @@ fn digit_more(most: u64, n: u64, b: u8) -> Value
     Value::Bad
 }
 
+// The number with one digit more behind it, whose bound is tested only where the number is large.
+fn next_digit(most: u64, n: u64, b: u8) -> Value
+    ensures { λ r. ⌜ valueOf r ≡ nextDigit most n b ⌝ }
+{
+    if is_digit(b) {
+        if 1000000000000000000 < n {
+            return digit_more(most, n, b);
+        }
+        return Value::Is(n * 10 + (b - 48) as u64);
+    }
+    Value::Bad
+}
+
 // Digits only, which spell a number at most `most`.
 fn read_digits(text: &[u8], most: u64) -> Value
     ensures { λ r. ⌜ valueOf r ≡ digitsOf most (now (text .entry)) ⌝ }
@@ -277,11 +290,14 @@ fn read_digits(text: &[u8], most: u64) -> Value
     let mut n = 0;
     let mut i = 0;
     while i < text.len() {
-        let Value::Is(m) = digit_more(most, n, text[i]) else {
+        let Value::Is(m) = next_digit(most, n, text[i]) else {
             return Value::Bad;
         };
         n = m;
         i += 1;
+    }
+    if most < n {
+        return Value::Bad;
     }
     Value::Is(n)
 }

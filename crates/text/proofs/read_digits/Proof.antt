@@ -9,7 +9,7 @@ use Rattle.text.proofs.read_digits.Statement.{statement}
 use Rattle.text.proofs.read_digits.Tie as tie
 
 abbrev Inv-loop : tie.InvT-loop
-Inv-loop text most n₀ i₀ n i = (i ≤ length text) × (n ≤ most) × (digitsOf most text ≡ restOf most n (drop i text))
+Inv-loop text most n₀ i₀ n i = (i ≤ length text) × (digitsOf most text ≡ restOf most n (drop i text))
 
 abbrev μ-loop : tie.MeasureT-loop
 μ-loop text most n₀ i₀ n i = length text - i
@@ -23,6 +23,7 @@ read-digits-spec =
     (λ c. search (needs, digits-cases))
     (λ c. search (needs, digits-cases))
     (λ c κs. search (needs, digits-cases))
+    (λ c. search (needs, digits-cases))
     (λ c. search (needs, digits-cases))
     (λ c. search (needs, digits-cases))
     (λ c. search (needs, digits-cases))
