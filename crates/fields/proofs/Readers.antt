@@ -31,6 +31,7 @@ use Rattle.fields.specs.Fields.{dash, lettersOnce, bitIn, letterBits, le
 
 -- ## Rights
 
+-- What holds of each letter of rights holds of a byte that is one.
 letter-ways : (P : ℕ → Type 0) → P 114 → P 119 → P 100 → P 116 → P 104 → P 98 → P 99 → (b : ℕ) → contains (bytes "rwdthbc") b ≡ true → P b
 letter-ways P pr pw pd pt ph pb pc b e =
     elim (or-one (eqb 114 b) _ e) [

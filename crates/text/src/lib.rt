@@ -64,7 +64,7 @@ fn byte_bits(block: &[u8], b: u8) -> u32
     m
 }
 
-// Marks the tabs between two places, given as bits; returns how many there are up to there.
+// Marks the tabs between two places, given as bits, and returns how many there are up to there. The line and the end are there for the contract.
 fn mark_bits(
     line: &[u8],
     marks: &mut [usize],
@@ -113,7 +113,7 @@ fn mark_bytes(line: &[u8], marks: &mut [usize]) -> usize
     tabs
 }
 
-// The bits of a line's last bytes, fewer than 16: those of the 16 bytes that end with the line, without the first.
+// The bits of a line's tabs from `start` on: those of the 16 bytes that end with the line, without the bytes before `start`.
 fn last_bits(line: &[u8], start: usize) -> u32
     requires { ⌜ (16 ≤ length (now line)) × (start ≤ length (now line)) × (length (now line) ≤ start + 16) ⌝ }
     ensures { λ r. ⌜ r ≡ bitsOf 9 (take (length (now (line .entry)) - start) (drop start (now (line .entry)))) ⌝ }
