@@ -1,5 +1,5 @@
 -- Months: their days by the twelve-entry table, and the month of a day is the right one.
-use Prim.Native.Nat.{ℕ, zero, suc, _+_, _-_, _≤_, _<_, zero-le}
+use Prim.Native.Nat.{ℕ, zero, suc, _+_, _-_, _/_, _%_, _≤_, _<_, zero-le}
 use mathlib.Core.Path.{_≡_, refl}
 use mathlib.Core.Bool.{Bool, true, false, _&&_, _||_}
 use mathlib.Core.List.{List, [], _∷_}
@@ -8,9 +8,9 @@ use lib.ListN.{getD}
 use mir.Val.{Fits}
 use mir.Syntax.{w64}
 use lib.Dec.{leb, ltb, eqb}
-use borrow.Author.Tests.{leb-true, ltb-true, eqb-true, le-ltb}
+use borrow.Author.Tests.{leb-true, ltb-true, eqb-true, le-ltb, ne-eqb}
 use Rattle.buffers.specs.Lists.{all}
-use Rattle.buffers.specs.Ranges.{Within}
+use Rattle.buffers.specs.Ranges.{Within, Span}
 use Rattle.buffers.proofs.Tests.{and-l, and-r}
 use Rattle.calendar.specs.Calendar.{yearLength, monthStart, monthLength, monthOf}
 use Rattle.calendar.specs.Periods.{dayIn}
@@ -35,25 +35,37 @@ module _ (xs : List ℕ) (i : ℕ) (e : low xs ≡ true) where
   pub entry-1 : getD xs i 0 + 1 ≤ 335
   entry-1 = omega (arith, entry-most xs i e)
 
+  pub entry-wide : Fits w64 (getD xs i 0)
+  entry-wide = omega (arith, entry-most xs i e)
+
   pub entry-fits : Fits w64 (getD xs i 0 + 1)
   entry-fits = omega (arith, entry-most xs i e)
 
-pub ruleset entries = (entry-0, entry-1, entry-fits)
+pub ruleset entries = (entry-0, entry-1, entry-wide, entry-fits)
 
 -- ## The days of a month
 
-rising : (l : Bool) (m : ℕ) → m < 12 → monthStart l m ≤ monthStart l (m + 1)
-unfolding monthStart
-rising true m h = leb-true _ _ (upto-at 12 (λ k. leb (monthStart true k) (monthStart true (k + 1))) refl m h)
-rising false m h = leb-true _ _ (upto-at 12 (λ k. leb (monthStart false k) (monthStart false (k + 1))) refl m h)
+pub february-fits : (l : Bool) (y : ℕ) → Within y (yearLength l) 366 → 337 ≤ y
+february-fits l y e = omega (arith, year-least l)
 
-pub month-before : (l : Bool) (m s t : ℕ) → m < 12 → Within s (monthStart l m) 335 → Within t (monthStart l (m + 1)) 335 → s ≤ t
-month-before l m s t h es et = omega (arith, rising l m h)
+pub february : (l : Bool) (m y : ℕ) → Within y (yearLength l) 366 → m ≡ 2 → y - 337 ≡ monthLength l m
+unfolding monthStart monthLength
+february true m y e t = rw (t, e .is)
+february false m y e t = rw (t, e .is)
 
-pub year-end-after : (l : Bool) (m s t : ℕ) → Within s (monthStart l m) 335 → Within t (yearLength l) 366 → s ≤ t
-year-end-after l m s t es et = omega (arith, year-least l)
+-- a month but February has 30 days, the odd ones to July and the even ones from August on have one more
+abbrev other : Bool → ℕ → Bool
+other l m = ltb m 1 || (eqb m 2 || eqb (30 + (m + m / 8) % 2) (monthLength l m))
 
-pub ruleset lengths = (month-before, year-end-after)
+every-other : (l : Bool) (m : ℕ) → m ≤ 12 → other l m ≡ true
+unfolding monthStart monthLength
+every-other true m h = upto-at 13 (other true) refl m (omega arith)
+every-other false m h = upto-at 13 (other false) refl m (omega arith)
+
+pub other-month : (l : Bool) (m : ℕ) → Span 1 m 12 → (m ≡ 2 → ⊥) → 30 + (m + m / 8) % 2 ≡ monthLength l m
+other-month l m s n = eqb-true _ _ (simp (le-ltb m 1 (s .from), ne-eqb m 2 n) at (every-other l m (s .to)))
+
+pub ruleset lengths = (february-fits, february, other-month)
 
 pub month-31 : (l : Bool) (m : ℕ) → m ≤ 12 → monthLength l m ≤ 31
 unfolding monthStart monthLength

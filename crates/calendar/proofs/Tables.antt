@@ -1,5 +1,5 @@
 -- Finite facts by computing, and tests on results that callees give.
-use Prim.Native.Nat.{ℕ, zero, suc, _-_, _≤_, _<_}
+use Prim.Native.Nat.{ℕ, zero, suc, _≤_, _<_}
 use mathlib.Core.Path.{_≡_}
 use mathlib.Core.Logic.{inl, inr}
 use mathlib.Core.Bool.{Bool, true, _&&_}
@@ -31,6 +31,3 @@ module _ (A : Type 0) (v x y : A) (r a b : ℕ) where
   pick-above e h q = cc (le-ltb a r h)
 
 pub ruleset measures = (pick-below, pick-above)
-
-pub minus-both : (a b x y : ℕ) → a ≡ x → b ≡ y → a - b ≡ x - y
-minus-both a b x y p q = cc

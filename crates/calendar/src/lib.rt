@@ -25,8 +25,8 @@ pub const LATEST: u64 = 253402300799999;
 // The milliseconds of a day.
 const DAY: u64 = 86400000;
 
-// The days before each month in a common year.
-const MONTHS: [u64; 12] = [0, 31, 59, 90, 120, 151, 181, 212, 243, 273, 304, 334];
+// The days before each month in a common year. Entries of 16 bits take two stores where the table is read.
+const MONTHS: [u16; 12] = [0, 31, 59, 90, 120, 151, 181, 212, 243, 273, 304, 334];
 
 // Leap years are every fourth year, of the centuries every fourth.
 fn is_leap(year: u64) -> bool
@@ -66,7 +66,7 @@ fn month_start(leap_year: bool, month: u64) -> u64
     ensures { λ r. ⌜ Within r (monthStart «leap_year» month) 335 ⌝ }
 {
     let i = (month - 1) as usize;
-    let before = MONTHS[i];
+    let before = MONTHS[i] as u64;
     if leap_year {
         if 2 < month {
             return before + 1;
@@ -75,16 +75,15 @@ fn month_start(leap_year: bool, month: u64) -> u64
     before
 }
 
-// The days of a month, 1 to 12.
+// The days of a month, 1 to 12: those of February are what the other months leave of the year.
 fn month_length(leap_year: bool, month: u64) -> u64
     requires { ⌜ Span 1 month 12 ⌝ }
     ensures { λ r. ⌜ r ≡ monthLength «leap_year» month ⌝ }
 {
-    let start = month_start(leap_year, month);
-    if month < 12 {
-        return month_start(leap_year, month + 1) - start;
+    if month == 2 {
+        return year_length(leap_year) - 337;
     }
-    year_length(leap_year) - start
+    30 + (month + month / 8) % 2
 }
 
 // The calendar has this date, in the years 1970 to 9999.

@@ -14,6 +14,7 @@ month-start-spec =
     (λ c. search needs)
     (λ c. search needs)
     (λ c. search needs)
+    (λ c. search (needs, entries))
     (λ c. search (needs, picks, entries))
     (λ c. search (needs, picks, entries))
     (λ c. search (needs, picks, entries))
