@@ -1,4 +1,6 @@
 pub mod Reading
+pub mod Words
+pub mod Pairs
 pub mod Printing
 pub mod RoundTrip
 pub mod Years

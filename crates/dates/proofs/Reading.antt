@@ -1,5 +1,5 @@
 -- Laws of reading: a text's parts as the code takes them, and how large a value that was read can be.
-use Prim.Native.Nat.{ℕ, zero, suc, _+_, _-_, _*_, _≤_, _<_}
+use Prim.Native.Nat.{ℕ, zero, suc, _+_, _-_, _*_, _%_, _≤_, _<_}
 use mathlib.Core.Path.{_≡_, refl, sym, ap, _∙_}
 use mathlib.Core.Logic.{inl, inr}
 use mathlib.Core.Bool.{Bool, true, false, _&&_}
@@ -110,13 +110,19 @@ module _ (r : Value) (n : ℕ) where
   pub two-hundred : (s : List ℕ) (i : ℕ) → valueOf r ≡ twoDigits s i → r ≡ Is n → Fits w64 (n * 100)
   two-hundred s i e t = let q : twoDigits s i ≡ some n = cc in omega (arith, two-most s i .most n q)
 
-  pub two-sum : (s : List ℕ) (i : ℕ) (q : Value) (m j : ℕ) → valueOf r ≡ twoDigits s i → r ≡ Is n → valueOf q ≡ twoDigits s j → q ≡ Is m → Fits w64 (n * 100 + m)
-  two-sum s i q m j e t f u =
-      let x : twoDigits s i ≡ some n = cc in
-      let y : twoDigits s j ≡ some m = cc in
-      omega (arith, two-most s i .most n x, two-most s j .most m y)
+  pub two-byte : (s : List ℕ) (i y : ℕ) → valueOf r ≡ twoDigits s i → r ≡ Is n → Fits w64 (n * 100 + y % 256)
+  two-byte s i y e t = let q : twoDigits s i ≡ some n = cc in omega (arith, two-most s i .most n q)
 
-pub ruleset digit-sums = (digit-ten, digit-sum, two-hundred, two-sum)
+  pub two-ten : (s : List ℕ) (i : ℕ) → valueOf r ≡ twoDigits s i → r ≡ Is n → Fits w64 (n * 10)
+  two-ten s i e t = let q : twoDigits s i ≡ some n = cc in omega (arith, two-most s i .most n q)
+
+  pub two-digit : (s : List ℕ) (i : ℕ) (q : Value) (m c : ℕ) → valueOf r ≡ twoDigits s i → r ≡ Is n → valueOf q ≡ digitOf c → q ≡ Is m → Fits w64 (n * 10 + m)
+  two-digit s i q m c e t f u =
+      let x : twoDigits s i ≡ some n = cc in
+      let y : digitOf c ≡ some m = cc in
+      omega (arith, two-most s i .most n x, digit-most c .most m y)
+
+pub ruleset digit-sums = (digit-ten, digit-sum, two-hundred, two-byte, two-ten, two-digit)
 
 -- ## Runs of digits
 
@@ -154,6 +160,24 @@ pub ruleset places = (run-at, place-in, place-out)
 pub places-sum : (s : List ℕ) (x y z : ℕ) → Within x (fractionDigit s 0) 9 → Within y (fractionDigit s 1) 9 → Within z (fractionDigit s 2) 9
     → some (x * 100 + y * 10 + z) ≡ some (fractionDigit s 0 * 100 + fractionDigit s 1 * 10 + fractionDigit s 2)
 places-sum s x y z ex ey ez = rw (ex .is, ey .is, ez .is)
+
+three-digits : (s : List ℕ) → length s ≡ 3 → milliseconds s ≡ thenSome (twoDigits s 0) none (λ a. thenSome (digitOf (getD s 2 0)) none (λ b. some (a * 10 + b)))
+unfolding milliseconds fractionDigit twoDigits digitOf
+three-digits [] e = absurd (omega arith)
+three-digits (x ∷ []) e = absurd (omega arith)
+three-digits (x ∷ y ∷ []) e = absurd (omega arith)
+three-digits (x ∷ y ∷ z ∷ []) e = chosen (isDigit x) (isDigit y) (isDigit z) (x - 48) (y - 48) (z - 48)
+  where
+    chosen : (a b c : Bool) (x y z : ℕ) → pick (a && (b && (c && true))) (some (x * 100 + y * 10 + z)) none
+        ≡ thenSome (thenSome (pick a (some x) none) none (λ k. thenSome (pick b (some y) none) none (λ m. some (k * 10 + m)))) none (λ k. thenSome (pick c (some z) none) none (λ m. some (k * 10 + m)))
+    chosen true true true x y z = ap some (omega arith)
+    chosen true true false x y z = refl
+    chosen true false c x y z = refl
+    chosen false b c x y z = refl
+three-digits (x ∷ y ∷ z ∷ w ∷ s) e = absurd (omega arith)
+
+pub three-are : (s : List ℕ) (v : Option ℕ) → length s ≡ 3 → v ≡ thenSome (twoDigits s 0) none (λ a. thenSome (digitOf (getD s 2 0)) none (λ b. some (a * 10 + b))) → v ≡ milliseconds s
+three-are s v h e = e ∙ sym (three-digits s h)
 
 -- the rest of a part, as a part of it
 pub rest-is : (s : List ℕ) (v : Option ℕ) → v ≡ milliseconds (take (length s - 1) (drop 1 s)) → v ≡ milliseconds (drop 1 s)

@@ -1,3 +1,4 @@
 pub mod Reading
+pub mod Pairs
 pub mod Printing
 pub mod Examples

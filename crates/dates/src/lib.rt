@@ -10,7 +10,8 @@ ghost use Rattle.buffers.specs.Ranges.{Within};
 ghost use Rattle.buffers.specs.Writes.{Wrote};
 ghost use Rattle.text.specs.Numbers.{valueOf, isDigit};
 ghost use Rattle.calendar.specs.Calendar.{latest};
-ghost use Rattle.dates.specs.Reading.{instantOf, digitOf, twoDigits, fourDigits, dayNumber, dayAt, secondOfDay, secondAt, fractionDigit, milliseconds, fractionOf, readDate};
+ghost use Rattle.dates.specs.Reading.{instantOf, digitOf, twoDigits, dayNumber, dayAt, secondOfDay, secondAt, fractionDigit, milliseconds, fractionOf, readDate};
+ghost use Rattle.dates.specs.Pairs.{apart, isPairs, pairsOf};
 ghost use Rattle.dates.specs.Printing.{dateText, printDate};
 
 // What a date's text says.
@@ -18,6 +19,12 @@ pub enum DateRead {
     At(u64),
     Unreadable,
 }
+
+// The bytes `00-00-00` as a word.
+const DAY_PATTERN: u64 = 0x30302d30302d3030;
+
+// The bytes `00:00:00` as a word.
+const TIME_PATTERN: u64 = 0x30303a30303a3030;
 
 // The value of a byte that is a digit.
 fn value_of(b: u8) -> u64
@@ -51,18 +58,30 @@ fn two_digits(text: &[u8], at: usize) -> Value
     Value::Is(a * 10 + b)
 }
 
-// The number that four digits from `at` on spell.
-fn four_digits(text: &[u8], at: usize) -> Value
-    requires { ⌜ at + 3 < length (now text) ⌝ }
-    ensures { λ r. ⌜ valueOf r ≡ fourDigits (now (text .entry)) at ⌝ }
+// How eight bytes from `at` on differ, bit by bit, from those of a pattern.
+fn apart(text: &[u8], at: usize, pattern: u64) -> u64
+    requires { ⌜ at + 8 ≤ length (now text) ⌝ }
+    ensures { λ r. ⌜ r ≡ apart (now (text .entry)) at pattern ⌝ }
 {
-    let Value::Is(a) = two_digits(text, at) else {
-        return Value::Bad;
-    };
-    let Value::Is(b) = two_digits(text, at + 2) else {
-        return Value::Bad;
-    };
-    Value::Is(a * 100 + b)
+    buffers::word_at(text, at) ^ pattern
+}
+
+// Eight bytes that differ by x from `00:00:00` are three pairs of digits with these separators. All bytes are tested at once: the first test keeps each byte's sum in the second from reaching the next byte.
+fn is_pairs(x: u64) -> bool
+    ensures { λ r. ⌜ r ≡ isPairs x ⌝ }
+{
+    if x & 0xf0f0f0f0f0f0f0f0 != 0 {
+        return false;
+    }
+    (x + 0x06060f06060f0606) & 0xf0f0f0f0f0f0f0f0 == 0
+}
+
+// The numbers that the pairs spell, in the bytes of their first digits.
+fn pairs_of(x: u64) -> u64
+    requires { ⌜ isPairs x ≡ true ⌝ }
+    ensures { λ r. ⌜ r ≡ pairsOf x ⌝ }
+{
+    x * 10 + x / 256
 }
 
 // The days from 1970-01-01 to a date that the calendar has.
@@ -80,22 +99,19 @@ fn day_at(text: &[u8]) -> Value
     requires { ⌜ 20 ≤ length (now text) ⌝ }
     ensures { λ r. ⌜ valueOf r ≡ dayAt (now (text .entry)) ⌝ }
 {
-    if text[4] != b'-' {
+    let Value::Is(century) = two_digits(text, 0) else {
         return Value::Bad;
+    };
+    let x = apart(text, 2, DAY_PATTERN);
+    if is_pairs(x) {
+        let y = pairs_of(x);
+        return day_number(Civil {
+            year: century * 100 + y % 256,
+            month: y / 16777216 % 256,
+            day: y / 281474976710656 % 256,
+        });
     }
-    if text[7] != b'-' {
-        return Value::Bad;
-    }
-    let Value::Is(year) = four_digits(text, 0) else {
-        return Value::Bad;
-    };
-    let Value::Is(month) = two_digits(text, 5) else {
-        return Value::Bad;
-    };
-    let Value::Is(day) = two_digits(text, 8) else {
-        return Value::Bad;
-    };
-    day_number(Civil { year, month, day })
+    Value::Bad
 }
 
 // The second of the day, where the clock has that time.
@@ -119,22 +135,12 @@ fn second_at(text: &[u8]) -> Value
     requires { ⌜ 20 ≤ length (now text) ⌝ }
     ensures { λ r. ⌜ valueOf r ≡ secondAt (now (text .entry)) ⌝ }
 {
-    if text[13] != b':' {
-        return Value::Bad;
+    let x = apart(text, 11, TIME_PATTERN);
+    if is_pairs(x) {
+        let y = pairs_of(x);
+        return second_of_day(y % 256, y / 16777216 % 256, y / 281474976710656 % 256);
     }
-    if text[16] != b':' {
-        return Value::Bad;
-    }
-    let Value::Is(hour) = two_digits(text, 11) else {
-        return Value::Bad;
-    };
-    let Value::Is(minute) = two_digits(text, 14) else {
-        return Value::Bad;
-    };
-    let Value::Is(second) = two_digits(text, 17) else {
-        return Value::Bad;
-    };
-    second_of_day(hour, minute, second)
+    Value::Bad
 }
 
 // All the bytes are digits.
@@ -162,10 +168,27 @@ fn place(digits: &[u8], at: usize) -> u64
     0
 }
 
+// The milliseconds that three digits say, as most fractions have.
+fn three_digits(digits: &[u8]) -> Value
+    requires { ⌜ length (now digits) ≡ 3 ⌝ }
+    ensures { λ r. ⌜ valueOf r ≡ milliseconds (now (digits .entry)) ⌝ }
+{
+    let Value::Is(a) = two_digits(digits, 0) else {
+        return Value::Bad;
+    };
+    let Value::Is(b) = digit(digits[2]) else {
+        return Value::Bad;
+    };
+    Value::Is(a * 10 + b)
+}
+
 // The milliseconds that the digits of a fraction say.
 fn milliseconds(digits: &[u8]) -> Value
     ensures { λ r. ⌜ valueOf r ≡ milliseconds (now (digits .entry)) ⌝ }
 {
+    if digits.len() == 3 {
+        return three_digits(digits);
+    }
     if digits.len() < 1 {
         return Value::Bad;
     }

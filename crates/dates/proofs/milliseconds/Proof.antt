@@ -11,6 +11,8 @@ unfolding milliseconds
 milliseconds-spec =
     tie.close
     (tie.spec
+    (λ c κs. search needs)
+    (λ c. search needs)
     (λ c. search (needs, picks))
     (λ c. search (needs, picks))
     (λ c κs. search needs)
