@@ -1,5 +1,5 @@
 -- The text of an instant, as `2020-08-10T21:46:00.000Z`: 24 bytes.
-use Prim.Native.Nat.{ℕ, _+_, _/_, _%_}
+use Prim.Native.Nat.{ℕ, _+_, _*_, _/_, _%_}
 use mathlib.Core.Path.{_≡_}
 use mathlib.Core.Bool.{true, false}
 use mathlib.Core.List.{List, [], _∷_, _++_}
@@ -25,6 +25,10 @@ lastThree n = lastDigit (n / 100) ∷ lastTwo n
 -- the last four digits of n
 abbrev pub lastFour : ℕ → List ℕ
 lastFour n = lastDigit (n / 1000) ∷ lastThree n
+
+-- the two digits of n, which is at most 99, as a word of two bytes, the tens in the low one
+abbrev pub digitPair : ℕ → ℕ
+digitPair n = 48 + n / 10 + 256 * (48 + n % 10)
 
 -- the text of a date and a time of day in milliseconds
 unfoldable pub dateText : Civil → ℕ → List ℕ

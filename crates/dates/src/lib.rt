@@ -9,10 +9,10 @@ ghost use Rattle.buffers.specs.Lists.{all};
 ghost use Rattle.buffers.specs.Ranges.{Within};
 ghost use Rattle.buffers.specs.Writes.{Wrote};
 ghost use Rattle.text.specs.Numbers.{valueOf, isDigit};
-ghost use Rattle.calendar.specs.Calendar.{latest};
+ghost use Rattle.calendar.specs.Calendar.{latest, day, Bounded};
 ghost use Rattle.dates.specs.Reading.{instantOf, digitOf, twoDigits, dayNumber, dayAt, secondOfDay, secondAt, fractionDigit, milliseconds, fractionOf, readDate};
 ghost use Rattle.dates.specs.Pairs.{apart, isPairs, pairsOf};
-ghost use Rattle.dates.specs.Printing.{dateText, printDate};
+ghost use Rattle.dates.specs.Printing.{digitPair, dateText, printDate};
 
 // What a date's text says.
 pub enum DateRead {
@@ -248,42 +248,53 @@ pub fn read_date(text: &[u8]) -> DateRead
     DateRead::At(instant(days, seconds, millis))
 }
 
+// The two digits of a number below 100, as a word of two bytes with the tens in the low one: up to there 103 / 1024 counts the tens.
+fn digit_pair(n: u64) -> u64
+    requires { ⌜ n ≤ 99 ⌝ }
+    ensures { λ r. ⌜ Within r (digitPair n) 14649 ⌝ }
+{
+    12336 + 256 * n - 2559 * (n * 103 / 1024)
+}
+
 // The text of a date and a time of day.
 fn date_text(date: Civil, time: u64) -> [u8; 24]
+    requires { ⌜ Bounded date × (time < day) ⌝ }
     ensures { λ r. ⌜ r ≡ dateText date time ⌝ }
 {
-    let year = date.year;
-    let month = date.month;
-    let day = date.day;
     let seconds = time / 1000;
     let minutes = seconds / 60;
-    let hour = minutes / 60;
-    let minute = minutes % 60;
-    let second = seconds % 60;
     let milli = time % 1000;
+    let century = digit_pair(date.year / 100);
+    let year = digit_pair(date.year % 100);
+    let month = digit_pair(date.month);
+    let day = digit_pair(date.day);
+    let hour = digit_pair(minutes / 60);
+    let minute = digit_pair(minutes % 60);
+    let second = digit_pair(seconds % 60);
+    let tens = digit_pair(milli / 10);
     [
-        (48 + year / 1000 % 10) as u8,
-        (48 + year / 100 % 10) as u8,
-        (48 + year / 10 % 10) as u8,
-        (48 + year % 10) as u8,
+        (century % 256) as u8,
+        (century / 256) as u8,
+        (year % 256) as u8,
+        (year / 256) as u8,
         b'-',
-        (48 + month / 10 % 10) as u8,
-        (48 + month % 10) as u8,
+        (month % 256) as u8,
+        (month / 256) as u8,
         b'-',
-        (48 + day / 10 % 10) as u8,
-        (48 + day % 10) as u8,
+        (day % 256) as u8,
+        (day / 256) as u8,
         b'T',
-        (48 + hour / 10 % 10) as u8,
-        (48 + hour % 10) as u8,
+        (hour % 256) as u8,
+        (hour / 256) as u8,
         b':',
-        (48 + minute / 10 % 10) as u8,
-        (48 + minute % 10) as u8,
+        (minute % 256) as u8,
+        (minute / 256) as u8,
         b':',
-        (48 + second / 10 % 10) as u8,
-        (48 + second % 10) as u8,
+        (second % 256) as u8,
+        (second / 256) as u8,
         b'.',
-        (48 + milli / 100 % 10) as u8,
-        (48 + milli / 10 % 10) as u8,
+        (tens % 256) as u8,
+        (tens / 256) as u8,
         (48 + milli % 10) as u8,
         b'Z',
     ]
