@@ -19,7 +19,7 @@ use Rattle.table.proofs.Held.{rows-length}
 use Rattle.model.specs.Rows.{Row, before, ahead, ordered}
 use Rattle.model.proofs.Order.{before-trans, ahead-trans, versionRow}
 use Rattle.search.specs.Places.{leading, nthRow, foundIf, keyPlace, currentIn, versionPlace, versionIn}
-use Rattle.search.specs.Keys.{isOrder}
+use Rattle.search.specs.Keys.{isOrder, orderIf}
 use Rattle.search.specs.Searching.{Searchable}
 use Rattle.search.specs.declared.Order.{Order}
 use Rattle.search.specs.declared.Order.the-variants.{Before, Same, After}
@@ -114,6 +114,24 @@ module _ (p : Row → Bool) (n b : List ℕ) (u i : ℕ) where
   tells-found : (m : ℕ) (r : Bool) → Tells p n b u i r → m ≡ i → pick r (At i) (Place i) ≡ foundIf p (rowsOf n b u) m
   tells-found m r w e = rw e (ap (λ (t : Bool). pick t (At i) (Place i)) (w .tells))
 
+-- ## What an order and a head tell
+
+module _ (s k : List ℕ) where
+  pub told-before : (o : Order) → o ≡ Before → isOrder o s k ≡ true → before s k ≡ true
+  told-before o t e = rw t at e
+
+  pub told-same : (o : Order) → o ≡ Same → isOrder o s k ≡ true → same s k ≡ true
+  told-same o t e = rw t at e
+
+  pub told-after : (o : Order) → o ≡ After → isOrder o s k ≡ true → before k s ≡ true
+  told-after o t e = rw t at e
+
+  pub head-before : (r : Bool) → r ≡ true → orderIf r Before s k ≡ true → before s k ≡ true
+  head-before r t e = rw t at e
+
+  pub head-after : (r : Bool) → r ≡ true → orderIf r After s k ≡ true → before k s ≡ true
+  head-after r t e = rw t at e
+
 -- ## A key's first row
 
 abbrev pub hasKey : List ℕ → Row → Bool
@@ -128,24 +146,24 @@ module _ (n b : List ℕ) (u : ℕ) (k : List ℕ) where
   key-none = tells-behind (hasKey k) n b u u (omega arith)
 
   module _ (low high : ℕ) (w : Between n b u (keyPlace k (rowsOf n b u)) low high) where
-    module _ (h : low < high) (o : Order) (e : isOrder o (keyAt b (middle low high)) k ≡ true) where
-      pub key-passed : o ≡ Before → Between n b u (keyPlace k (rowsOf n b u)) (middle low high + 1) high
+    module _ (h : low < high) where
+      pub key-passed : before (keyAt b (middle low high)) k ≡ true → Between n b u (keyPlace k (rowsOf n b u)) (middle low high + 1) high
       unfolding keyPlace
-      key-passed t = passed (λ x. before (x .key) k) (key-ahead k) n b u low high w h (rw t at e)
+      key-passed e = passed (λ x. before (x .key) k) (key-ahead k) n b u low high w h e
 
-      pub key-met : o ≡ Same → Between n b u (keyPlace k (rowsOf n b u)) low (middle low high)
+      pub key-met : same (keyAt b (middle low high)) k ≡ true → Between n b u (keyPlace k (rowsOf n b u)) low (middle low high)
       unfolding keyPlace
-      key-met t = stopped (λ x. before (x .key) k) (key-ahead k) n b u low high w h (same-one (keyAt b (middle low high)) k (rw t at e))
+      key-met e = stopped (λ x. before (x .key) k) (key-ahead k) n b u low high w h (same-one (keyAt b (middle low high)) k e)
 
-      pub key-stopped : o ≡ After → Between n b u (keyPlace k (rowsOf n b u)) low (middle low high)
+      pub key-stopped : before k (keyAt b (middle low high)) ≡ true → Between n b u (keyPlace k (rowsOf n b u)) low (middle low high)
       unfolding keyPlace
-      key-stopped t = stopped (λ x. before (x .key) k) (key-ahead k) n b u low high w h (after-one (keyAt b (middle low high)) k (rw t at e))
+      key-stopped e = stopped (λ x. before (x .key) k) (key-ahead k) n b u low high w h (after-one (keyAt b (middle low high)) k e)
 
-      pub key-there : o ≡ Same → Tells (hasKey k) n b u (middle low high) true
-      key-there t = tells-row (hasKey k) n b u (middle low high) true (omega (arith, w .top)) (rw t at e)
+      pub key-there : same (keyAt b (middle low high)) k ≡ true → Tells (hasKey k) n b u (middle low high) true
+      key-there e = tells-row (hasKey k) n b u (middle low high) true (omega (arith, w .top)) e
 
-      pub key-other : o ≡ After → Tells (hasKey k) n b u (middle low high) false
-      key-other t = tells-row (hasKey k) n b u (middle low high) false (omega (arith, w .top)) (after-other (keyAt b (middle low high)) k (rw t at e))
+      pub key-other : before k (keyAt b (middle low high)) ≡ true → Tells (hasKey k) n b u (middle low high) false
+      key-other e = tells-row (hasKey k) n b u (middle low high) false (omega (arith, w .top)) (after-other (keyAt b (middle low high)) k e)
 
     module _ (r : Bool) (v : Tells (hasKey k) n b u high r) (h : high ≤ low) where
       ended : pick r (At low) (Place low) ≡ currentIn k (rowsOf n b u)
@@ -167,10 +185,6 @@ pub ruleset key-cases = (middle-length, key-start, key-none, current-yes, curren
 abbrev pub hasVersion : List ℕ → ℕ → Row → Bool
 hasVersion k v x = same (x .key) k && eqb (x .number) v
 
--- The answer that the keys are the same.
-pub told-same : (o : Order) (s k : List ℕ) → o ≡ Same → isOrder o s k ≡ true → same s k ≡ true
-told-same o s k t e = rw t at e
-
 module _ (n b : List ℕ) (u : ℕ) (k : List ℕ) (v : ℕ) where
   pub version-start : Searchable n b u → Between n b u (versionPlace k v (rowsOf n b u)) 0 u
   unfolding versionPlace
@@ -180,22 +194,20 @@ module _ (n b : List ℕ) (u : ℕ) (k : List ℕ) (v : ℕ) where
   version-none = tells-behind (hasVersion k v) n b u u (omega arith)
 
   module _ (low high : ℕ) (w : Between n b u (versionPlace k v (rowsOf n b u)) low high) where
-    module _ (h : low < high) (o : Order) (e : isOrder o (keyAt b (middle low high)) k ≡ true) where
-      pub version-passed : o ≡ Before → Between n b u (versionPlace k v (rowsOf n b u)) (middle low high + 1) high
+    module _ (h : low < high) where
+      pub version-passed : before (keyAt b (middle low high)) k ≡ true → Between n b u (versionPlace k v (rowsOf n b u)) (middle low high + 1) high
       unfolding versionPlace
-      version-passed t =
-          passed (λ x. ahead x (versionRow k v)) (λ x y. ahead-trans x y (versionRow k v)) n b u low high w h (or-l (before (keyAt b (middle low high)) k) _ (rw t at e))
+      version-passed e = passed (λ x. ahead x (versionRow k v)) (λ x y. ahead-trans x y (versionRow k v)) n b u low high w h (or-l (before (keyAt b (middle low high)) k) _ e)
 
-      pub version-stopped : o ≡ After → Between n b u (versionPlace k v (rowsOf n b u)) low (middle low high)
+      pub version-stopped : before k (keyAt b (middle low high)) ≡ true → Between n b u (versionPlace k v (rowsOf n b u)) low (middle low high)
       unfolding versionPlace
-      version-stopped t =
-          let s : before k (keyAt b (middle low high)) ≡ true = rw t at e in
+      version-stopped e =
           stopped (λ x. ahead x (versionRow k v)) (λ x y. ahead-trans x y (versionRow k v)) n b u low high w h
-          (rw (after-one (keyAt b (middle low high)) k s, after-other (keyAt b (middle low high)) k s))
+          (rw (after-one (keyAt b (middle low high)) k e, after-other (keyAt b (middle low high)) k e))
 
-      pub version-behind : o ≡ After → Tells (hasVersion k v) n b u (middle low high) false
-      version-behind t =
-          tells-row (hasVersion k v) n b u (middle low high) false (omega (arith, w .top)) (rw (after-other (keyAt b (middle low high)) k (rw t at e)))
+      pub version-behind : before k (keyAt b (middle low high)) ≡ true → Tells (hasVersion k v) n b u (middle low high) false
+      version-behind e =
+          tells-row (hasVersion k v) n b u (middle low high) false (omega (arith, w .top)) (rw (after-other (keyAt b (middle low high)) k e))
 
     module _ (h : low < high) (s : same (keyAt b (middle low high)) k ≡ true) where
       pub version-higher : v < getD n (8 * middle low high) 0 → Between n b u (versionPlace k v (rowsOf n b u)) (middle low high + 1) high

@@ -37,7 +37,7 @@ rank-padded (suc k) (x ∷ s) m c = ap (λ (r : ℕ). x * 256 ^ k + r) (rank-pad
 pub first-padded : (s eight : List ℕ) (e r : ℕ) → Wrote (replicate 8 0) 0 s (length s) eight e → r ≡ rank 8 (drop 0 eight) → r ≡ rank 8 s
 first-padded s eight e r w q = q ∙ ap (rank 8) (w .holds) ∙ rank-padded 8 s (0 + length s) 8
 
-rank-take : (k n : ℕ) (s : List ℕ) → k ≤ n → rank k (take n s) ≡ rank k s
+pub rank-take : (k n : ℕ) (s : List ℕ) → k ≤ n → rank k (take n s) ≡ rank k s
 unfolding rank
 rank-take zero n s h = refl
 rank-take (suc k) zero s h = absurd (omega arith)
@@ -62,20 +62,4 @@ key-rank b i e =
     ap (rank 8) (sym (drop-drop 1 (64 * i) b)) ∙ sym (rank-take 8 63 (drop 1 (drop (64 * i) b)) (omega arith))
     ∙ ap (rank 8) (sym (drop-take 1 64 (drop (64 * i) b))) ∙ block-rank (take 64 (drop (64 * i) b)) e
 
--- The key in a row's block, where it has eight bytes or more.
-module _ (b k : List ℕ) (i x y : ℕ) (ex : x ≡ rank 8 (drop (64 * i + 1) b)) (ey : y ≡ rank 8 k) (h : 8 ≤ getD b (64 * i) 0) (p : (j : ℕ) → Fits w8 (getD b j 0)) (q : (j : ℕ) → Fits w8 (getD k j 0)) where
-  stored-rank : x ≡ rank 8 (keyAt b i)
-  stored-rank =
-      let z : 64 * i + 0 ≡ 64 * i = omega arith in
-      let f : getD (take 64 (drop (64 * i) b)) 0 0 ≡ getD b (64 * i) 0 = getD-take 64 (drop (64 * i) b) 0 0 (omega arith) ∙ getD-drop (64 * i) b 0 0 ∙ rw z in
-      ex ∙ ap (rank 8) (sym (drop-drop 1 (64 * i) b)) ∙ sym (rank-take 8 63 (drop 1 (drop (64 * i) b)) (omega arith))
-      ∙ ap (rank 8) (sym (drop-take 1 64 (drop (64 * i) b)))
-      ∙ sym (rank-take 8 (getD (take 64 (drop (64 * i) b)) 0 0) (drop 1 (take 64 (drop (64 * i) b))) (omega arith))
-
-  pub first-less : x < y → isOrder Before (keyAt b i) k ≡ true
-  first-less d = rank-less 8 (keyAt b i) k (stored-bytes b i p) (all-bytes k q) (omega (arith, stored-rank))
-
-  pub first-more : y < x → isOrder After (keyAt b i) k ≡ true
-  first-more d = rank-less 8 k (keyAt b i) (all-bytes k q) (stored-bytes b i p) (omega (arith, stored-rank))
-
-pub ruleset first-cases = (first-padded, first-less, first-more)
+pub ruleset first-cases = (first-padded)

@@ -1,9 +1,9 @@
 -- The order of two keys, and bytes as a number that orders them.
 use Prim.Native.Nat.{ℕ, zero, suc, _+_, _-_, _*_, _^_, _≤_, _<_}
 use mathlib.Core.Path.{_≡_}
-use mathlib.Core.Bool.{Bool}
+use mathlib.Core.Bool.{Bool, true, false}
 use mathlib.Core.List.{List, [], _∷_}
-use lib.ListN.{length, take}
+use lib.ListN.{length, take, drop}
 use Rattle.buffers.specs.Lists.{same}
 use Rattle.model.specs.Rows.{before}
 use Rattle.search.specs.declared.Order.{Order}
@@ -14,6 +14,11 @@ abbrev pub isOrder : Order → List ℕ → List ℕ → Bool
 isOrder Before a b = before a b
 isOrder Same a b = same a b
 isOrder After a b = before b a
+
+-- what it says where a test holds
+abbrev pub orderIf : Bool → Order → List ℕ → List ℕ → Bool
+orderIf true o a b = isOrder o a b
+orderIf false o a b = true
 
 -- the number that the first k bytes spell, the first byte counting most
 unfoldable pub rank : ℕ → List ℕ → ℕ
@@ -34,3 +39,9 @@ pub record LastEight (a b : List ℕ) (n : ℕ) : Type 0 where
   pub right : n ≤ length b
   pub ends : n < length b → length a ≤ n
   pub start : take (n - 8) a ≡ take (n - 8) b
+
+-- a key's head, which is its first sixteen bytes as two numbers, and how many bytes another key needs to be after it by the head alone
+pub record IsHead (k : List ℕ) (first second need : ℕ) : Type 0 where
+  pub first-is : first ≡ rank 8 k
+  pub second-is : second ≡ rank 8 (drop 8 k)
+  pub enough : Shorter need 16 (length k + 1)

@@ -6,7 +6,7 @@ ghost use lib.ListN.{length, getD, drop};
 ghost use Rattle.buffers.specs.Ranges.{Within};
 ghost use Rattle.table.specs.Layout.{rowsOf};
 ghost use Rattle.table.specs.Places.{keyAt};
-ghost use Rattle.search.specs.Keys.{isOrder, rank, Shorter, LastEight};
+ghost use Rattle.search.specs.Keys.{isOrder, orderIf, rank, Shorter, IsHead, LastEight};
 ghost use Rattle.search.specs.Places.{keyPlace, currentIn, versionIn};
 ghost use Rattle.search.specs.Searching.{Searchable};
 
@@ -137,22 +137,88 @@ fn first_rank(key: &[u8]) -> u64
     rank_at(&eight, 0)
 }
 
-// The key of the row at a position, against a key with its first rank: where the stored key has eight bytes and the ranks differ, they decide.
-fn order_by_rank(keys: &[u8], at: usize, key: &[u8], first: u64) -> Order
-    requires { ⌜ (64 * at + 64 ≤ length (now keys)) × (getD (now keys) (64 * at) 0 ≤ 63) × (first ≡ rank 8 (now key)) ⌝ }
-    ensures { λ r. ⌜ isOrder r (keyAt (now (keys .entry)) at) (now (key .entry)) ≡ true ⌝ }
+// The eight bytes behind them, the same way; these two numbers are the key's head.
+fn second_rank(key: &[u8]) -> u64
+    ensures { λ r. ⌜ r ≡ rank 8 (drop 8 (now (key .entry))) ⌝ }
+{
+    if 16 <= key.len() {
+        return rank_at(key, 8);
+    }
+    if key.len() <= 8 {
+        return 0;
+    }
+    first_rank(&key[8..])
+}
+
+// The row's key is before the key by the first sixteen bytes of its block, whatever stands behind it there.
+fn is_less(keys: &[u8], at: usize, key: &[u8], first: u64, second: u64, need: usize) -> bool
+    requires { ⌜ (64 * at + 64 ≤ length (now keys)) × (getD (now keys) (64 * at) 0 ≤ 63) × IsHead (now key) first second need ⌝ }
+    ensures { λ r. ⌜ orderIf r Order.Before (keyAt (now (keys .entry)) at) (now (key .entry)) ≡ true ⌝ }
 {
     let start = 64 * at;
-    if 8 <= keys[start] {
-        let stored = rank_at(keys, start + 1);
-        if stored < first {
-            return Order::Before;
-        }
-        if first < stored {
-            return Order::After;
+    let x = rank_at(keys, start + 1);
+    let y = rank_at(keys, start + 9);
+    (x < first) | ((x == first) & (y < second))
+}
+
+// The row's key is after the key by these bytes, where it has `need` of them.
+fn is_more(keys: &[u8], at: usize, key: &[u8], first: u64, second: u64, need: usize) -> bool
+    requires { ⌜ (64 * at + 64 ≤ length (now keys)) × (getD (now keys) (64 * at) 0 ≤ 63) × IsHead (now key) first second need ⌝ }
+    ensures { λ r. ⌜ orderIf r Order.After (keyAt (now (keys .entry)) at) (now (key .entry)) ≡ true ⌝ }
+{
+    let start = 64 * at;
+    if (keys[start] as usize) < need {
+        return false;
+    }
+    let x = rank_at(keys, start + 1);
+    let y = rank_at(keys, start + 9);
+    (first < x) | ((x == first) & (second < y))
+}
+
+// A key's current version, or the place where the key belongs: by its head, and where that tells nothing, by the whole keys.
+fn halve_to_current(
+    rows: &[u64],
+    keys: &[u8],
+    used: usize,
+    key: &[u8],
+    first: u64,
+    second: u64,
+    need: usize,
+) -> Found
+    requires { ⌜ Searchable (now rows) (now keys) used × IsHead (now key) first second need ⌝ }
+    ensures { λ r. ⌜ r ≡ currentIn (now (key .entry)) (rowsOf (now (rows .entry)) (now (keys .entry)) used) ⌝ }
+{
+    let mut low = 0;
+    let mut high = used;
+    let mut found = false;
+    while low < high {
+        let middle = low + (high - low) / 2;
+        if is_less(keys, middle, key, first, second, need) {
+            low = middle + 1;
+        } else if is_more(keys, middle, key, first, second, need) {
+            high = middle;
+            found = false;
+        } else {
+            let o = order_at(keys, middle, key);
+            match o {
+                Order::Before => {
+                    low = middle + 1;
+                }
+                Order::Same => {
+                    high = middle;
+                    found = true;
+                }
+                Order::After => {
+                    high = middle;
+                    found = false;
+                }
+            }
         }
     }
-    order_at(keys, at, key)
+    if found {
+        return Found::At(low);
+    }
+    Found::Place(low)
 }
 
 // A key's current version, which is its first row, or the place where the key belongs. The keys alone decide; the rows stand for the contract.
@@ -161,30 +227,9 @@ pub fn find_current(rows: &[u64], keys: &[u8], used: usize, key: &[u8]) -> Found
     ensures { λ r. ⌜ r ≡ currentIn (now (key .entry)) (rowsOf (now (rows .entry)) (now (keys .entry)) used) ⌝ }
 {
     let first = first_rank(key);
-    let mut low = 0;
-    let mut high = used;
-    let mut found = false;
-    while low < high {
-        let middle = low + (high - low) / 2;
-        let o = order_by_rank(keys, middle, key, first);
-        match o {
-            Order::Before => {
-                low = middle + 1;
-            }
-            Order::Same => {
-                high = middle;
-                found = true;
-            }
-            Order::After => {
-                high = middle;
-                found = false;
-            }
-        }
-    }
-    if found {
-        return Found::At(low);
-    }
-    Found::Place(low)
+    let second = second_rank(key);
+    let need = shorter(16, key.len() + 1);
+    halve_to_current(rows, keys, used, key, first, second, need)
 }
 
 // Where a key's rows start or would start.
@@ -199,37 +244,62 @@ pub fn key_place(rows: &[u64], keys: &[u8], used: usize, key: &[u8]) -> usize
     }
 }
 
+// A key's version, or the place where it belongs, the same way.
+fn halve_to_version(
+    rows: &[u64],
+    keys: &[u8],
+    used: usize,
+    key: &[u8],
+    version: u64,
+    first: u64,
+    second: u64,
+    need: usize,
+) -> Found
+    requires { ⌜ Searchable (now rows) (now keys) used × IsHead (now key) first second need ⌝ }
+    ensures { λ r. ⌜ r ≡ versionIn (now (key .entry)) version (rowsOf (now (rows .entry)) (now (keys .entry)) used) ⌝ }
+{
+    let mut low = 0;
+    let mut high = used;
+    while low < high {
+        let middle = low + (high - low) / 2;
+        if is_less(keys, middle, key, first, second, need) {
+            low = middle + 1;
+        } else if is_more(keys, middle, key, first, second, need) {
+            high = middle;
+        } else {
+            let o = order_at(keys, middle, key);
+            match o {
+                Order::Before => {
+                    low = middle + 1;
+                }
+                Order::Same => {
+                    let at = 8 * middle;
+                    let number = rows[at];
+                    if number == version {
+                        return Found::At(middle);
+                    }
+                    if version < number {
+                        low = middle + 1;
+                    } else {
+                        high = middle;
+                    }
+                }
+                Order::After => {
+                    high = middle;
+                }
+            }
+        }
+    }
+    Found::Place(low)
+}
+
 // A key's version, or the place where it belongs.
 pub fn find_version(rows: &[u64], keys: &[u8], used: usize, key: &[u8], version: u64) -> Found
     requires { ⌜ Searchable (now rows) (now keys) used ⌝ }
     ensures { λ r. ⌜ r ≡ versionIn (now (key .entry)) version (rowsOf (now (rows .entry)) (now (keys .entry)) used) ⌝ }
 {
     let first = first_rank(key);
-    let mut low = 0;
-    let mut high = used;
-    while low < high {
-        let middle = low + (high - low) / 2;
-        let o = order_by_rank(keys, middle, key, first);
-        match o {
-            Order::Before => {
-                low = middle + 1;
-            }
-            Order::Same => {
-                let at = 8 * middle;
-                let number = rows[at];
-                if number == version {
-                    return Found::At(middle);
-                }
-                if version < number {
-                    low = middle + 1;
-                } else {
-                    high = middle;
-                }
-            }
-            Order::After => {
-                high = middle;
-            }
-        }
-    }
-    Found::Place(low)
+    let second = second_rank(key);
+    let need = shorter(16, key.len() + 1);
+    halve_to_version(rows, keys, used, key, version, first, second, need)
 }
