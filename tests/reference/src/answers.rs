@@ -1,16 +1,22 @@
 //! The answers of accepted lines, and refusals in print.
-use crate::bucket::{Block, Bucket, Row, BODY, CREATED, DATA, HOLD, KIND, LENGTH, MODE, UNTIL, VERSION};
+use crate::bucket::{
+    Block, Bucket, Row, BODY, CREATED, DATA, HOLD, KIND, LENGTH, MAX_KEY, MODE, UNTIL, VERSION,
+};
+use crate::bytes::{each, eight_digits};
 use crate::dates;
 use crate::pages::Page;
 use crate::reports::Totals;
 use crate::requests::{COMPLIANCE, GOVERNANCE};
 use crate::sweep::Counts;
 
+/// The first number that has more than eight digits.
+const EIGHT: u64 = 100_000_000;
+
 /// The least bytes that an answer buffer must have.
 pub const LEAST_BUFFER: usize = 256;
 
 /// The least bytes that the answer buffer of a page of so many rows must have.
-pub fn page_buffer(count: usize) -> usize {
+pub const fn page_buffer(count: usize) -> usize {
     256 + 256 * count
 }
 
@@ -19,9 +25,13 @@ pub enum Answer {
     Plain,
     Added(u64),
     Marked(u64),
-    Removed { number: u64, marker: bool },
+    Removed {
+        number: u64,
+        marker: bool,
+    },
     Swept(Counts),
-    Got(Row),
+    /// The row at a place.
+    Got(usize),
     Listed(Page),
     Reported(Totals),
 }
@@ -36,38 +46,74 @@ impl Answer {
     }
 }
 
-/// A buffer that is filled from its start.
+/// Room for an answer's first line, which has 99 bytes at most, and for what is written behind it.
+const FIRST_LINE: usize = 128;
+/// Room for a row's line, which has 192 bytes at most, and for what is written behind it.
+const ROW_LINE: usize = 256;
+
+/// A buffer that is filled from its start. What is written may have bytes behind it that count for nothing.
 struct Writer<'a> {
     buffer: &'a mut [u8],
     length: usize,
 }
 
 impl Writer<'_> {
-    fn text(&mut self, text: &[u8]) {
-        self.buffer[self.length..self.length + text.len()].copy_from_slice(text);
-        self.length += text.len();
+    /// Writes bytes of which only the first so many count.
+    #[inline(always)]
+    fn put<const N: usize>(&mut self, bytes: [u8; N], count: usize) {
+        self.buffer[self.length..self.length + N].copy_from_slice(&bytes);
+        self.length += count;
     }
 
-    fn word(&mut self, word: &[u8]) {
+    #[inline(always)]
+    fn text<const N: usize>(&mut self, text: &[u8; N]) {
+        self.put(*text, N);
+    }
+
+    #[inline(always)]
+    fn word<const N: usize>(&mut self, word: &[u8; N]) {
         self.text(b"\t");
         self.text(word);
     }
 
-    fn number(&mut self, mut value: u64) {
-        let mut digits = [0; 20];
-        let mut at = digits.len();
-        while value >= 10 {
-            at -= 2;
-            dates::put_two(&mut digits[at..at + 2], value % 100);
-            value /= 100;
+    /// Writes a number by eight digits at a time, the first ones without leading zeros.
+    #[inline(always)]
+    fn number(&mut self, value: u64) {
+        self.text(b"\t");
+        if value < EIGHT {
+            self.first_digits(value);
+        } else if value < EIGHT * EIGHT {
+            self.first_digits(value / EIGHT);
+            self.eight_digits(value % EIGHT);
+        } else {
+            self.first_digits(value / EIGHT / EIGHT);
+            self.eight_digits(value / EIGHT % EIGHT);
+            self.eight_digits(value % EIGHT);
         }
-        if value > 0 || at == digits.len() {
-            at -= 1;
-            digits[at] = b'0' + value as u8;
-        }
-        self.word(&digits[at..]);
     }
 
+    #[inline(always)]
+    fn first_digits(&mut self, value: u64) {
+        let digits = eight_digits(value);
+        // The last digit stays, be it a zero.
+        let zeros = (digits | 1 << 63).trailing_zeros() / 8;
+        self.put(((digits + each(b'0')) >> (8 * zeros)).to_le_bytes(), 8 - zeros as usize);
+    }
+
+    #[inline(always)]
+    fn eight_digits(&mut self, value: u64) {
+        self.text(&(eight_digits(value) + each(b'0')).to_le_bytes());
+    }
+
+    #[inline(always)]
+    fn date(&mut self, instant: u64) {
+        self.text(b"\t");
+        let room = &mut self.buffer[self.length..self.length + dates::PRINTED];
+        dates::put(room.try_into().expect("the room has a date's length"), instant);
+        self.length += dates::PRINTED;
+    }
+
+    #[inline(always)]
     fn row(&mut self, row: &Row) {
         self.number(row[VERSION]);
         self.number(row[BODY]);
@@ -76,6 +122,7 @@ impl Writer<'_> {
     }
 
     /// Mode and date, each `-` where there is none, and hold.
+    #[inline(always)]
     fn lock(&mut self, row: &Row) {
         match row[MODE] {
             GOVERNANCE => self.word(b"GOVERNANCE"),
@@ -85,21 +132,29 @@ impl Writer<'_> {
         if row[MODE] == 0 {
             self.word(b"-");
         } else {
-            self.word(&dates::print(row[UNTIL]));
+            self.date(row[UNTIL]);
         }
-        self.word(if row[HOLD] == 1 { b"ON" } else { b"OFF" });
+        if row[HOLD] == 1 {
+            self.word(b"ON");
+        } else {
+            self.word(b"OFF");
+        }
     }
 
     /// A row's line in a page.
     fn listed(&mut self, key: &Block, row: &Row) {
-        self.text(&key[1..=key[0] as usize]);
+        let mut bytes = [0; MAX_KEY];
+        bytes.copy_from_slice(&key[1..]);
+        self.put(bytes, key[0] as usize);
         self.number(row[VERSION]);
-        self.word(if row[KIND] == DATA { b"data" } else { b"marker" });
-        self.word(&dates::print(row[CREATED]));
         if row[KIND] == DATA {
+            self.word(b"data");
+            self.date(row[CREATED]);
             self.number(row[BODY]);
             self.number(row[LENGTH]);
         } else {
+            self.word(b"marker");
+            self.date(row[CREATED]);
             self.word(b"-");
             self.word(b"-");
         }
@@ -107,50 +162,79 @@ impl Writer<'_> {
         self.text(b"\n");
     }
 
-    fn page(&mut self, bucket: &Bucket, page: &Page) {
-        for at in page.from..page.from + page.rows {
-            self.listed(&bucket.keys[at], &bucket.rows[at]);
+    /// An answer's first line, which is all of it but for a page.
+    #[inline(always)]
+    fn first_line(&mut self, answer: &Answer, bucket: &Bucket) {
+        self.text(b"ok");
+        match *answer {
+            Answer::Plain => {}
+            Answer::Added(number) => self.number(number),
+            Answer::Marked(number) => {
+                self.number(number);
+                self.word(b"marker");
+            }
+            Answer::Removed { number, marker } => {
+                self.number(number);
+                self.word(b"removed");
+                if marker {
+                    self.text(b"-marker");
+                }
+            }
+            Answer::Swept(counts) => {
+                self.number(counts.removed as u64);
+                self.number(counts.added as u64);
+            }
+            Answer::Got(at) => self.row(&bucket.rows[at]),
+            Answer::Listed(page) => self.number(page.rows as u64),
+            Answer::Reported(Totals { data, markers, length, locked }) => {
+                [data, markers, length, locked].into_iter().for_each(|number| self.number(number));
+            }
         }
+        self.text(b"\n");
     }
 }
 
+/// Writes lines at the start of a buffer by way of a room of their own, so that nothing behind them is touched.
+#[inline(always)]
+fn exactly<const ROOM: usize>(buffer: &mut [u8], write: impl FnOnce(&mut Writer)) -> usize {
+    let mut room = [0; ROOM];
+    let mut writer = Writer { buffer: &mut room, length: 0 };
+    write(&mut writer);
+    let length = writer.length;
+    buffer[..length].copy_from_slice(&room[..length]);
+    length
+}
+
 /// Writes an answer at the start of a buffer that is not too short for it, and says how long it is.
+#[inline]
 pub fn write(answer: &Answer, bucket: &Bucket, buffer: &mut [u8]) -> usize {
-    let mut writer = Writer { buffer, length: 0 };
-    writer.text(b"ok");
     match answer {
-        Answer::Plain => {}
-        Answer::Added(number) => writer.number(*number),
-        Answer::Marked(number) => {
-            writer.number(*number);
-            writer.word(b"marker");
-        }
-        Answer::Removed { number, marker } => {
-            writer.number(*number);
-            writer.word(if *marker { b"removed-marker" } else { b"removed" });
-        }
-        Answer::Swept(counts) => {
-            writer.number(counts.removed as u64);
-            writer.number(counts.added as u64);
-        }
-        Answer::Got(row) => writer.row(row),
-        Answer::Listed(page) => writer.number(page.rows as u64),
-        Answer::Reported(Totals { data, markers, length, locked }) => {
-            [data, markers, length, locked].into_iter().for_each(|number| writer.number(*number));
-        }
+        Answer::Listed(page) if page.rows > 0 => write_page(answer, page, bucket, buffer),
+        _ => exactly::<FIRST_LINE>(buffer, |writer| writer.first_line(answer, bucket)),
     }
-    writer.text(b"\n");
-    if let Answer::Listed(page) = answer {
-        writer.page(bucket, page);
+}
+
+/// Writes a page that has rows. What comes to stand behind a line is overwritten by the next one, which is longer; only behind
+/// the last one nothing may.
+fn write_page(answer: &Answer, page: &Page, bucket: &Bucket, buffer: &mut [u8]) -> usize {
+    let last = page.from + page.rows - 1;
+    let mut writer = Writer { buffer, length: 0 };
+    writer.first_line(answer, bucket);
+    for at in page.from..last {
+        writer.listed(&bucket.keys[at], &bucket.rows[at]);
     }
-    writer.length
+    let length = writer.length;
+    length
+        + exactly::<ROW_LINE>(&mut buffer[length..], |writer| {
+            writer.listed(&bucket.keys[last], &bucket.rows[last])
+        })
 }
 
 /// Writes a refusal as the program prints it.
 pub fn write_refusal(number: u64, buffer: &mut [u8]) -> usize {
-    let mut writer = Writer { buffer, length: 0 };
-    writer.text(b"no");
-    writer.number(number);
-    writer.text(b"\n");
-    writer.length
+    exactly::<FIRST_LINE>(buffer, |writer| {
+        writer.text(b"no");
+        writer.number(number);
+        writer.text(b"\n");
+    })
 }

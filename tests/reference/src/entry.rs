@@ -39,17 +39,12 @@ impl Bucket {
         if !lengths_fit(rows, keys) {
             return None;
         }
-        let mut bucket = Bucket::fresh(rows.len() / ROW_BYTES);
-        bucket.settings = Settings::from_bytes(settings);
-        for (row, bytes) in bucket.rows.iter_mut().zip(rows.chunks_exact(ROW_BYTES)) {
-            for (number, eight) in row.iter_mut().zip(bytes.chunks_exact(8)) {
-                *number = word(eight);
-            }
-        }
-        for (key, bytes) in bucket.keys.iter_mut().zip(keys.chunks_exact(ROW_BYTES)) {
-            key.copy_from_slice(bytes);
-        }
-        Some(bucket)
+        let row = |bytes: &[u8]| std::array::from_fn(|number| word(&bytes[8 * number..8 * number + 8]));
+        Some(Bucket {
+            settings: Settings::from_bytes(settings),
+            rows: rows.chunks_exact(ROW_BYTES).map(row).collect(),
+            keys: keys.as_chunks().0.to_vec(),
+        })
     }
 
     /// Writes the bucket over bytes whose lengths fit it.

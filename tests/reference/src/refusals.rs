@@ -25,70 +25,70 @@ pub fn refuse(when: bool, number: u64) -> Result<(), u64> {
     }
 }
 
-/// Whether exactly one of mode and date (or period) is missing.
-fn half_given(verb: &Verb) -> bool {
-    match verb {
-        Verb::Put { retention, .. } | Verb::Copy { retention, .. } | Verb::Retain { retention, .. } => {
-            retention.mode.is_some() != retention.date.is_some()
-        }
-        Verb::Default { mode, period } => mode.is_some() != period.is_some(),
-        _ => false,
-    }
+/// What a verb's own fields say of refusals 4, 5, 13 and 6.
+struct Asked {
+    /// Whether exactly one of mode and date (or period) is missing.
+    half_given: bool,
+    /// The rights that it needs.
+    rights: u8,
+    /// The rows that a page asks for, be they there or not.
+    rows: usize,
+    /// The date that is given.
+    date: Option<u64>,
 }
 
-/// The rights that giving a mode and a hold asks for.
-fn lock_rights(retention: &Retention, hold: &Option<bool>) -> u8 {
-    let mut needed = 0;
-    if retention.mode.is_some() {
-        needed |= right::RETENTION;
-    }
-    if hold.is_some() {
-        needed |= right::LEGAL_HOLD;
-    }
-    needed
+/// A verb that only asks for rights.
+fn asking(rights: u8) -> Asked {
+    Asked { half_given: false, rights, rows: 0, date: None }
 }
 
-fn bypass_right(bypass: bool) -> u8 {
-    if bypass {
-        right::BYPASS
+/// A verb that gives a mode and a date, or neither, and asks for rights.
+fn giving(retention: &Retention, rights: u8) -> Asked {
+    let Retention { mode, date } = *retention;
+    Asked { half_given: mode.is_some() != date.is_some(), rights, rows: 0, date }
+}
+
+/// The rights that a new row's mode and hold ask for.
+fn lock_rights(retention: &Retention, hold: Option<bool>) -> u8 {
+    given(retention.mode.is_some(), right::RETENTION) | given(hold.is_some(), right::LEGAL_HOLD)
+}
+
+/// A right that is asked for where something is given.
+fn given(is_given: bool, right: u8) -> u8 {
+    if is_given {
+        right
     } else {
         0
     }
 }
 
-fn needed_rights(verb: &Verb) -> u8 {
+#[inline(always)]
+fn asked(verb: &Verb) -> Asked {
     match verb {
-        Verb::Put { retention, hold, .. } => right::WRITE | lock_rights(retention, hold),
-        Verb::Copy { retention, hold, .. } => right::READ | right::WRITE | lock_rights(retention, hold),
-        Verb::Retain { bypass, .. } => right::RETENTION | bypass_right(*bypass),
-        Verb::Hold { .. } => right::LEGAL_HOLD,
-        Verb::Delete { bypass, .. } => right::DELETE | bypass_right(*bypass),
-        Verb::Default { .. } | Verb::Rule { .. } | Verb::Sweep => right::CONFIGURE,
-        Verb::Get { .. } | Verb::List { .. } | Verb::Report { .. } => right::READ,
-    }
-}
-
-fn given_date(verb: &Verb) -> Option<u64> {
-    match verb {
-        Verb::Put { retention, .. } | Verb::Copy { retention, .. } | Verb::Retain { retention, .. } => {
-            retention.date
+        Verb::Put { retention, hold, .. } => giving(retention, right::WRITE | lock_rights(retention, *hold)),
+        Verb::Copy { retention, hold, .. } => {
+            giving(retention, right::READ | right::WRITE | lock_rights(retention, *hold))
         }
-        _ => None,
-    }
-}
-
-/// Whether a page's answer buffer has too few bytes for the rows that it asks for, be they there or not.
-fn short_for_page(verb: &Verb, room: usize) -> bool {
-    match verb {
-        Verb::List { count, .. } => room < page_buffer(*count),
-        _ => false,
+        Verb::Retain { retention, bypass, .. } => {
+            giving(retention, right::RETENTION | given(*bypass, right::BYPASS))
+        }
+        Verb::Hold { .. } => asking(right::LEGAL_HOLD),
+        Verb::Delete { bypass, .. } => asking(right::DELETE | given(*bypass, right::BYPASS)),
+        Verb::Default { mode, period } => {
+            Asked { half_given: mode.is_some() != period.is_some(), ..asking(right::CONFIGURE) }
+        }
+        Verb::Rule { .. } | Verb::Sweep => asking(right::CONFIGURE),
+        Verb::Get { .. } | Verb::Report { .. } => asking(right::READ),
+        Verb::List { count, .. } => Asked { rows: *count, ..asking(right::READ) },
     }
 }
 
 /// Refusals 4 and 5, then 13, then 6, for an answer buffer of so many bytes.
+#[inline(always)]
 pub fn screen(request: &Request, now: u64, room: usize) -> Result<(), u64> {
-    refuse(half_given(&request.verb), HALF_GIVEN)?;
-    refuse(needed_rights(&request.verb) & !request.rights != 0, NO_RIGHT)?;
-    refuse(short_for_page(&request.verb, room), SHORT_FOR_PAGE)?;
-    refuse(given_date(&request.verb).is_some_and(|date| date <= now), DATE_PASSED)
+    let asked = asked(&request.verb);
+    refuse(asked.half_given, HALF_GIVEN)?;
+    refuse(asked.rights & !request.rights != 0, NO_RIGHT)?;
+    refuse(room < page_buffer(asked.rows), SHORT_FOR_PAGE)?;
+    refuse(asked.date.is_some_and(|date| date <= now), DATE_PASSED)
 }

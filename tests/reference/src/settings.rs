@@ -1,6 +1,6 @@
 //! "Rows and settings": the settings by value, and as 688 bytes.
 use crate::bucket::{self, Block};
-use crate::dates;
+use crate::{bytes, dates};
 
 pub const BYTES: usize = 688;
 pub const MAX_DAYS: u64 = 36500;
@@ -124,7 +124,5 @@ impl Settings {
 
 /// The number that 8 bytes say, the lowest first.
 pub fn word(bytes: &[u8]) -> u64 {
-    let mut eight = [0; 8];
-    eight.copy_from_slice(bytes);
-    u64::from_le_bytes(eight)
+    bytes::word(bytes, 0)
 }

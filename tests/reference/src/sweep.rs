@@ -1,8 +1,9 @@
 //! SWEEP: judged on the table before the line, then carried out without a second table.
 use crate::bucket::{Block, Bucket, Row, CREATED, DATA, KIND, MARKER, MAX_CAPACITY};
-use crate::dates::{up_to_midnight, DAY};
+use crate::bytes::{same_64, word};
+use crate::dates::DAY;
 use crate::locks::locked;
-use crate::settings::{word, Rule, Settings};
+use crate::settings::{Rule, Settings};
 
 /// The rows that a sweep takes out, the markers that it adds, and how often it compares a rule's prefix with a key.
 #[derive(Clone, Copy, Debug, Default, PartialEq, Eq)]
@@ -12,25 +13,28 @@ pub struct Counts {
     pub comparisons: u64,
 }
 
-/// A rule that is set, with the first eight bytes of its prefix and a mask of those that it has: most keys differ there.
+/// A rule that is set, with the last eight bytes of its prefix, or all of them with a mask, and their place: most keys differ there.
 #[derive(Clone, Copy)]
 struct SetRule<'a> {
     rule: &'a Rule,
-    first: u64,
+    place: usize,
+    last: u64,
     mask: u64,
 }
 
 impl<'a> SetRule<'a> {
     fn of(rule: &'a Rule) -> SetRule<'a> {
-        let length = u32::from(rule.prefix[0].min(8));
-        let mask = u64::MAX.checked_shr(64 - 8 * length).unwrap_or(0);
-        SetRule { rule, first: word(&rule.prefix[1..9]), mask }
+        let length = usize::from(rule.prefix[0]);
+        let place = 1 + length.saturating_sub(8);
+        let mask = u64::MAX.checked_shr(64 - 8 * length.min(8) as u32).unwrap_or(0);
+        SetRule { rule, place, last: word(&rule.prefix, place), mask }
     }
 
     /// Whether the rule's prefix begins a key: a sweep compares the two only here, so that each comparison is counted.
+    #[inline(always)]
     fn compare(&self, key: &Block, comparisons: &mut u64) -> bool {
         *comparisons += 1;
-        (self.first ^ word(&key[1..9])) & self.mask == 0 && self.rule.covers(key)
+        (self.last ^ word(key, self.place)) & self.mask == 0 && (self.place == 1 || self.rule.covers(key))
     }
 }
 
@@ -67,6 +71,7 @@ impl Days {
     const NONE: Days = Days { current: NEVER, noncurrent: NEVER };
 
     /// The days of a key, by one comparison with each of the rules.
+    #[inline(always)]
     fn of(rules: &[SetRule], key: &Block, comparisons: &mut u64) -> Days {
         let mut days = Days::NONE;
         for set in rules {
@@ -79,19 +84,14 @@ impl Days {
     }
 }
 
-/// Whether the days after a creation are over: they end at a midnight.
-fn due(created: u64, days: u64, now: u64) -> bool {
-    days != NEVER && now >= up_to_midnight(created + days * DAY)
-}
-
-/// Whether a row that isn't current goes, given the next newer row of its key.
-fn goes(row: &Row, newer: &Row, days: Days, now: u64) -> bool {
-    due(newer[CREATED], days.noncurrent, now) && !locked(row, now, false)
-}
-
-/// Whether a current row gains a marker.
-fn gains(row: &Row, days: Days, now: u64) -> bool {
-    row[KIND] == DATA && due(row[CREATED], days.current, now)
+/// The last creation after which so many days are over, if any are. Days end at a midnight, so they are over just if they would
+/// be at the last midnight without being rounded.
+#[inline(always)]
+fn last_due(days: u64, midnight: u64) -> Option<u64> {
+    if days == NEVER {
+        return None;
+    }
+    midnight.checked_sub(days * DAY)
 }
 
 /// What a sweep does with a row.
@@ -102,26 +102,70 @@ enum Fate {
     Gains,
 }
 
+/// Whether a current row gains a marker.
+#[inline(always)]
+fn gains(row: &Row, last_due: Option<u64>) -> bool {
+    row[KIND] == DATA && last_due.is_some_and(|last| row[CREATED] <= last)
+}
+
+/// Judges the rows of a key behind its current one by the last creation that is due, and says how many go: those whose next newer
+/// row was created by then, unless they are locked.
+#[inline(always)]
+fn judge_noncurrent(rows: &[Row], fates: &mut [Fate], last_due: u64, now: u64) -> usize {
+    let mut removed = 0;
+    let mut newer = rows[0][CREATED];
+    for (row, fate) in rows[1..].iter().zip(&mut fates[1..]) {
+        if newer <= last_due && !locked(row, now, false) {
+            *fate = Fate::Goes;
+            removed += 1;
+        }
+        newer = row[CREATED];
+    }
+    removed
+}
+
 impl Bucket {
+    /// Where the rows of a key end whose first row is at a place: by steps that double, and then by halves.
+    #[inline(always)]
+    fn end_of_key(&self, first: usize) -> usize {
+        let keys = &self.keys[..self.used()];
+        let key = &keys[first];
+        let (mut low, mut step) = (first + 1, 1);
+        while low + step <= keys.len() && same_64(&keys[low + step - 1], key) {
+            low += step;
+            step *= 2;
+        }
+        let mut high = keys.len().min(low + step - 1);
+        while low < high {
+            let middle = (low + high) / 2;
+            if same_64(&keys[middle], key) {
+                low = middle + 1;
+            } else {
+                high = middle;
+            }
+        }
+        low
+    }
+
     /// Each row's fate in a sweep at this now, and what the sweep comes to. A key's rows stand together, so that the rules are
-    /// compared with it at its first row alone.
+    /// compared with it once.
     fn judge(&self, now: u64, fates: &mut [Fate; MAX_CAPACITY]) -> Counts {
         let mut room = [SetRule::of(&Rule::ABSENT); 8];
         let rules = set_rules(&self.settings, &mut room);
+        let midnight = now - now % DAY;
         let mut counts = Counts::default();
-        let mut days = Days::NONE;
-        for at in 0..self.used() {
-            let (row, key) = (&self.rows[at], &self.keys[at]);
-            if at == 0 || self.keys[at - 1] != *key {
-                days = Days::of(rules, key, &mut counts.comparisons);
-                if gains(row, days, now) {
-                    fates[at] = Fate::Gains;
-                    counts.added += 1;
-                }
-            } else if goes(row, &self.rows[at - 1], days, now) {
-                fates[at] = Fate::Goes;
-                counts.removed += 1;
+        let mut first = 0;
+        while first < self.used() {
+            let end = self.end_of_key(first);
+            let days = Days::of(rules, &self.keys[first], &mut counts.comparisons);
+            if gains(&self.rows[first], last_due(days.current, midnight)) {
+                fates[first] = Fate::Gains;
+                counts.added += 1;
             }
+            if let Some(last) = last_due(days.noncurrent, midnight) {
+                counts.removed += judge_noncurrent(&self.rows[first..end], &mut fates[first..end], last, now);
+            }
+            first = end;
         }
         counts
     }

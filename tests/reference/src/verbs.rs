@@ -3,6 +3,7 @@ use crate::answers::Answer;
 use crate::bucket::{
     block, Block, Bucket, Row, BODY, DATA, HOLD, KIND, LENGTH, MARKER, MODE, UNTIL, VERSION,
 };
+use crate::bytes::same_64;
 use crate::dates;
 use crate::locks::{admits, locked};
 use crate::refusals::{refuse, DATE_TOO_FAR, FULL, IS_MARKER, LOCKED, NO_ROW, NUMBERS_SPENT};
@@ -47,12 +48,13 @@ impl Bucket {
                 Ok(Answer::Plain)
             }
             Verb::Sweep => self.sweep(now).map(Answer::Swept),
-            Verb::Get { name } => Ok(Answer::Got(self.rows[self.named_data(name)?])),
+            Verb::Get { name } => self.named_data(name).map(Answer::Got),
             Verb::List { prefix, after, count } => Ok(Answer::Listed(self.page(prefix, after, count))),
             Verb::Report { prefix } => Ok(Answer::Reported(self.report(prefix, now))),
         }
     }
 
+    #[inline(always)]
     fn named(&self, name: Name) -> Result<usize, u64> {
         self.find(&block(name.key), name.version).ok_or(NO_ROW)
     }
@@ -63,6 +65,7 @@ impl Bucket {
         Ok(at)
     }
 
+    #[inline(always)]
     fn top(&self, key: &[u8]) -> Top {
         let key = block(key);
         Top { at: self.first_place(&key), key }
@@ -70,7 +73,7 @@ impl Bucket {
 
     /// The number of the key's current row, if it is data with the same body and length: then a PUT is a retry.
     fn retried(&self, top: &Top, body: u64, length: u64) -> Option<u64> {
-        if self.keys.get(top.at) != Some(&top.key) {
+        if !self.keys.get(top.at).is_some_and(|key| same_64(key, &top.key)) {
             return None;
         }
         let row = &self.rows[top.at];
@@ -84,6 +87,7 @@ impl Bucket {
     }
 
     /// Adds a row with the next number before the key's other rows.
+    #[inline(always)]
     fn add(&mut self, top: Top, mut row: Row) -> Result<u64, u64> {
         self.fits(0, 1)?;
         let number = self.settings.next;
@@ -107,6 +111,7 @@ impl Bucket {
         Ok([default.mode, date])
     }
 
+    #[inline(always)]
     fn put(
         &mut self,
         top: Top,

@@ -1,13 +1,9 @@
 //! Serves the lines of standard input on a fresh bucket and prints each answer.
-use std::io::{self, BufReader, BufWriter, ErrorKind};
+use std::io::{self, ErrorKind};
 use std::process::ExitCode;
 
-const BUFFER: usize = 65536;
-
 fn main() -> ExitCode {
-    let input = BufReader::with_capacity(BUFFER, io::stdin().lock());
-    let output = BufWriter::with_capacity(BUFFER, io::stdout().lock());
-    match reference::program::run(input, output) {
+    match reference::program::run(io::stdin().lock(), io::stdout().lock()) {
         Ok(()) => ExitCode::SUCCESS,
         Err(error) if error.kind() == ErrorKind::BrokenPipe => ExitCode::SUCCESS,
         Err(error) => {

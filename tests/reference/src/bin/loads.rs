@@ -1,11 +1,12 @@
 //! Writes a load: request lines that fill a table and then go on around so many rows, the same for each run.
 //!
-//! `loads NAME ROWS LINES` prints the lines; the share that the reference accepts goes to standard error.
+//! `loads NAME ROWS LINES [SHAPE [SEED]]` prints the lines; the share that the reference accepts goes to standard error. The shape
+//! of the keys is `usual` and the seed 1 where they are not given.
 //!
 //! `loads swept ROWS LINES KEYS RULES` prints 0 to 8 rules, then ROWS lines that spread rows evenly over so many different keys,
 //! and then LINES sweeps, which change no row: with LINES 0 it is what stands before the sweeps.
 use reference::answers::page_buffer;
-use reference::bucket::{DATA, KIND, UNTIL, VERSION};
+use reference::bucket::{block, DATA, KIND, UNTIL, VERSION};
 use reference::locks::locked;
 use reference::{dates, Bucket};
 use std::collections::BTreeSet;
@@ -20,14 +21,20 @@ const CAPACITY: usize = 1024;
 const START: u64 = 1704067200000;
 const PREFIXES: [&str; 8] =
     ["gauge/", "hub-7/", "level/east/", "level/west/", "log/2024/", "q/", "rain/", "calib."];
+/// What short keys start with.
+const SHORT: [&str; 8] = ["g", "h", "k", "l", "m", "q", "r", "c"];
+/// What long keys start with before one of the prefixes: 48 bytes.
+const LONG: &str = "region-north/catchment-of-the-upper-river/plant/";
 const USAGE: &str =
-    "usage: loads NAME ROWS LINES, or loads swept ROWS LINES KEYS RULES (1 to ROWS keys, 0 to 8 rules)";
+    "usage: loads NAME ROWS LINES [usual|short|long|one|hundred [SEED]], or loads swept ROWS LINES KEYS RULES (1 to ROWS keys, 0 to 8 rules)";
 const LETTERS: &[u8; 36] = b"abcdefghijklmnopqrstuvwxyz0123456789";
 
 /// What a load needs to name rows that are there: the bucket that its lines have made so far.
 struct Load {
     bucket: Bucket,
     random: Random,
+    shape: Shape,
+    prefixes: [String; 8],
     keys: Vec<String>,
     clock: u64,
     /// The milliseconds between two lines.
@@ -37,13 +44,71 @@ struct Load {
     rules: usize,
 }
 
-fn key(random: &mut Random) -> String {
-    let length = 8 + random.below(17);
-    let mut key = random.pick(&PREFIXES).to_string();
-    while key.len() < length {
-        key.push(char::from(random.pick(LETTERS)));
+/// What the keys of a load are like.
+#[derive(Clone, Copy, PartialEq, Eq)]
+enum Shape {
+    /// 8 to 24 bytes, about two versions each.
+    Usual,
+    /// 1 to 4 bytes.
+    Short,
+    /// 63 bytes, of which the first 48 are the same.
+    Long,
+    /// As usual, but only keys without rows are put.
+    One,
+    /// As usual, but about a hundred versions each.
+    Hundred,
+}
+
+impl Shape {
+    fn read(word: &str) -> Option<Shape> {
+        match word {
+            "usual" => Some(Shape::Usual),
+            "short" => Some(Shape::Short),
+            "long" => Some(Shape::Long),
+            "one" => Some(Shape::One),
+            "hundred" => Some(Shape::Hundred),
+            _ => None,
+        }
     }
-    key
+
+    /// The different beginnings of the keys.
+    fn prefixes(self) -> [String; 8] {
+        match self {
+            Shape::Short => SHORT.map(String::from),
+            Shape::Long => PREFIXES.map(|prefix| format!("{LONG}{prefix}")),
+            _ => PREFIXES.map(String::from),
+        }
+    }
+
+    /// The fewest bytes of a key, and how many more it may have.
+    fn lengths(self) -> (usize, usize) {
+        match self {
+            Shape::Short => (1, 3),
+            Shape::Long => (63, 0),
+            _ => (8, 16),
+        }
+    }
+
+    /// How many keys a load has whose table has so many rows.
+    fn keys(self, name: &str, rows: usize) -> usize {
+        match (self, name) {
+            (Shape::One, _) => 2 * rows.max(CAPACITY),
+            (Shape::Hundred, _) => rows.div_ceil(100),
+            (_, "sweeps") => rows * 5 / 8,
+            (_, "pages" | "reports" | "pages-10" | "pages-255" | "totals") => rows.div_ceil(4),
+            _ => rows.div_ceil(2),
+        }
+    }
+
+    fn key(self, random: &mut Random, prefixes: &[String; 8]) -> String {
+        let (least, more) = self.lengths();
+        let length = least + random.below(more + 1);
+        let mut key = prefixes[random.below(8)].clone();
+        while key.len() < length {
+            key.push(char::from(random.pick(LETTERS)));
+        }
+        key
+    }
 }
 
 /// A date as clocks write it: without a fraction where it is a whole second.
@@ -54,17 +119,14 @@ fn date(instant: u64) -> String {
 }
 
 impl Load {
-    fn new(name: &str, rows: usize) -> Load {
-        let mut random = Random::new(1, 1);
-        let count = match name {
-            "sweeps" => rows * 5 / 8,
-            "pages" | "reports" => rows.div_ceil(4),
-            _ => rows.div_ceil(2),
-        };
-        let keys = (0..count).map(|_| key(&mut random)).collect();
+    fn new(name: &str, rows: usize, shape: Shape, seed: u64) -> Load {
+        let mut random = Random::new(seed, 1);
+        let prefixes = shape.prefixes();
+        let keys = (0..shape.keys(name, rows)).map(|_| shape.key(&mut random, &prefixes)).collect();
         // Days expire at midnight, so a sweep finds something to do where one has passed since the last.
         let step = if name == "sweeps" { 8 * 3600000 } else { 2000 };
-        Load { bucket: Bucket::fresh(CAPACITY), random, keys, clock: START, step, rows, rules: 0 }
+        let bucket = Bucket::fresh(CAPACITY);
+        Load { bucket, random, shape, prefixes, keys, clock: START, step, rows, rules: 0 }
     }
 
     /// A load of sweeps alone, whose keys all differ, if that many rows fit the table and that many keys the rows.
@@ -72,10 +134,10 @@ impl Load {
         if rows > CAPACITY || keys > rows || (keys == 0) != (rows == 0) || rules > PREFIXES.len() {
             return None;
         }
-        let mut load = Load { rows, rules, ..Load::new("swept", 0) };
+        let mut load = Load { rows, rules, ..Load::new("swept", 0, Shape::Usual, 1) };
         let mut different = BTreeSet::new();
         while different.len() < keys {
-            different.insert(key(&mut load.random));
+            different.insert(load.shape.key(&mut load.random, &load.prefixes));
         }
         load.keys = different.into_iter().collect();
         Some(load)
@@ -86,8 +148,21 @@ impl Load {
         self.clock + 1000 * (1 + self.random.next() % (days * 86400))
     }
 
+    /// A key to add a row to: any, or one without rows where each is to have one; then of 16 tries one nearly always finds it.
+    fn some_key(&mut self) -> usize {
+        let mut key = self.random.below(self.keys.len());
+        for _ in 0..16 {
+            if self.shape != Shape::One || self.bucket.find(&block(self.keys[key].as_bytes()), None).is_none()
+            {
+                break;
+            }
+            key = self.random.below(self.keys.len());
+        }
+        key
+    }
+
     fn put(&mut self) -> String {
-        let key = self.random.below(self.keys.len());
+        let key = self.some_key();
         self.put_to(key)
     }
 
@@ -143,7 +218,7 @@ impl Load {
     }
 
     fn mark(&mut self) -> String {
-        let key = self.random.below(self.keys.len());
+        let key = self.some_key();
         format!("d\tDELETE\t{}\t-\tno", self.keys[key])
     }
 
@@ -172,16 +247,23 @@ impl Load {
     fn list(&mut self, count: usize) -> String {
         let at = self.random.below(self.bucket.used());
         let (key, version) = (self.key_at(at), self.bucket.rows[at][VERSION]);
-        let prefix = PREFIXES.iter().find(|prefix| key.starts_with(*prefix) && self.random.once_in(2));
-        let place = if self.random.once_in(2) { "\t0".to_string() } else { format!("{key}\t{version}") };
-        format!("r\tLIST\t{}\t{place}\t{count}", prefix.unwrap_or(&""))
+        let random = &mut self.random;
+        let prefix = self.prefixes.iter().find(|prefix| key.starts_with(*prefix) && random.once_in(2));
+        let place = if random.once_in(2) { "\t0".to_string() } else { format!("{key}\t{version}") };
+        format!("r\tLIST\t{}\t{place}\t{count}", prefix.map_or("", |prefix| prefix))
+    }
+
+    /// A page of so many rows, which are there, somewhere in the table.
+    fn full_page(&mut self, count: usize) -> String {
+        let at = self.random.below(self.bucket.used().saturating_sub(count).max(1));
+        format!("r\tLIST\t\t{}\t{}\t{count}", self.key_at(at), self.bucket.rows[at][VERSION])
     }
 
     /// A key that is there; no bare prefix, which begins other keys too, unless the first tries all meet one.
     fn lone_key(&mut self) -> String {
         let mut at = self.row();
         for _ in 0..8 {
-            if !PREFIXES.contains(&&*self.key_at(at)) {
+            if !self.prefixes.contains(&self.key_at(at)) {
                 break;
             }
             at = self.row();
@@ -193,7 +275,7 @@ impl Load {
     fn report(&mut self, number: usize) -> String {
         let prefix = match number % 3 {
             0 => String::new(),
-            1 => self.random.pick(&PREFIXES).into(),
+            1 => self.prefixes[self.random.below(8)].clone(),
             _ => self.lone_key(),
         };
         format!("r\tREPORT\t{prefix}")
@@ -201,8 +283,12 @@ impl Load {
 
     /// A rule for each prefix but the last, and one for every key.
     fn rule(&mut self, number: usize) -> String {
-        let prefix = if number == 7 { "" } else { PREFIXES[number] };
-        let (current, noncurrent) = if number == 7 { (40, 12) } else { (28 + number, 8 + number / 2) };
+        let prefix = if number == 7 { "" } else { &self.prefixes[number] };
+        let (mut current, noncurrent) = if number == 7 { (40, 12) } else { (28 + number, 8 + number / 2) };
+        if self.shape == Shape::One {
+            // A marker would be a key's second row, and as many markers as there are keys would not fit.
+            current = 0;
+        }
         format!("c\tRULE\t{number}\t{prefix}\t{}\t{}", 48 * current, 48 * noncurrent)
     }
 
@@ -243,7 +329,8 @@ impl Load {
             return Some(self.rule(number));
         }
         if number < self.rows {
-            let marked = matches!(name, "pages" | "reports") && self.random.once_in(8);
+            let marked = matches!(name, "pages" | "reports" | "pages-10" | "pages-255" | "totals")
+                && self.random.once_in(8);
             return Some(if marked { self.mark() } else { self.put() });
         }
         let rows = self.rows;
@@ -257,6 +344,10 @@ impl Load {
             ("retention", _) => self.get(),
             ("pages", _) => self.list(if number % 2 == 0 { 10 } else { 200 }),
             ("reports", _) => self.report(number),
+            ("pages-10", _) => self.full_page(10),
+            ("pages-255", _) => self.full_page(255),
+            ("totals", _) => self.report(0),
+            ("sweeps", 0..=1) if self.shape == Shape::One => self.turn(rows - spread, rows + spread, 0),
             ("sweeps", 0..=1) if self.bucket.used() < CAPACITY => self.put(),
             ("sweeps", _) => "c\tSWEEP".to_string(),
             _ => return None,
@@ -266,7 +357,7 @@ impl Load {
 
 /// Writes the lines and returns how many of them the reference accepts, if the load is known.
 fn write(mut load: Load, name: &str, lines: usize, out: &mut impl Write) -> io::Result<Option<usize>> {
-    let mut answer = vec![0; page_buffer(200)];
+    let mut answer = vec![0; page_buffer(255)];
     let mut accepted = 0;
     for number in 0..lines {
         load.clock = START + load.step * number as u64;
@@ -290,14 +381,18 @@ fn main() -> io::Result<()> {
     let load = match (name.as_str(), number(3), number(4)) {
         ("swept", Some(keys), Some(rules)) => Load::swept(rows, keys, rules),
         ("swept", _, _) => None,
-        _ => Some(Load::new(name, rows)),
+        (_, _, seed) if seed.is_some() || words.len() < 5 => words
+            .get(3)
+            .map_or(Some(Shape::Usual), |word| Shape::read(word))
+            .map(|shape| Load::new(name, rows, shape, seed.unwrap_or(1) as u64)),
+        _ => None,
     };
     let Some(load) = load else { return Err(io::Error::other(USAGE)) };
     let lines = if name == "swept" { load.rules + rows + lines } else { lines };
     let mut out = BufWriter::new(io::stdout().lock());
     let Some(accepted) = write(load, name, lines, &mut out)? else {
         return Err(io::Error::other(
-            "the loads are mixed, churn, retention, sweeps, pages, reports and swept",
+            "the loads are mixed, churn, retention, sweeps, pages, pages-10, pages-255, reports, totals and swept",
         ));
     };
     out.flush()?;
