@@ -15,12 +15,15 @@ use Rattle.blocks.proofs.Blocks.{block-block}
 use Rattle.model.specs.Rows.{soundRow}
 use Rattle.model.specs.Settings.{sound, fits}
 use Rattle.settings.specs.declared.Settings.{Settings}
+use Rattle.settings.specs.declared.State.{State}
+use Rattle.settings.specs.Bytes.{rulesOf}
+use Rattle.settings.specs.State.{stateOf}
 use Rattle.settings.specs.Meaning.{prefixesAre, settingsSound}
 use Rattle.table.specs.Layout.{rowAt, rowsOf, capacity}
 use Rattle.table.specs.Places.{keyAt}
 use Rattle.table.proofs.Held.{numbers-laying, keys-laying, rows-length, held-block, held-fit, held-first}
 use Rattle.bucket.specs.Steps.{allBelow, zeros, numbersAt, isKeyBlock, blockAt, keyedAt, aheadAt, soundKeys, soundTable}
-use Rattle.bucket.specs.Whole.{lent, bucketOf, whole, keyOf}
+use Rattle.bucket.specs.Whole.{lent, lentWith, bucketOf, whole, keyOf}
 use Rattle.bucket.proofs.Steps.{below-at, below-all, pick-and, row-parts}
 use Rattle.bucket.proofs.Laying.{rest-free, rows-all, all-rows, next-ordered, ordered-next, numbers-back, keys-back}
 use Rattle.bucket.proofs.Whole.{WholeParts, sound-parts, whole-parts, whole-of}
@@ -143,3 +146,8 @@ module _ (s : Settings) (n b : List ℕ) (i : ℕ) (r : Bool) (e : r ≡ whole (
   key-short t h = held-first (whole-parts (lent s n b) (sym e ∙ t) .holds) i (rowAt n b 0) (rw (rows-length n b (s .used)) h)
 
 pub ruleset key-cases = (key-unsound, key-past, key-used, key-there, key-short)
+
+-- ## The settings by value
+
+pub key-by-value : (s : Settings) (st : State) (e n k key : List ℕ) (i : ℕ) → key ≡ keyOf (lentWith st e n k) i → st ≡ stateOf s → rulesOf e ≡ s .rules → key ≡ keyOf (lent s n k) i
+key-by-value s st e n k key i h f g = rw (f, g) at h

@@ -10,6 +10,8 @@ use Rattle.blocks.specs.Blocks.{keyIn}
 use Rattle.model.specs.Rows.{Row}
 use Rattle.model.specs.Settings.{Bucket, sound}
 use Rattle.settings.specs.declared.Settings.{Settings}
+use Rattle.settings.specs.declared.State.{State}
+use Rattle.settings.specs.Bytes.{settingsWith}
 use Rattle.settings.specs.Meaning.{settingsMean, settingsFrom, freshSettings, prefixesAre}
 use Rattle.table.specs.Layout.{numbersOf, keysOf, rowsOf, capacity}
 
@@ -21,6 +23,10 @@ pub record Lent : Type 0 where
 
 abbrev pub lent : Settings → List ℕ → List ℕ → Lent
 lent s numbers keys = record { settings = s; numbers = numbers; keys = keys }
+
+-- The same with the settings by their state and entries.
+abbrev pub lentWith : State → List ℕ → List ℕ → List ℕ → Lent
+lentWith s entries numbers keys = lent (settingsWith s entries) numbers keys
 
 -- Fresh: next number 1, everything else zero.
 abbrev pub freshLent : ℕ → Lent

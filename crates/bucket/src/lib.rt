@@ -1,6 +1,7 @@
 // Refusal 1: whether settings and buffers hold a sound bucket, and the key of a row of one. The definitions are in specs/.
 use search::Order;
 use settings::Settings;
+use settings::State;
 ghost use mathlib.Core.Path.{_≡_};
 ghost use mathlib.Core.Bool.{true, false, _&&_};
 ghost use mathlib.Core.List.{[]};
@@ -12,7 +13,8 @@ ghost use Rattle.model.specs.Rows.{soundRetention, soundData, soundMarker};
 ghost use Rattle.table.specs.Layout.{rowIn};
 ghost use Rattle.bucket.specs.Steps.{allBelow, zeros, soundNumbers, numbersAt, isKeyBlock, keyedAt, aheadOf, aheadAt, soundKeys, soundTable};
 ghost use Rattle.bucket.specs.Ordering.{isOrderTo, isBlockOrder};
-ghost use Rattle.bucket.specs.Whole.{lent, whole, keyOf};
+ghost use Rattle.settings.specs.Bytes.{entriesLength};
+ghost use Rattle.bucket.specs.Whole.{lent, lentWith, whole, keyOf};
 
 // Whether the retention's mode and date belong together.
 fn retention_is_sound(mode: u64, until: u64) -> bool
@@ -261,8 +263,9 @@ fn table_is_sound(rows: &[u64], keys: &[u8], used: usize, next: u64, time: u64) 
 }
 
 // Whether settings and buffers are whole; refusal 1 where they are not.
-pub fn is_whole(s: Settings, rows: &[u64], keys: &[u8]) -> bool
-    ensures { λ r. ⌜ r ≡ whole (lent s (now (rows .entry)) (now (keys .entry))) ⌝ }
+pub fn is_whole(s: State, entries: &[u8], rows: &[u64], keys: &[u8]) -> bool
+    requires { ⌜ length (now entries) ≡ entriesLength ⌝ }
+    ensures { λ r. ⌜ r ≡ whole (lentWith s (now (entries .entry)) (now (rows .entry)) (now (keys .entry))) ⌝ }
 {
     let c = keys.len() / 64;
     if rows.len() != 8 * c {
@@ -277,26 +280,37 @@ pub fn is_whole(s: Settings, rows: &[u64], keys: &[u8]) -> bool
     if model::MOST_ROWS < c {
         return false;
     }
-    let used = s.used as usize;
+    let used = s.used;
     if c < used {
         return false;
     }
-    if !settings::is_sound(s) {
+    if !settings::is_sound(s, entries) {
         return false;
     }
     table_is_sound(rows, keys, used, s.next, s.time)
 }
 
 // The key of a used row of a whole bucket, as a part of the key bytes; else the empty part.
-pub fn key_of<'a>(s: Settings, rows: &[u64], keys: &'a [u8], at: usize) -> &'a [u8]
-    ensures { λ r. ⌜ now r ≡ keyOf (lent s (now (rows .entry)) (now (keys .entry))) at ⌝ }
+pub fn key_with<'a>(s: State, entries: &[u8], rows: &[u64], keys: &'a [u8], at: usize) -> &'a [u8]
+    requires { ⌜ length (now entries) ≡ entriesLength ⌝ }
+    ensures { λ r. ⌜ now r ≡ keyOf (lentWith s (now (entries .entry)) (now (rows .entry)) (now (keys .entry))) at ⌝ }
 {
-    if !is_whole(s, rows, keys) {
+    if !is_whole(s, entries, rows, keys) {
         return &keys[0..0];
     }
-    let used = s.used as usize;
-    if used <= at {
+    if s.used <= at {
         return &keys[0..0];
     }
     table::key_at(keys, at)
+}
+
+// The same with the settings by value.
+pub fn key_of<'a>(s: Settings, rows: &[u64], keys: &'a [u8], at: usize) -> &'a [u8]
+    ensures { λ r. ⌜ now r ≡ keyOf (lent s (now (rows .entry)) (now (keys .entry))) at ⌝ }
+{
+    let state = settings::state_of(s);
+    let rules = s.rules;
+    let mut entries = settings::no_entries();
+    settings::put_rules(&mut entries, rules);
+    key_with(state, &entries, rows, keys, at)
 }

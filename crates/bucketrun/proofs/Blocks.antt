@@ -1,13 +1,12 @@
 -- Laws of reading: what stands in the input before, between and after blocks.
 use Prim.Native.Nat.{ℕ, _+_, _-_, _≤_, _<_, min}
 use mathlib.Core.Path.{_≡_, refl, sym, _∙_, ap, ap₂}
-use mathlib.Core.Bool.{Bool, true, false, not}
+use mathlib.Core.Bool.{Bool, true, false}
 use mathlib.Core.List.{List, [], _∷_, _++_}
 use native.Mathlib.Omega.{arith}
 use native.Mathlib.Numerals.{add-one}
 use lib.ListN.{length, take, drop, set, replicate, length-take, length-drop, length-replicate}
 use lib.Seq.{length-take-le, take-add, take-suc-set, take-set-le}
-use borrow.Author.Tests.{not-false}
 use borrow.Rule.Slice.PartMut.{midOf, putMid, take-put, same-len-mid}
 use Rattle.buffers.specs.Ranges.{Within, Span}
 use Rattle.buffers.specs.Writes.{Wrote}
@@ -17,10 +16,15 @@ use Rattle.buffers.proofs.Parts.{part-cut}
 use Rattle.buffers.proofs.Writes.{wrote-as}
 use Rattle.text.specs.Lines.{linesOf}
 use Rattle.text.specs.Keys.{contains}
+use Rattle.buffers.specs.Words.{number}
+use Rattle.blocks.specs.Blocks.{blockOf}
 use Rattle.settings.specs.declared.Settings.{Settings}
+use Rattle.settings.specs.declared.State.{State}
+use Rattle.settings.specs.Bytes.{rulesAt, settingsWith}
+use Rattle.settings.specs.State.{stateOf}
 use Rattle.settings.specs.Meaning.{freshSettings}
 use Rattle.model.proofs.Runs.{left-append}
-use Rattle.bucket.specs.Whole.{Lent, lent}
+use Rattle.bucket.specs.Whole.{Lent, lentWith}
 use Rattle.bucket.proofs.Whole.{fresh-whole}
 use Rattle.bucketrun.specs.Program.{leftBy, endedLength, endedLines, Waiting, waiting, afterBlock, feedEnded}
 use Rattle.bucketrun.specs.Course.{ServedAll, CameBehind, TookBlock, Startable, BetweenBlocks, Ran}
@@ -95,19 +99,21 @@ module _ (h : Lent) (input : List ℕ) (end : ℕ) (b : Lent) (i : ℕ) (told : 
 zeros-long : (l : List ℕ) (k : ℕ) → l ≡ replicate k 0 → length l ≡ k
 zeros-long l k e = rw e (length-replicate k 0)
 
-pub may-start : (s : Settings) (input n k out : List ℕ) → s ≡ freshSettings → input ≡ replicate 66560 0 → n ≡ replicate 8192 0 → k ≡ replicate 65536 0 → out ≡ replicate 131072 0 → Startable (lent s n k) input out
-may-start s input n k out f ei en ek eo =
+pub may-start : (x : Settings) (s : State) (e input n k out : List ℕ) → x ≡ freshSettings → s ≡ stateOf x → e ≡ replicate 640 0 → input ≡ replicate 66560 0 → n ≡ replicate 8192 0 → k ≡ replicate 65536 0 → out ≡ replicate 131072 0 → Startable (lentWith s e n k) e input out
+unfolding rulesAt number blockOf
+may-start x s e input n k out fx f ee ei en ek eo =
     record {
-      servable = record { is-whole = rw (f, en, ek) (fresh-whole 1024 (omega arith) (omega arith)); long = zeros-long out 131072 eo };
+      servable = record { is-whole = rw (f, fx, ee, en, ek) (fresh-whole 1024 (omega arith) (omega arith)); entries-long = zeros-long e 640 ee; long = zeros-long out 131072 eo };
       input-long = zeros-long input 66560 ei;
     }
 
-pub first-block : (b : Lent) (input out : List ℕ) → Startable b input out → BetweenBlocks b input out b input out 0
-first-block b input out a =
+pub first-block : (b : Lent) (e input out : List ℕ) → Startable b e input out → BetweenBlocks b e input out b e input out 0
+first-block b e input out a =
     record {
       blocks = [];
       leads = refl;
       servable = a .servable;
+      entries-same = refl;
       few = omega arith;
       no-feed = refl;
       input-long = a .input-long;
@@ -121,19 +127,19 @@ first-block b input out a =
 pub run-stopped : (h : Lent) (n k : List ℕ) → Ran false h n k
 run-stopped h n k = record { blocks = []; settings = h .settings; is = λ x. absurd (clash false x refl) }
 
-module _ (h : Lent) (input₀ out₀ : List ℕ) (b : Lent) (input out : List ℕ) (kept : ℕ) (g : BetweenBlocks h input₀ out₀ b input out kept) where
+module _ (h : Lent) (e₀ input₀ out₀ : List ℕ) (b : Lent) (e input out : List ℕ) (kept : ℕ) (g : BetweenBlocks h e₀ input₀ out₀ b e input out kept) where
   pub read-room : kept < length input
   read-room = omega (arith, g .few, g .input-long)
 
   module _ (filled : List ℕ) (end : ℕ) (over : Bool) (c : CameBehind input kept filled end over) where
-    pub run-ends : (s : Settings) (n k input′ : List ℕ) (kept′ : ℕ) (told : Bool) → TookBlock b (take end filled) (lent s n k) input′ kept′ told → over ≡ true → Ran told h n k
-    run-ends s n k input′ kept′ told d e =
+    pub run-ends : (s : State) (e′ n k input′ : List ℕ) (kept′ : ℕ) (told : Bool) → TookBlock b (take end filled) (lentWith s e′ n k) input′ kept′ told → over ≡ true → Ran told h n k
+    run-ends s e′ n k input′ kept′ told d o =
         record {
           blocks = g .blocks;
-          settings = s;
+          settings = settingsWith s e′;
           is =
               λ t. ap (λ (w : Waiting). w .bucket) (d .takes t)
-              ∙ ap (leftBy b) (ap endedLines (c .ends e) ∙ closed-lines (take kept input) (g .no-feed))
+              ∙ ap (leftBy b) (ap endedLines (c .ends o) ∙ closed-lines (take kept input) (g .no-feed))
               ∙ ap (λ (w : Waiting). leftBy (w .bucket) (linesOf (w .begun))) (g .leads)
               ∙ blocks-left h [] (g .blocks);
         }
@@ -144,15 +150,16 @@ module _ (h : Lent) (input₀ out₀ : List ℕ) (b : Lent) (input out : List �
         let z : end ≡ kept + (end - kept) = omega (arith, c .span .from) in
         ap (λ (j : ℕ). take j filled) z ∙ take-add kept (end - kept) filled ∙ ap (λ (t : List ℕ). t ++ take (end - kept) (drop kept filled)) (c .stays)
 
-    pub next-block : (b′ : Lent) (input′ : List ℕ) (kept′ : ℕ) (told : Bool) → TookBlock b (take end filled) b′ input′ kept′ told → (out′ : List ℕ) → not told ≡ false → length filled ≡ length input
-        → length input′ ≡ length filled → length (b′ .numbers) ≡ length (b .numbers) → length (b′ .keys) ≡ length (b .keys) → length out′ ≡ length out → BetweenBlocks h input₀ out₀ b′ input′ out′ kept′
-    next-block b′ input′ kept′ told d out′ t lf li ln lk lo =
+    pub next-block : (b′ : Lent) (input′ : List ℕ) (kept′ : ℕ) (told : Bool) → TookBlock b (take end filled) b′ input′ kept′ told → (e′ out′ : List ℕ) → told ≡ true → length filled ≡ length input
+        → length input′ ≡ length filled → length e′ ≡ length e → length (b′ .numbers) ≡ length (b .numbers) → length (b′ .keys) ≡ length (b .keys) → length out′ ≡ length out → BetweenBlocks h e₀ input₀ out₀ b′ e′ input′ out′ kept′
+    next-block b′ input′ kept′ told d e′ out′ t lf li le ln lk lo =
         let x = take (end - kept) (drop kept filled) in
-        let q : waiting b′ (take kept′ input′) ≡ afterBlock (waiting b []) (take end filled) = d .takes (not-false told t) in
+        let q : waiting b′ (take kept′ input′) ≡ afterBlock (waiting b []) (take end filled) = d .takes t in
         record {
           blocks = g .blocks ++ x ∷ [];
           leads = q ∙ ap (afterBlock (waiting b [])) came ∙ ap (λ (w : Waiting). afterBlock w x) (g .leads) ∙ sym (left-append afterBlock (waiting h []) (g .blocks) (x ∷ []));
-          servable = record { is-whole = d .is-whole; long = lo ∙ g .servable .long };
+          servable = record { is-whole = d .is-whole; entries-long = le ∙ g .servable .entries-long; long = lo ∙ g .servable .long };
+          entries-same = le ∙ g .entries-same;
           few = d .few;
           no-feed = ap (λ (w : Waiting). contains (w .begun) 10) q ∙ none-take 513 (drop (endedLength (take end filled)) (take end filled)) (rest-none (take end filled));
           input-long = li ∙ lf ∙ g .input-long;

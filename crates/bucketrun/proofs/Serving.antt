@@ -14,13 +14,14 @@ use Rattle.buffers.proofs.Parts.{rest-all, part-cut}
 use Rattle.buffers.proofs.Writes.{wrote-both}
 use Rattle.text.specs.Lines.{linesOf, feedAt}
 use Rattle.model.proofs.Runs.{left-append, gathered-append}
-use Rattle.bucket.specs.Whole.{Lent, lent, whole}
+use Rattle.settings.specs.Bytes.{rulesOf}
+use Rattle.bucket.specs.Whole.{Lent, lentWith, whole}
 use Rattle.outcome.specs.Calls.{call, heard}
 use Rattle.outcome.specs.Outcome.{Outcome, outcome}
 use Rattle.outcome.specs.Printed.{printed, printedOf}
 use Rattle.outcome.proofs.Heard.{length-heard, same-left, same-printed, same-behind}
 use Rattle.outcome.proofs.Kept.{outcome-whole}
-use Rattle.engine.specs.declared.Served.{Served}
+use Rattle.engine.specs.declared.Done.{Done}
 use Rattle.engine.specs.Served.{outcomeFrom}
 use Rattle.engine.proofs.Serving.{answer-fits}
 use Rattle.bucketrun.specs.Program.{answerRoom, servedLine, afterLine, printedLine, leftBy, printedBy, endedLength}
@@ -89,11 +90,11 @@ module _ (b : Lent) (rest : List ℕ) (k : ℕ) (f : k ≡ feedAt rest) (z : k <
 -- ## Between two lines
 
 -- A line's answer stands within the part of the output that it was lent.
-pub answer-most : (b : Lent) (l out n′ k′ p : List ℕ) (at : ℕ) (r : Served) → outcomeFrom r n′ k′ p ≡ outcome b (call l (midOf at (at + 65536 - at) out))
+pub answer-most : (b : Lent) (l out e′ n′ k′ p : List ℕ) (at : ℕ) (r : Done) → outcomeFrom r e′ n′ k′ p ≡ outcome b (call l (midOf at (at + 65536 - at) out))
     → length p ≡ length (midOf at (at + 65536 - at) out) → r .len ≤ 65536
-answer-most b l out n′ k′ p at r q e =
+answer-most b l out e′ n′ k′ p at r q e =
     let m : length p ≡ _ = e ∙ ap length (part-cut out at 65536) ∙ length-take 65536 (drop at out) in
-    omega (arith, answer-fits b _ n′ k′ p r q)
+    omega (arith, answer-fits b _ (rulesOf e′) n′ k′ p r q)
 
 -- A part of the output, put back.
 module _ (out p : List ℕ) (at k : ℕ) (h : at + k ≤ length out) (l : length p ≡ k) where
@@ -118,18 +119,20 @@ module _ (out p : List ℕ) (at k : ℕ) (h : at + k ≤ length out) (l : length
       ∙ drop-drop (length vs) at out in
       ap₂ (λ (x y : List ℕ). x ++ vs ++ y) (take-put at k out p (omega arith)) d
 
-pub first-line : (b : Lent) (out block : List ℕ) (from : ℕ) → from ≤ length block → Servable b out → BetweenLines b block from out b out 0 from
-first-line b out block from l a =
+pub first-line : (b : Lent) (e out block : List ℕ) (from : ℕ) → from ≤ length block → Servable b e out → BetweenLines b block from e out b e out 0 from
+first-line b e out block from l a =
     let z : from - from ≡ 0 = omega arith in
     record {
       served = record { span = record { from = omega arith; to = l }; through = rw z (through-none b (drop from block) (a .is-whole)); prints = rw z (record { next = refl; holds = refl; long = refl; most = omega arith }); most = omega arith };
       long = a .long;
+      entries-long = a .entries-long;
+      entries-same = refl;
       numbers-same = refl;
       keys-same = refl;
       out-same = refl;
     }
 
-module _ (h : Lent) (block : List ℕ) (from : ℕ) (out₀ : List ℕ) (b : Lent) (out : List ℕ) (at i : ℕ) (g : BetweenLines h block from out₀ b out at i) where
+module _ (h : Lent) (block : List ℕ) (from : ℕ) (e₀ out₀ : List ℕ) (b : Lent) (e out : List ℕ) (at i : ℕ) (g : BetweenLines h block from e₀ out₀ b e out at i) where
   -- The bytes that are not served yet.
   left-is : drop i block ≡ drop (i - from) (drop from block)
   left-is = let z : i ≡ from + (i - from) = omega (arith, g .served .span .from) in ap (λ (j : ℕ). drop j block) z ∙ sym (drop-drop (i - from) from block)
@@ -138,27 +141,27 @@ module _ (h : Lent) (block : List ℕ) (from : ℕ) (out₀ : List ℕ) (b : Len
   line-room m = omega (arith, g .long)
 
   -- One line is served.
-  pub next-line : (k : ℕ) (r : Served) (n′ k′ p : List ℕ) → at ≤ 65536 → outcomeFrom r n′ k′ p ≡ outcome b (call (take (i + k - i) (drop i block)) (midOf at (at + 65536 - at) out))
+  pub next-line : (k : ℕ) (r : Done) (e′ n′ k′ p : List ℕ) → at ≤ 65536 → outcomeFrom r e′ n′ k′ p ≡ outcome b (call (take (i + k - i) (drop i block)) (midOf at (at + 65536 - at) out))
       → length p ≡ length (midOf at (at + 65536 - at) out) → (out′ : List ℕ) (j : ℕ) → Within k (feedAt (take (length block - i) (drop i block))) (length (take (length block - i) (drop i block))) → i + k < length block
-      → Wrote (putMid at (at + 65536 - at) out p) at (printed (r .number) (take (r .len) (drop at (putMid at (at + 65536 - at) out p)))) 65536 out′ j → length n′ ≡ length (b .numbers) → length k′ ≡ length (b .keys)
-      → BetweenLines h block from out₀ (lent (r .settings) n′ k′) out′ j (i + k + 1)
-  next-line k r n′ k′ p m q lp out′ j e z v ln lk =
+      → Wrote (putMid at (at + 65536 - at) out p) at (printed (r .number) (take (r .len) (drop at (putMid at (at + 65536 - at) out p)))) 65536 out′ j → length e′ ≡ length e → length n′ ≡ length (b .numbers) → length k′ ≡ length (b .keys)
+      → BetweenLines h block from e₀ out₀ (lentWith (r .state) e′ n′ k′) e′ out′ j (i + k + 1)
+  next-line k r e′ n′ k′ p m q lp out′ j w′ z v le ln lk =
       let t = g .served in
       let rest = drop (i - from) (drop from block) in
       let a = take 65536 (drop at out) in
-      let o = outcomeFrom r n′ k′ p in
+      let o = outcomeFrom r e′ n′ k′ p in
       let d : i + k - i ≡ k = omega arith in
       let c : at + 65536 - at ≡ 65536 = omega arith in
       let u : i + k + 1 - from ≡ i - from + suc k = omega (arith, t .span .from) in
       let la : length a ≡ 65536 = length-take-le 65536 (drop at out) (rw length-drop (omega (arith, g .long))) in
       let lo : length out′ ≡ length out = v .long ∙ same-len-mid at (at + 65536 - at) out p lp in
       let l : length p ≡ 65536 = lp ∙ ap length (part-cut out at 65536) ∙ la in
-      let f : k ≡ feedAt rest = rw (rest-all i block, left-is) at (e .is) in
+      let f : k ≡ feedAt rest = rw (rest-all i block, left-is) at (w′ .is) in
       let y : k < length rest = rw (← left-is, length-drop) (omega arith) in
       let x : o ≡ outcome b (call (take k rest) a) = rw (d, c, left-is) at q in
       let w = line-through b rest k f y a la o x (t .through .is-whole) in
       let s : printed (r .number) (take (r .len) (drop at (putMid at (at + 65536 - at) out p))) ≡ printedOf o =
-      rw c (ap (printed (r .number)) (part-read out p at 65536 (omega (arith, g .long)) l (r .len) (omega (arith, answer-fits b _ n′ k′ p r q)))) in
+      rw c (ap (printed (r .number)) (part-read out p at 65536 (omega (arith, g .long)) l (r .len) (omega (arith, answer-fits b _ (rulesOf e′) n′ k′ p r q)))) in
       let behind : drop (length (printedOf o)) p ≡ drop (length (printedOf o)) a = subst⁻¹ (λ (z : Outcome). drop (length (printedOf z)) (z .answer) ≡ drop (length (printedOf z)) a) x (same-behind b (call (take k rest) a)) in
       let wrote : Wrote out at (printedOf o) 65536 out′ j =
       (let v = rw (s, c) at v in
@@ -176,6 +179,8 @@ module _ (h : Lent) (block : List ℕ) (from : ℕ) (out₀ : List ℕ) (b : Len
               most = omega (arith, wrote .most, g .long);
             };
         long = lo ∙ g .long;
+        entries-long = le ∙ g .entries-long;
+        entries-same = le ∙ g .entries-same;
         numbers-same = ln ∙ g .numbers-same;
         keys-same = lk ∙ g .keys-same;
         out-same = both .long;
@@ -183,9 +188,9 @@ module _ (h : Lent) (block : List ℕ) (from : ℕ) (out₀ : List ℕ) (b : Len
 
   -- No line feed is left.
   pub lines-done : (k : ℕ) → Within k (feedAt (take (length block - i) (drop i block))) (length (take (length block - i) (drop i block))) → length block ≤ i + k → ServedSome h block from out₀ b out at i
-  lines-done k e q =
+  lines-done k w q =
       let t = g .served in
-      let x = rw (rest-all i block) at e in
+      let x = rw (rest-all i block) at w in
       let l = length-drop i block in
       let n : endedLength (drop i block) ≡ 0 = none-end (drop i block) (none-feed (drop i block) (omega (arith, x .is, x .most))) in
       record { served = t; all = λ y. omega (arith, end-rest h (drop from block) (i - from) b (t .through), rw left-is at n) }
@@ -200,12 +205,12 @@ some-served : (h : Lent) (block : List ℕ) (j : ℕ) → 0 < length (printedBy 
 some-served h block zero q = absurd (omega arith)
 some-served h block (suc j) q = omega arith
 
-pub first-part : (b : Lent) (out block : List ℕ) → Servable b out → BetweenParts b block out b out 0
-first-part b out block a = record { through = through-none b block (a .is-whole); long = a .long; numbers-same = refl; keys-same = refl; out-same = refl }
+pub first-part : (b : Lent) (e out block : List ℕ) → Servable b e out → BetweenParts b block e out b e out 0
+first-part b e out block a = record { through = through-none b block (a .is-whole); long = a .long; entries-long = a .entries-long; entries-same = refl; numbers-same = refl; keys-same = refl; out-same = refl }
 
-module _ (h : Lent) (block out₀ : List ℕ) (b : Lent) (out : List ℕ) (i : ℕ) (g : BetweenParts h block out₀ b out i) where
-  pub part-servable : Servable b out
-  part-servable = record { is-whole = g .through .is-whole; long = g .long }
+module _ (h : Lent) (block e₀ out₀ : List ℕ) (b : Lent) (e out : List ℕ) (i : ℕ) (g : BetweenParts h block e₀ out₀ b e out i) where
+  pub part-servable : Servable b e out
+  part-servable = record { is-whole = g .through .is-whole; entries-long = g .entries-long; long = g .long }
 
   module _ (b′ : Lent) (out′ : List ℕ) (at j : ℕ) (d : ServedSome b block i out b′ out′ at j) where
     on : i + (j - i) ≡ j
@@ -220,11 +225,13 @@ module _ (h : Lent) (block out₀ : List ℕ) (b : Lent) (out : List ℕ) (i : �
         let x = some-served b (drop i block) (j - i) (omega (arith, d .served .prints .next)) in
         omega (arith, d .served .span .to)
 
-    pub part-next : length (b′ .numbers) ≡ length (b .numbers) → length (b′ .keys) ≡ length (b .keys) → length out′ ≡ length out → BetweenParts h block out₀ b′ out′ j
-    part-next ln lk lo =
+    pub part-next : (e′ : List ℕ) → length e′ ≡ length e → length (b′ .numbers) ≡ length (b .numbers) → length (b′ .keys) ≡ length (b .keys) → length out′ ≡ length out → BetweenParts h block e₀ out₀ b′ e′ out′ j
+    part-next e′ le ln lk lo =
         record {
           through = part-through;
           long = lo ∙ g .long;
+          entries-long = le ∙ g .entries-long;
+          entries-same = le ∙ g .entries-same;
           numbers-same = ln ∙ g .numbers-same;
           keys-same = lk ∙ g .keys-same;
           out-same = lo ∙ g .out-same;

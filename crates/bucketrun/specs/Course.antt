@@ -9,12 +9,14 @@ use Rattle.buffers.specs.Writes.{Wrote}
 use Rattle.text.specs.Lines.{linesOf}
 use Rattle.text.specs.Keys.{contains}
 use Rattle.settings.specs.declared.Settings.{Settings}
+use Rattle.settings.specs.Bytes.{entriesLength}
 use Rattle.bucket.specs.Whole.{Lent, lent, whole}
 use Rattle.bucketrun.specs.Program.{leftBy, printedBy, endedLength, waiting, afterBlock, afterBlocks, feedEnded, joined}
 
--- The bucket is whole, and the output has room for what waits and for an answer.
-pub record Servable (b : Lent) (out : List ℕ) : Type 0 where
+-- The bucket is whole, its entries are as many as there are, and the output has room for what waits and for an answer.
+pub record Servable (b : Lent) (entries out : List ℕ) : Type 0 where
   pub is-whole : whole b ≡ true
+  pub entries-long : length entries ≡ entriesLength
   pub long : length out ≡ 131072
 
 -- ## The lines of a block
@@ -34,9 +36,11 @@ pub record ServedTo (h : Lent) (block : List ℕ) (from : ℕ) (out₀ : List �
   pub most : at ≤ length out
 
 -- Between two of them.
-pub record BetweenLines (h : Lent) (block : List ℕ) (from : ℕ) (out₀ : List ℕ) (b : Lent) (out : List ℕ) (at i : ℕ) : Type 0 where
+pub record BetweenLines (h : Lent) (block : List ℕ) (from : ℕ) (entries₀ out₀ : List ℕ) (b : Lent) (entries out : List ℕ) (at i : ℕ) : Type 0 where
   pub served : ServedTo h block from out₀ b out at i
   pub long : length out ≡ 131072
+  pub entries-long : length entries ≡ entriesLength
+  pub entries-same : length entries ≡ length entries₀
   pub numbers-same : length (b .numbers) ≡ length (h .numbers)
   pub keys-same : length (b .keys) ≡ length (h .keys)
   pub out-same : length out ≡ length out₀
@@ -47,9 +51,11 @@ pub record ServedSome (h : Lent) (block : List ℕ) (from : ℕ) (out₀ : List 
   pub all : at ≤ 65536 → i - from ≡ endedLength (drop from block)
 
 -- Between two parts of a block, each of which is written once it is served.
-pub record BetweenParts (h : Lent) (block out₀ : List ℕ) (b : Lent) (out : List ℕ) (i : ℕ) : Type 0 where
+pub record BetweenParts (h : Lent) (block entries₀ out₀ : List ℕ) (b : Lent) (entries out : List ℕ) (i : ℕ) : Type 0 where
   pub through : Through h block i b
   pub long : length out ≡ 131072
+  pub entries-long : length entries ≡ entriesLength
+  pub entries-same : length entries ≡ length entries₀
   pub numbers-same : length (b .numbers) ≡ length (h .numbers)
   pub keys-same : length (b .keys) ≡ length (h .keys)
   pub out-same : length out ≡ length out₀
@@ -75,15 +81,16 @@ pub record TookBlock (h : Lent) (block : List ℕ) (b : Lent) (input : List ℕ)
   pub takes : told ≡ true → waiting b (take kept input) ≡ afterBlock (waiting h []) block
 
 -- A run may start.
-pub record Startable (b : Lent) (input out : List ℕ) : Type 0 where
-  pub servable : Servable b out
+pub record Startable (b : Lent) (entries input out : List ℕ) : Type 0 where
+  pub servable : Servable b entries out
   pub input-long : length input ≡ 66560
 
 -- Between two blocks: the bucket and what is kept are what the blocks so far leave.
-pub record BetweenBlocks (h : Lent) (input₀ out₀ : List ℕ) (b : Lent) (input out : List ℕ) (kept : ℕ) : Type 0 where
+pub record BetweenBlocks (h : Lent) (entries₀ input₀ out₀ : List ℕ) (b : Lent) (entries input out : List ℕ) (kept : ℕ) : Type 0 where
   pub blocks : List (List ℕ)
   pub leads : waiting b (take kept input) ≡ afterBlocks (waiting h []) blocks
-  pub servable : Servable b out
+  pub servable : Servable b entries out
+  pub entries-same : length entries ≡ length entries₀
   pub few : kept ≤ 513
   pub no-feed : contains (take kept input) 10 ≡ false
   pub input-long : length input ≡ 66560

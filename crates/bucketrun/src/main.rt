@@ -3,13 +3,13 @@
 use libc::STDERR_FILENO;
 use libc::STDIN_FILENO;
 use libc::STDOUT_FILENO;
-use settings::Settings;
+use settings::State;
 ghost use mathlib.Core.Path.{_≡_};
 ghost use Prim.Native.Nat.{_+_, _≤_, _<_, min};
 ghost use lib.ListN.{length, take, drop, replicate};
 ghost use Rattle.buffers.specs.Ranges.{Within, Span};
 ghost use Rattle.buffers.specs.Writes.{Wrote};
-ghost use Rattle.bucket.specs.Whole.{lent};
+ghost use Rattle.bucket.specs.Whole.{lentWith};
 ghost use Rattle.outcome.specs.Printed.{printed};
 ghost use Rattle.bucketrun.specs.Course.{Servable, ServedSome, ServedAll, CameBehind, TookBlock, Startable, Ran};
 
@@ -19,16 +19,16 @@ const ROOM: usize = 65536;
 // A line of more bytes than this is read as this many: it is refusal 3 whatever it holds.
 const LONGEST: usize = 513;
 
-// After lines of a block: the settings, how many bytes of output wait, and the place behind the lines.
+// After lines of a block: the state, how many bytes of output wait, and the place behind the lines.
 pub struct Course {
-    pub settings: Settings,
+    pub state: State,
     pub at: usize,
     pub served: usize,
 }
 
-// After a block: the settings, how many of its bytes are served, and whether all output is written.
+// After a block: the state, how many of its bytes are served, and whether all output is written.
 pub struct Block {
-    pub settings: Settings,
+    pub state: State,
     pub served: usize,
     pub told: bool,
 }
@@ -39,9 +39,9 @@ pub struct Came {
     pub over: bool,
 }
 
-// Before the next block: the settings, how many bytes at the input's front are kept, and whether all output is written.
+// Before the next block: the state, how many bytes at the input's front are kept, and whether all output is written.
 pub struct Rest {
-    pub settings: Settings,
+    pub state: State,
     pub kept: usize,
     pub told: bool,
 }
@@ -64,14 +64,15 @@ fn print(out: &mut [u8], at: usize, number: u64, len: usize) -> usize
 fn serve_some(
     block: &[u8],
     from: usize,
-    s: Settings,
+    s: State,
+    entries: &mut [u8],
     rows: &mut [u64],
     keys: &mut [u8],
     out: &mut [u8],
 ) -> Course
     requires { ⌜ from ≤ length (now block) ⌝ }
-    requires { ⌜ Servable (lent s (now rows) (now keys)) (now out) ⌝ }
-    ensures { λ r. ⌜ ServedSome (lent s (now (rows .entry)) (now (keys .entry))) (now (block .entry)) from (now (out .entry)) (lent (r .settings) (now (rows .exit)) (now (keys .exit))) (now (out .exit)) (r .at) (r .served) ⌝ }
+    requires { ⌜ Servable (lentWith s (now entries) (now rows) (now keys)) (now entries) (now out) ⌝ }
+    ensures { λ r. ⌜ ServedSome (lentWith s (now (entries .entry)) (now (rows .entry)) (now (keys .entry))) (now (block .entry)) from (now (out .entry)) (lentWith (r .state) (now (entries .exit)) (now (rows .exit)) (now (keys .exit))) (now (out .exit)) (r .at) (r .served) ⌝ }
 {
     let mut after = s;
     let mut at = 0;
@@ -83,40 +84,54 @@ fn serve_some(
         }
         let next = end + 1;
         let room = at + ROOM;
-        let r = engine::serve_whole(after, rows, keys, &block[i..end], &mut out[at..room]);
-        after = r.settings;
+        let r = engine::serve_whole(
+            after,
+            entries,
+            rows,
+            keys,
+            &block[i..end],
+            &mut out[at..room],
+        );
+        after = r.state;
         at = print(out, at, r.number, r.len);
         i = next;
     }
     Course {
-        settings: after,
+        state: after,
         at,
         served: i,
     }
 }
 
 // Serves every line that ends in the block, and writes what they print, until nobody takes it.
-fn serve_all(block: &[u8], s: Settings, rows: &mut [u64], keys: &mut [u8], out: &mut [u8]) -> Block
-    requires { ⌜ Servable (lent s (now rows) (now keys)) (now out) ⌝ }
-    ensures { λ r. ⌜ ServedAll (lent s (now (rows .entry)) (now (keys .entry))) (now (block .entry)) (lent (r .settings) (now (rows .exit)) (now (keys .exit))) (r .served) (r .told) ⌝ }
+fn serve_all(
+    block: &[u8],
+    s: State,
+    entries: &mut [u8],
+    rows: &mut [u64],
+    keys: &mut [u8],
+    out: &mut [u8],
+) -> Block
+    requires { ⌜ Servable (lentWith s (now entries) (now rows) (now keys)) (now entries) (now out) ⌝ }
+    ensures { λ r. ⌜ ServedAll (lentWith s (now (entries .entry)) (now (rows .entry)) (now (keys .entry))) (now (block .entry)) (lentWith (r .state) (now (entries .exit)) (now (rows .exit)) (now (keys .exit))) (r .served) (r .told) ⌝ }
 {
     let mut after = s;
     let mut i = 0;
     loop {
-        let r = serve_some(block, i, after, rows, keys, out);
-        after = r.settings;
+        let r = serve_some(block, i, after, entries, rows, keys, out);
+        after = r.state;
         i = r.served;
         let at = r.at;
         if !io::write_all(STDOUT_FILENO, &out[0..at]) {
             return Block {
-                settings: after,
+                state: after,
                 served: i,
                 told: false,
             };
         }
         if at <= ROOM {
             return Block {
-                settings: after,
+                state: after,
                 served: i,
                 told: true,
             };
@@ -173,20 +188,21 @@ fn keep(input: &mut [u8], from: usize, to: usize) -> usize
 fn serve_block(
     input: &mut [u8],
     end: usize,
-    s: Settings,
+    s: State,
+    entries: &mut [u8],
     rows: &mut [u64],
     keys: &mut [u8],
     out: &mut [u8],
 ) -> Rest
     requires { ⌜ end ≤ length (now input) ⌝ }
-    requires { ⌜ Servable (lent s (now rows) (now keys)) (now out) ⌝ }
-    ensures { λ r. ⌜ TookBlock (lent s (now (rows .entry)) (now (keys .entry))) (take end (now (input .entry))) (lent (r .settings) (now (rows .exit)) (now (keys .exit))) (now (input .exit)) (r .kept) (r .told) ⌝ }
+    requires { ⌜ Servable (lentWith s (now entries) (now rows) (now keys)) (now entries) (now out) ⌝ }
+    ensures { λ r. ⌜ TookBlock (lentWith s (now (entries .entry)) (now (rows .entry)) (now (keys .entry))) (take end (now (input .entry))) (lentWith (r .state) (now (entries .exit)) (now (rows .exit)) (now (keys .exit))) (now (input .exit)) (r .kept) (r .told) ⌝ }
 {
-    let block = serve_all(&input[0..end], s, rows, keys, out);
-    let after = block.settings;
+    let block = serve_all(&input[0..end], s, entries, rows, keys, out);
+    let after = block.state;
     let kept = keep(input, block.served, end);
     Rest {
-        settings: after,
+        state: after,
         kept,
         told: block.told,
     }
@@ -194,25 +210,33 @@ fn serve_block(
 
 // Serves the input block by block, and returns whether all output is written.
 // Nothing says that the input ends, and a proved loop has to: it counts down from a number that no run uses up.
-fn run(s: Settings, input: &mut [u8], rows: &mut [u64], keys: &mut [u8], out: &mut [u8]) -> bool
-    requires { ⌜ Startable (lent s (now rows) (now keys)) (now input) (now out) ⌝ }
-    ensures { λ r. ⌜ Ran r (lent s (now (rows .entry)) (now (keys .entry))) (now (rows .exit)) (now (keys .exit)) ⌝ }
+fn run(
+    s: State,
+    entries: &mut [u8],
+    input: &mut [u8],
+    rows: &mut [u64],
+    keys: &mut [u8],
+    out: &mut [u8],
+) -> bool
+    requires { ⌜ Startable (lentWith s (now entries) (now rows) (now keys)) (now entries) (now input) (now out) ⌝ }
+    ensures { λ r. ⌜ Ran r (lentWith s (now (entries .entry)) (now (rows .entry)) (now (keys .entry))) (now (rows .exit)) (now (keys .exit)) ⌝ }
 {
     let mut after = s;
     let mut kept = 0;
     let mut turns = u64::MAX;
     while turns > 0 {
         let came = read_behind(input, kept);
-        let rest = serve_block(input, came.end, after, rows, keys, out);
+        let rest = serve_block(input, came.end, after, entries, rows, keys, out);
         if came.over {
             return rest.told;
         }
-        if !rest.told {
+        if rest.told {
+            after = rest.state;
+            kept = rest.kept;
+            turns -= 1;
+        } else {
             return false;
         }
-        after = rest.settings;
-        kept = rest.kept;
-        turns -= 1;
     }
     false
 }
@@ -239,12 +263,14 @@ fn no_output() -> [u8; 131072]
 }
 
 fn main() {
+    let mut entries = settings::no_entries();
     let mut input = no_input();
     let mut rows = table::fresh_rows();
     let mut keys = table::fresh_keys();
     let mut out = no_output();
     if !run(
-        settings::fresh(),
+        settings::state_of(settings::fresh()),
+        &mut entries,
         &mut input,
         &mut rows,
         &mut keys,

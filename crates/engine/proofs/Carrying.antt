@@ -9,10 +9,11 @@ use lib.ListN.{length, drop}
 use Rattle.buffers.specs.Writes.{Wrote}
 use Rattle.model.specs.Requests.{Verb, settingOf}
 use Rattle.model.specs.Effects.{configAfter}
+use Rattle.settings.specs.declared.Rule.{Rule}
 use Rattle.settings.specs.declared.Settings.{Settings}
 use Rattle.settings.specs.declared.State.{State}
 use Rattle.settings.specs.Meaning.{settingsMean, settingsFrom, prefixesAre}
-use Rattle.settings.specs.Changes.{withProgress}
+use Rattle.settings.specs.State.{settingsBy}
 use Rattle.settings.proofs.Back.{means-back}
 use Rattle.table.specs.Layout.{rowsOf, capacity, Holds}
 use Rattle.table.proofs.Held.{rows-length}
@@ -29,26 +30,28 @@ use Rattle.apply.specs.declared.Progress.{Progress}
 use Rattle.apply.specs.Applied.{judged, Applicable, Applied}
 use Rattle.bucket.specs.Whole.{lent}
 use Rattle.outcome.specs.Decision.{Effect}
-use Rattle.outcome.specs.Outcome.{refused, written}
+use Rattle.outcome.specs.Outcome.{Outcome, refused, written}
 use Rattle.outcome.specs.Steps.{settingsAfter, carried}
-use Rattle.engine.specs.declared.Served.{Served}
-use Rattle.engine.specs.declared.Step.{Step}
-use Rattle.engine.specs.Served.{outcomeFrom, served, CanCarryOut, CarriedOut}
+use Rattle.engine.specs.declared.Done.{Done}
+use Rattle.engine.specs.Served.{outcomeBy, withProgress, CanCarryOut, CarriedOut}
 
 -- ## Outcomes by their parts
 
 -- A refusal of the code.
-pub refused-is : (r : Served) (k : ℕ) (s : Settings) (n keys a : List ℕ) → r .number ≡ k → r .len ≡ 0 → r .settings ≡ s → outcomeFrom r n keys a ≡ refused k (lent s n keys) a
-refused-is r k s n keys a e f g = rw (e, f, g)
+pub refused-is : (r : Done) (k : ℕ) (s : State) (us : List Rule) (n keys a : List ℕ) → r .number ≡ k → r .len ≡ 0 → r .state ≡ s → outcomeBy r us n keys a ≡ refused k (lent (settingsBy s us) n keys) a
+refused-is r k s us n keys a e f g = rw (e, f, g)
 
-same-outcome : (l m : ℕ) (s t : Settings) (n n′ keys keys′ a a′ : List ℕ) → l ≡ m → s ≡ t → n ≡ n′ → keys ≡ keys′ → a ≡ a′
-    → outcomeFrom (record { number = 0; len = l; settings = s }) n keys a ≡ outcomeFrom (record { number = 0; len = m; settings = t }) n′ keys′ a′
+-- an accepted call that leaves these settings
+abbrev left : ℕ → Settings → List ℕ → List ℕ → List ℕ → Outcome
+left len s n keys a = record { number = 0; len = len; bucket = lent s n keys; answer = a }
+
+same-outcome : (l m : ℕ) (s t : Settings) (n n′ keys keys′ a a′ : List ℕ) → l ≡ m → s ≡ t → n ≡ n′ → keys ≡ keys′ → a ≡ a′ → left l s n keys a ≡ left m t n′ keys′ a′
 same-outcome l m s t n n′ keys keys′ a a′ e1 e2 e3 e4 e5 = rw (e1, e2, e3, e4, e5)
 
 -- An effect, carried out.
 pub carried-is : (s : Settings) (n keys : List ℕ) (now : ℕ) (v : Verb) (a : List ℕ) (e : Effect) (most len : ℕ) (after : Settings) (n′ keys′ a′ : List ℕ) → Wrote a 0 (e .text) most a′ len
     → after ≡ settingsFrom (settingsAfter (settingsMean s) now (e .taken) v) (length (e .rows)) → Holds (capacity keys) (e .rows) n′ keys′
-    → outcomeFrom (record { number = 0; len = len; settings = after }) n′ keys′ a′ ≡ carried (lent s n keys) now v a e
+    → left len after n′ keys′ a′ ≡ carried (lent s n keys) now v a e
 carried-is s n keys now v a e most len after n′ keys′ a′ w q h =
     let z : 0 + length (e .text) ≡ length (e .text) = omega arith in
     same-outcome len (length (e .text)) after _ n′ _ keys′ _ a′ (written (e .text) a)
@@ -61,26 +64,22 @@ carried-is s n keys now v a e most len after n′ keys′ a′ w q h =
 -- An effect that keeps the rows and takes no number leaves the buffers as they are.
 pub kept-is : (s : Settings) (n keys : List ℕ) (now : ℕ) (v : Verb) (a : List ℕ) (e : Effect) (most len : ℕ) (after : Settings) (a′ : List ℕ) → Wrote a 0 (e .text) most a′ len
     → after ≡ settingsFrom (record { time = now; next = s .next; config = configAfter (settingsMean s .config) v }) (s .used) → Holds (capacity keys) (rowsOf n keys (s .used)) n keys
-    → e .rows ≡ rowsOf n keys (s .used) → e .taken ≡ 0 → outcomeFrom (record { number = 0; len = len; settings = after }) n keys a′ ≡ carried (lent s n keys) now v a e
+    → e .rows ≡ rowsOf n keys (s .used) → e .taken ≡ 0 → left len after n keys a′ ≡ carried (lent s n keys) now v a e
 kept-is s n keys now v a e most len after a′ w q h er et =
     let z : s .next + 0 ≡ s .next = omega arith in
     carried-is s n keys now v a e most len after n keys a′ w (rw (er, et, z, rows-length n keys (s .used)) q) (rw er h)
 
--- The settings after a step.
-pub settle-done : (s : Settings) (x : Step) (after : Settings) → after ≡ withProgress s (x .time) (x .used) (x .next) → record { number = x .number; len = x .len; settings = after } ≡ served s x
-settle-done s x after e = rw e
-
 -- ## A verdict
 
 -- The settings, where the verb sets nothing: now, the used rows and the next number.
-pub settings-after : (s : Settings) (v : Verb) (now used next : ℕ) → settingOf v ≡ none → prefixesAre (s .rules) ≡ true
-    → withProgress s now used next ≡ settingsFrom (record { time = now; next = next; config = configAfter (settingsMean s .config) v }) used
+pub settings-after : (s : State) (us : List Rule) (v : Verb) (now used next : ℕ) → settingOf v ≡ none → prefixesAre us ≡ true
+    → settingsBy (withProgress s now used next) us ≡ settingsFrom (record { time = now; next = next; config = configAfter (settingsMean (settingsBy s us) .config) v }) used
 unfolding configAfter
-settings-after s v now used next e h = rw e (sym (means-back (withProgress s now used next) h))
+settings-after s us v now used next e h = rw e (sym (means-back (settingsBy (withProgress s now used next) us) h))
 
 module _ (s : State) (n keys line a : List ℕ) (o : Verdict) (now : ℕ) (fates : List ℕ) where
-  pub verdict-refused : (k : ℕ) → o ≡ verdict.Refused k → CarriedOut s n keys line a o now fates (record { number = k; len = 0; time = s .time; used = s .used; next = s .next }) n keys a
-  verdict-refused k e = record { is = λ t v q h c. rw (e, q) }
+  pub verdict-refused : (k : ℕ) (r : Done) → o ≡ verdict.Refused k → r .number ≡ k → r .len ≡ 0 → r .state ≡ s → CarriedOut s n keys line a o now fates r n keys a
+  verdict-refused k r e x y z = record { is = λ us v h c. refused-is r k s us n keys a x y z ∙ rw e }
 
   module _ (p : CanCarryOut s n keys line a o now fates) (plan : Plan) (e : o ≡ verdict.Accepted plan) where
     feasible : Feasible (judged line (s .next) now fates) (capacity keys) (rowsIn s n keys) (verdict.Accepted plan)
@@ -96,13 +95,12 @@ module _ (s : State) (n keys line a : List ℕ) (o : Verdict) (now : ℕ) (fates
 
     pub plan-done : (change : Change) (text : Answer) (n′ keys′ a′ : List ℕ) (g : Progress) (len : ℕ) → plan .change ≡ change → plan .answer ≡ text
         → Applied (judged line (s .next) now fates) (capacity keys) (rowsOf n keys (s .used)) change n′ keys′ g → Wrote a 0 (textOf text) longestAnswer a′ len
-        → CarriedOut s n keys line a o now fates (record { number = 0; len = len; time = now; used = g .used; next = g .next }) n′ keys′ a′
+        → CarriedOut s n keys line a o now fates (record { number = 0; len = len; state = withProgress s now (g .used) (g .next) }) n′ keys′ a′
     plan-done change text n′ keys′ a′ g len pc pt d w =
         record {
-          is = λ t v q h c. let i = rw q at d in
-              rw (e, pc, pt) (carried-is t n keys now v a (planMeans (judged line (t .next) now fates) (rowsOf n keys (t .used)) (record { change = change; answer = text })) _ len (withProgress t now (g .used) (g .next)) n′ keys′ a′ w
-              (rw (i .used-is, i .next-is) (settings-after t v now _ _ c h))
-              (i .held));
+          is = λ us v h c. rw (e, pc, pt) (carried-is (settingsBy s us) n keys now v a (planMeans (judged line (s .next) now fates) (rowsOf n keys (s .used)) (record { change = change; answer = text })) _ len _ n′ keys′ a′ w
+              (rw (d .used-is, d .next-is) (settings-after s us v now _ _ c h))
+              (d .held));
         }
 
 pub ruleset verdicts = (verdict-refused, plan-can, plan-prints, plan-done)

@@ -10,11 +10,12 @@ use borrow.Author.Tests.{ne-eqb}
 use Rattle.buffers.specs.Choices.{pick}
 use Rattle.calendar.specs.declared.Now.{Now}
 use Rattle.model.specs.Comparisons.{comparisons, comparisonsBy}
-use Rattle.settings.specs.declared.Settings.{Settings}
+use Rattle.settings.specs.declared.Rule.{Rule}
 use Rattle.settings.specs.declared.State.{State}
-use Rattle.settings.specs.State.{stateOf}
+use Rattle.settings.specs.Bytes.{rulesOf}
+use Rattle.settings.specs.State.{settingsBy}
 use Rattle.settings.specs.Meaning.{rulesMean, settingsMean}
-use Rattle.bucket.specs.Whole.{Lent, lent, bucketOf, whole}
+use Rattle.bucket.specs.Whole.{Lent, lent, lentWith, bucketOf, whole}
 use Rattle.request.specs.declared.Action.{Action}
 use Rattle.request.specs.declared.Setting.{Setting}
 use Rattle.request.specs.declared.Query.{Query}
@@ -31,10 +32,9 @@ use Rattle.outcome.specs.Calls.{call}
 use Rattle.outcome.specs.Outcome.{Outcome, outcome}
 use Rattle.outcome.proofs.Deciding.{outcome-1}
 use Rattle.outcome.specs.Comparisons.{comparisonsOf}
-use Rattle.engine.specs.declared.Step.{Step}
-use Rattle.engine.specs.declared.SweepStep.{SweepStep}
+use Rattle.engine.specs.declared.Counted.{Counted}
 use Rattle.engine.specs.Served.{Passing, Swept}
-use Rattle.engine.proofs.Serving.{stops, line-swept}
+use Rattle.engine.proofs.Serving.{stops}
 
 -- ## The count of a call
 
@@ -69,28 +69,32 @@ stopped-some b line a k = go (screenedLine (settingsMean (b .settings) .config) 
     go r (barred l q g z) e f = z (sym (ap lineRefusal e) ∙ f)
     go r (passed l q g z) e f = let x : _≡_ {A = ℕ} 0 1 = cc in omega arith
 
-module _ (s : Settings) (n keys line a : List ℕ) where
-  pub unsound-counts : (w : Bool) → w ≡ whole (lent s n keys) → w ≡ false → 0 ≡ comparisonsOf (lent s n keys) (call line a)
-  unsound-counts w f t = refused-count (lent s n keys) line a (λ z. let y : 1 ≡ 0 = ap (λ (o : Outcome). o .number) (outcome-1 (lent s n keys) (call line a) (sym f ∙ t)) ∙ z in omega arith)
+module _ (s : State) (us : List Rule) (n keys line a : List ℕ) where
+  -- the bucket
+  abbrev b : Lent
+  b = lent (settingsBy s us) n keys
 
-  module _ (st : State) (o : Screened) (i : st ≡ stateOf s) (g : Screens st line (length a) o) where
-    pub stopped-counts : (k : ℕ) → o ≡ screened.Refused k → whole (lent s n keys) ≡ true → 0 ≡ comparisonsOf (lent s n keys) (call line a)
+  pub unsound-counts : (w : Bool) → w ≡ whole b → w ≡ false → 0 ≡ comparisonsOf b (call line a)
+  unsound-counts w f t = refused-count b line a (λ z. let y : 1 ≡ 0 = ap (λ (o : Outcome). o .number) (outcome-1 b (call line a) (sym f ∙ t)) ∙ z in omega arith)
+
+  module _ (o : Screened) (g : Screens s line (length a) o) where
+    pub stopped-counts : (k : ℕ) → o ≡ screened.Refused k → whole b ≡ true → 0 ≡ comparisonsOf b (call line a)
     stopped-counts k t h =
-        let z : screened.Refused k ≡ screenedLine (settingsMean s .config) (s .time) line (length a) = sym t ∙ (rw i at g) .is (settingsMean s .config) in
-        refused-count (lent s n keys) line a (λ y. stopped-some (lent s n keys) line a k z (ap (λ (q : Outcome). q .number) (stops (lent s n keys) line a h k z) ∙ y))
+        let z : screened.Refused k ≡ screenedLine (settingsMean (b .settings) .config) (s .time) line (length a) = sym t ∙ g .is (settingsMean (b .settings) .config) in
+        refused-count b line a (λ y. stopped-some b line a k z (ap (λ (q : Outcome). q .number) (stops b line a h k z) ∙ y))
 
     module _ (v : Verb) (when : Now) (t : o ≡ screened.Passed v when) where
-      other-counts : (u : Verb) → v ≡ u → comparisonsBy (bucketOf (lent s n keys)) (verbMeans line u) ≡ 0 → 0 ≡ comparisonsOf (lent s n keys) (call line a)
-      other-counts u f z = other-count (lent s n keys) line a u when (rw f at (sym t ∙ (rw i at g) .is (settingsMean s .config))) z
+      other-counts : (u : Verb) → v ≡ u → comparisonsBy (bucketOf b) (verbMeans line u) ≡ 0 → 0 ≡ comparisonsOf b (call line a)
+      other-counts u f z = other-count b line a u when (rw f at (sym t ∙ g .is (settingsMean (b .settings) .config))) z
 
-      pub act-counts : (y : Action) → v ≡ verb.Act y → 0 ≡ comparisonsOf (lent s n keys) (call line a)
-      act-counts y f = other-counts (verb.Act y) f (action-uncounted line y (bucketOf (lent s n keys)))
+      pub act-counts : (y : Action) → v ≡ verb.Act y → 0 ≡ comparisonsOf b (call line a)
+      act-counts y f = other-counts (verb.Act y) f (action-uncounted line y (bucketOf b))
 
-      pub set-counts : (y : Setting) → v ≡ verb.Set y → 0 ≡ comparisonsOf (lent s n keys) (call line a)
+      pub set-counts : (y : Setting) → v ≡ verb.Set y → 0 ≡ comparisonsOf b (call line a)
       unfolding comparisonsBy
       set-counts y f = other-counts (verb.Set y) f refl
 
-      pub ask-counts : (y : Query) → v ≡ verb.Ask y → 0 ≡ comparisonsOf (lent s n keys) (call line a)
+      pub ask-counts : (y : Query) → v ≡ verb.Ask y → 0 ≡ comparisonsOf b (call line a)
       unfolding comparisonsBy
       ask-counts y f = other-counts (verb.Ask y) f refl
 
@@ -98,14 +102,16 @@ pub ruleset line-counts = (stopped-counts, act-counts, set-counts, ask-counts)
 
 -- ## SWEEP
 
--- The count of the step is that by its number.
-pub step-count : (x : Step) (r c k : ℕ) → r ≡ pick (eqb (x .number) 0) c 0 → c ≡ k → r ≡ pick (eqb (x .number) 0) k 0
-step-count x r c k e f = rw f at e
+module _ (s : State) (e n keys line a : List ℕ) (when : Now) (w : Counted) (n′ keys′ a′ : List ℕ) (g : Swept s e n keys a when (w .done) n′ keys′ a′) (p : Passing (lentWith s e n keys) line a verb.Sweep when) where
+  number-is : (w .done) .number ≡ (outcome (lentWith s e n keys) (call line a)) .number
+  number-is = ap (λ (z : Outcome). z .number) (g .is line p)
 
-pub sweep-counts : (s : Settings) (n keys line a : List ℕ) (when : Now) (st : State) (w : SweepStep) (n′ keys′ a′ : List ℕ) → Swept st (s .rules) n keys line a when (w .step) n′ keys′ a′
-    → w .comparisons ≡ pick (eqb ((w .step) .number) 0) (comparisons (rulesMean (s .rules)) (rowsIn st n keys)) 0 → Passing (lent s n keys) line a verb.Sweep when → st ≡ stateOf s
-    → w .comparisons ≡ comparisonsOf (lent s n keys) (call line a)
-unfolding comparisonsBy
-sweep-counts s n keys line a when st w n′ keys′ a′ g f p i =
-    let o : (w .step) .number ≡ (outcome (lent s n keys) (call line a)) .number = ap (λ (z : Outcome). z .number) (line-swept s n keys line a when p st i (w .step) _ n′ keys′ a′ g refl) in
-    f ∙ rw (o, i) (sym (passing-count (lent s n keys) line a verb.Sweep when (p .passes)))
+  -- A refused sweep counts none.
+  pub sweep-uncounted : ((w .done) .number ≡ 0 → ⊥) → 0 ≡ comparisonsOf (lentWith s e n keys) (call line a)
+  sweep-uncounted z = refused-count (lentWith s e n keys) line a (λ y. z (number-is ∙ y))
+
+  pub sweep-counted : (w .done) .number ≡ 0 → w .comparisons ≡ comparisons (rulesMean (rulesOf e)) (rowsIn s n keys) → w .comparisons ≡ comparisonsOf (lentWith s e n keys) (call line a)
+  unfolding comparisonsBy
+  sweep-counted z f = f ∙ sym (passing-count (lentWith s e n keys) line a verb.Sweep when (p .passes) ∙ rw (sym number-is ∙ z))
+
+pub ruleset sweep-counts = (sweep-uncounted, sweep-counted)

@@ -1,4 +1,4 @@
--- What a call returned and left, as an outcome; what its parts ask, and what they come to with the settings.
+-- What a call returned and left, as an outcome; what its parts ask, and what they come to with any entries.
 use Prim.Native.Nat.{ℕ, _≤_}
 use mathlib.Core.Path.{_≡_}
 use mathlib.Core.Bool.{true}
@@ -10,17 +10,14 @@ use Rattle.model.specs.Settings.{soundRules}
 use Rattle.model.specs.Requests as model
 use Rattle.model.specs.Refusals.{leastRoom}
 use Rattle.settings.specs.declared.Rule.{Rule}
-use Rattle.settings.specs.declared.Settings.{Settings}
 use Rattle.settings.specs.declared.State.{State}
+use Rattle.settings.specs.Bytes.{entriesLength, rulesOf}
 use Rattle.settings.specs.Meaning.{settingsMean, rulesMean, prefixesAre}
-use Rattle.settings.specs.State.{stateOf}
-use Rattle.settings.specs.Changes.{withProgress}
+use Rattle.settings.specs.State.{settingsBy}
 use Rattle.table.specs.Layout.{rowsOf, capacity}
-use Rattle.bucket.specs.Whole.{Lent, lent, whole}
-use Rattle.request.specs.declared.Action.{Action}
+use Rattle.bucket.specs.Whole.{Lent, lent, lentWith, whole}
 use Rattle.request.specs.declared.Verb.{Verb}
 use Rattle.request.specs.declared.Verb.the-variants as verb
-use Rattle.request.specs.Meaning.{actionMeans, ActionInside}
 use Rattle.screen.specs.declared.Screened.the-variants.{Passed}
 use Rattle.screen.specs.Screen.{screenedLine}
 use Rattle.judge.specs.declared.Verdict.{Verdict}
@@ -31,22 +28,30 @@ use Rattle.apply.specs.Applied.{judged}
 use Rattle.outcome.specs.Calls.{call}
 use Rattle.outcome.specs.Outcome.{Outcome, outcome}
 use Rattle.outcome.specs.Steps.{done}
+use Rattle.engine.specs.declared.Done.{Done}
 use Rattle.engine.specs.declared.Served.{Served}
-use Rattle.engine.specs.declared.Step.{Step}
 
-abbrev pub outcomeFrom : Served → List ℕ → List ℕ → List ℕ → Outcome
-outcomeFrom r numbers keys answer =
+-- with these rules
+abbrev pub outcomeBy : Done → List Rule → List ℕ → List ℕ → List ℕ → Outcome
+outcomeBy r rules numbers keys answer =
+    record { number = r .number; len = r .len; bucket = lent (settingsBy (r .state) rules) numbers keys; answer = answer }
+
+-- with these entries
+abbrev pub outcomeFrom : Done → List ℕ → List ℕ → List ℕ → List ℕ → Outcome
+outcomeFrom r entries numbers keys answer = outcomeBy r (rulesOf entries) numbers keys answer
+
+-- with the settings by value
+abbrev pub servedOutcome : Served → List ℕ → List ℕ → List ℕ → Outcome
+servedOutcome r numbers keys answer =
     record { number = r .number; len = r .len; bucket = lent (r .settings) numbers keys; answer = answer }
 
--- what a call returns after a step
-abbrev pub served : Settings → Step → Served
-served s x = record { number = x .number; len = x .len; settings = withProgress s (x .time) (x .used) (x .next) }
+-- the state at another time, with other used rows and another next number
+abbrev pub withProgress : State → ℕ → ℕ → ℕ → State
+withProgress s time used next = record { time = time; used = used; next = next; mode = s .mode; count = s .count; unit = s .unit }
 
--- An answer of this length was written, and of the settings the time alone became now.
-pub record Answered (s : Settings) (when : Now) (len : ℕ) (r : Served) : Type 0 where
-  pub accepted : r .number ≡ 0
-  pub long : r .len ≡ len
-  pub settings-are : r .settings ≡ withProgress s (when .stamp) (s .used) (s .next)
+-- an answer of this length was written, and of the state the time alone became now
+abbrev pub answeredWith : State → ℕ → Now → Done
+answeredWith s len when = record { number = 0; len = len; state = withProgress s (when .stamp) (s .used) (s .next) }
 
 -- The bucket is whole, and the line passes the screen: it says this verb, and this is its now.
 pub record Passing (b : Lent) (line answer : List ℕ) (v : Verb) (when : Now) : Type 0 where
@@ -61,31 +66,22 @@ pub record CanCarryOut (s : State) (numbers keys line answer : List ℕ) (v : Ve
   pub feasible : Feasible (judged line (s .next) now fates) (capacity keys) (rowsIn s numbers keys) v
   pub room : leastRoom ≤ length answer
 
--- With any settings of that state, what is returned and left is the verdict's decision, done, where the verb sets nothing.
-pub record CarriedOut (s : State) (numbers keys line answer : List ℕ) (v : Verdict) (now : ℕ) (fates : List ℕ) (x : Step) (numbers′ keys′ answer′ : List ℕ) : Type 0 where
-  pub is : (settings : Settings) (u : model.Verb) → s ≡ stateOf settings → prefixesAre (settings .rules) ≡ true → model.settingOf u ≡ none
-      → outcomeFrom (served settings x) numbers′ keys′ answer′ ≡ done (lent settings numbers keys) now u answer (verdictMeans (judged line (settings .next) now fates) (rowsOf numbers keys (settings .used)) v)
+-- With any rules whose prefixes are as they are written, what is returned and left is the verdict's decision, done, where the verb sets nothing.
+pub record CarriedOut (s : State) (numbers keys line answer : List ℕ) (v : Verdict) (now : ℕ) (fates : List ℕ) (r : Done) (numbers′ keys′ answer′ : List ℕ) : Type 0 where
+  pub is : (rules : List Rule) (u : model.Verb) → prefixesAre rules ≡ true → model.settingOf u ≡ none
+      → outcomeBy r rules numbers′ keys′ answer′ ≡ done (lent (settingsBy s rules) numbers keys) now u answer (verdictMeans (judged line (s .next) now fates) (rowsOf numbers keys (s .used)) v)
 
--- ## An action, and SWEEP
+-- ## SWEEP
 
--- An action that can be judged, and room for its answer.
-pub record Actable (s : State) (numbers keys line answer : List ℕ) (x : Action) (when : Now) : Type 0 where
-  pub asked : Asked s numbers keys (when .judge) (actionMeans line x)
-  pub inside : ActionInside line x
-  pub room : leastRoom ≤ length answer
-  pub one-now : when .stamp ≡ when .judge
-
--- With the settings of a line that passes, what is returned and left is what comes of the line.
-pub record Acted (s : State) (numbers keys line answer : List ℕ) (action : Action) (when : Now) (x : Step) (numbers′ keys′ answer′ : List ℕ) : Type 0 where
-  pub is : (settings : Settings) → s ≡ stateOf settings → Passing (lent settings numbers keys) line answer (verb.Act action) when → outcomeFrom (served settings x) numbers′ keys′ answer′ ≡ outcome (lent settings numbers keys) (call line answer)
-
--- A sweep that can be judged by these rules, and room for its answer.
-pub record SweepAsked (s : State) (rules : List Rule) (numbers keys answer : List ℕ) (when : Now) : Type 0 where
+-- A sweep that can be judged by the rules of these entries, and room for its answer.
+pub record SweepAsked (s : State) (entries numbers keys answer : List ℕ) (when : Now) : Type 0 where
   pub asked : Asked s numbers keys (when .judge) model.Sweep
-  pub prefixes : prefixesAre rules ≡ true
-  pub rules-sound : soundRules (rulesMean rules) ≡ true
+  pub entries-long : length entries ≡ entriesLength
+  pub prefixes : prefixesAre (rulesOf entries) ≡ true
+  pub rules-sound : soundRules (rulesMean (rulesOf entries)) ≡ true
   pub room : leastRoom ≤ length answer
   pub one-now : when .stamp ≡ when .judge
 
-pub record Swept (s : State) (rules : List Rule) (numbers keys line answer : List ℕ) (when : Now) (x : Step) (numbers′ keys′ answer′ : List ℕ) : Type 0 where
-  pub is : (settings : Settings) → s ≡ stateOf settings → settings .rules ≡ rules → Passing (lent settings numbers keys) line answer verb.Sweep when → outcomeFrom (served settings x) numbers′ keys′ answer′ ≡ outcome (lent settings numbers keys) (call line answer)
+-- With any line that passes as SWEEP, what is returned and left is what comes of the line.
+pub record Swept (s : State) (entries numbers keys answer : List ℕ) (when : Now) (r : Done) (numbers′ keys′ answer′ : List ℕ) : Type 0 where
+  pub is : (line : List ℕ) → Passing (lentWith s entries numbers keys) line answer verb.Sweep when → outcomeFrom r entries numbers′ keys′ answer′ ≡ outcome (lentWith s entries numbers keys) (call line answer)

@@ -23,7 +23,7 @@ use Rattle.model.specs.Rows.{compliance, soundRow}
 use Rattle.model.specs.Run.{left}
 use Rattle.model.specs.Settings.{Bucket, fresh, soundRules, soundConfig, fits, sound}
 use Rattle.blocks.specs.Blocks.{blockOf, isBlock}
-use Rattle.settings.specs.Bytes.{settingsOf, settingsBytes}
+use Rattle.settings.specs.Bytes.{rulesAt, settingsOf, settingsBytes}
 use Rattle.settings.specs.Meaning.{settingsSound}
 use Rattle.bucket.specs.Whole.{bucketOf, laidOut, whole}
 use Rattle.fields.specs.Fields.{rightsIn, readRights, readKey, readPrefix, readVersion, readMode, readUntil, readSwitch, readHold, readBypass}
@@ -82,7 +82,7 @@ pub record CarriedOver : Type 0 where
   pub hold-held : Held (bucketOf (lentOf (left byteStep old calls))) after-old 4294967295 OnHold
 
 pub carried-over : CarriedOver
-unfolding fieldOf placeOf isKeyByte isPrefix isKey isDigit digitMore leadingZero numberOf positiveOf leap yearsLength monthStart monthLength validDay daysOf guessOf yearOf monthOf dateIn civilOf dateText printDate digitOf twoDigits fourDigits dayNumber dayAt secondOfDay secondAt fractionDigit milliseconds fractionOf readDate reply added rowsAfter configAfter locked halfGiven needs granted lacksRight shortForPage pastDate missing namesMarker barred tooLate spends full inRange soundRow soundRules soundConfig fits sound blockOf isBlock whole rightsIn readRights readKey readPrefix readVersion readMode readUntil readSwitch readHold readBypass retentionAt termsAt putOf deleteOf queryByWord otherByWord verbByWord requestIn readLine fieldsText okText modeText untilText holdText refusalOf outcome number spelled numbersFrom numbersBytes settingsOf settingsBytes hubServed settingsSound
+unfolding fieldOf placeOf isKeyByte isPrefix isKey isDigit digitMore leadingZero numberOf positiveOf leap yearsLength monthStart monthLength validDay daysOf guessOf yearOf monthOf dateIn civilOf dateText printDate digitOf twoDigits fourDigits dayNumber dayAt secondOfDay secondAt fractionDigit milliseconds fractionOf readDate reply added rowsAfter configAfter locked halfGiven needs granted lacksRight shortForPage pastDate missing namesMarker barred tooLate spends full inRange soundRow soundRules soundConfig fits sound blockOf isBlock whole rightsIn readRights readKey readPrefix readVersion readMode readUntil readSwitch readHold readBypass retentionAt termsAt putOf deleteOf queryByWord otherByWord verbByWord requestIn readLine fieldsText okText modeText untilText holdText refusalOf outcome number spelled numbersFrom numbersBytes rulesAt settingsOf settingsBytes hubServed settingsSound
 carried-over =
     let sized : Sized 3 old = record { some = lit≤ tt; most = lit≤ tt; settings-long = refl; rows-long = refl; keys-long = refl } in
     let c : Carriable (lentOf old) = record { is-whole = whole-still (lentOf old) refl; numbers-differ = refl } in

@@ -39,9 +39,8 @@ use Rattle.model.specs.Years.{laterYear, MadeForYears}
 use Rattle.model.specs.Settings.{largestNumber, soundRules, soundConfig, fits, sound}
 use Rattle.model.specs.Time.{defaultEnd}
 use Rattle.blocks.specs.Blocks.{blockOf, isBlock}
-use Rattle.settings.specs.Bytes.{settingsLength, settingsOf, settingsBytes}
+use Rattle.settings.specs.Bytes.{settingsLength, rulesAt, settingsOf, settingsBytes}
 use Rattle.settings.specs.Meaning.{settingsSound}
-use Rattle.settings.specs.Changes.{withProgress}
 use Rattle.bucket.specs.Whole.{Lent, lent, bucketOf, freshLent, whole}
 use Rattle.fields.specs.Fields.{rightsIn, readRights, readKey, readPrefix, readVersion, readMode, readUntil, readSwitch, readHold, readBypass, readPeriod}
 use Rattle.request.specs.Grammar.{nameAt, retentionAt, termsAt, putOf, copyOf, retainOf, setHoldOf, deleteOf, defaultOf, ruleOf, sweepOf, getOf, queryByWord, otherByWord, verbByWord, requestIn, readLine}
@@ -155,7 +154,7 @@ calls = lockedPut ∷ asks (bytes "2033-01-05T00:00:00.006Z\tdb\tDELETE\tq/7\t1\
 
 -- An empty bucket of one row with one version number left.
 abbrev oneLeft : Lent
-oneLeft = let f = freshLent 1 in lent (withProgress (f .settings) 0 0 largestNumber) (f .numbers) (f .keys)
+oneLeft = let f = freshLent 1 in lent (record { time = 0; used = 0; next = largestNumber; mode = 0; count = 0; unit = 0; rules = f .settings .rules }) (f .numbers) (f .keys)
 
 -- The same line in a longer answer buffer, full of line feeds, and the line of another file.
 abbrev lockedPutAgain : Call
@@ -305,7 +304,7 @@ pub record Examples : Type 0 where
   pub no-first-line-only : Demand1 (firstLineOnly (lockedPut ∷ [])) withLocked hold → Demand2 (firstLineOnly (lockedPut ∷ [])) withLocked hold → ⊥
 
 pub examples : Examples
-unfolding fieldOf placeOf isKeyByte isPrefix isKey isDigit digitMore leadingZero numberOf positiveOf digits leap yearsLength monthStart monthLength validDay daysOf guessOf yearOf monthOf dateIn civilOf sameDateIn yearsLater periodEnd expiresAt dateText printDate digitOf twoDigits fourDigits dayNumber dayAt secondOfDay secondAt fractionDigit milliseconds fractionOf readDate reply added removed rowsAfter setConfig configAfter locked admits halfGiven needs granted lacksRight shortForPage pastDate missing namesMarker barred tooLate spends full inRange soundRow soundRules soundConfig fits sound defaultEnd blockOf isBlock whole rightsIn readRights readKey readPrefix readVersion readMode readUntil readSwitch readHold readBypass readPeriod nameAt retentionAt termsAt putOf copyOf retainOf setHoldOf deleteOf defaultOf ruleOf sweepOf getOf queryByWord otherByWord verbByWord requestIn readLine fieldsText okText modeText untilText holdText refusalOf outcome number numbersFrom numbersBytes spelled settingsOf settingsBytes hubServed hubComparisons hubCounted fitRows hubFresh settingsSound comparisons comparisonsBy comparisonsOf
+unfolding fieldOf placeOf isKeyByte isPrefix isKey isDigit digitMore leadingZero numberOf positiveOf digits leap yearsLength monthStart monthLength validDay daysOf guessOf yearOf monthOf dateIn civilOf sameDateIn yearsLater periodEnd expiresAt dateText printDate digitOf twoDigits fourDigits dayNumber dayAt secondOfDay secondAt fractionDigit milliseconds fractionOf readDate reply added removed rowsAfter setConfig configAfter locked admits halfGiven needs granted lacksRight shortForPage pastDate missing namesMarker barred tooLate spends full inRange soundRow soundRules soundConfig fits sound defaultEnd blockOf isBlock whole rightsIn readRights readKey readPrefix readVersion readMode readUntil readSwitch readHold readBypass readPeriod nameAt retentionAt termsAt putOf copyOf retainOf setHoldOf deleteOf defaultOf ruleOf sweepOf getOf queryByWord otherByWord verbByWord requestIn readLine fieldsText okText modeText untilText holdText refusalOf outcome number numbersFrom numbersBytes spelled rulesAt settingsOf settingsBytes hubServed hubComparisons hubCounted fitRows hubFresh settingsSound comparisons comparisonsBy comparisonsOf
 examples =
     record {
       starred = record {

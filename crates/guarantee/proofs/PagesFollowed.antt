@@ -25,7 +25,7 @@ use Rattle.model.specs.Rows.{soundRow}
 use Rattle.model.specs.Run.{left}
 use Rattle.model.specs.Settings.{soundRules, soundConfig, fits, sound}
 use Rattle.blocks.specs.Blocks.{blockOf, isBlock}
-use Rattle.settings.specs.Bytes.{settingsOf, settingsBytes, settingsLength}
+use Rattle.settings.specs.Bytes.{rulesAt, settingsOf, settingsBytes, settingsLength}
 use Rattle.settings.specs.Meaning.{settingsSound}
 use Rattle.bucket.specs.Whole.{whole, Lent, freshLent}
 use Rattle.fields.specs.Fields.{rightsIn, readRights, readKey, readPrefix, readVersion, readMode, readUntil, readSwitch, readHold, readBypass}
@@ -122,7 +122,7 @@ pub record PagesFollowed : Type 0 where
   pub late-totals-bytes : PrintsTotals (nowSent (lentOf listed) (late .sent)) (byteExchange listed late) (byteExchanges filledBytes pages)
 
 pub pages-followed : PagesFollowed
-unfolding fieldOf placeOf isKeyByte isPrefix isKey isDigit digitMore leadingZero numberOf positiveOf digits leap yearsLength monthStart monthLength validDay daysOf guessOf yearOf monthOf dateIn civilOf dateText printDate digitOf twoDigits fourDigits dayNumber dayAt secondOfDay secondAt fractionDigit milliseconds fractionOf readDate reply added rowsAfter configAfter halfGiven needs granted lacksRight pastDate missing namesMarker barred tooLate spends full inRange soundRow soundRules soundConfig fits sound blockOf isBlock whole rightsIn readRights readKey readPrefix readVersion readMode readUntil readSwitch readHold readBypass retentionAt termsAt putOf deleteOf queryByWord otherByWord verbByWord requestIn readLine fieldsText okText modeText untilText holdText refusalOf outcome number numbersFrom numbersBytes spelled settingsOf settingsBytes hubServed fitRows hubFresh settingsSound shortForPage comesAfter namesPlace listOf reportOf kindFields pageText rowsSaid linesShown lastKey lastVersion locked
+unfolding fieldOf placeOf isKeyByte isPrefix isKey isDigit digitMore leadingZero numberOf positiveOf digits leap yearsLength monthStart monthLength validDay daysOf guessOf yearOf monthOf dateIn civilOf dateText printDate digitOf twoDigits fourDigits dayNumber dayAt secondOfDay secondAt fractionDigit milliseconds fractionOf readDate reply added rowsAfter configAfter halfGiven needs granted lacksRight pastDate missing namesMarker barred tooLate spends full inRange soundRow soundRules soundConfig fits sound blockOf isBlock whole rightsIn readRights readKey readPrefix readVersion readMode readUntil readSwitch readHold readBypass retentionAt termsAt putOf deleteOf queryByWord otherByWord verbByWord requestIn readLine fieldsText okText modeText untilText holdText refusalOf outcome number numbersFrom numbersBytes spelled rulesAt settingsOf settingsBytes hubServed fitRows hubFresh settingsSound shortForPage comesAfter namesPlace listOf reportOf kindFields pageText rowsSaid linesShown lastKey lastVersion locked
 pages-followed =
     record {
       follow = refl;

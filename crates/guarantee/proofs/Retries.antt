@@ -8,14 +8,12 @@ use mathlib.Core.Option.{some}
 use native.Mathlib.Omega.{arith}
 use lib.Dec.{eqb}
 use lib.ListN.{length, take, drop}
-use lib.Seq.{take-append-seam, drop-append-seam}
 use borrow.Author.Tests.{eqb-true, le-ltb}
 use Rattle.buffers.specs.Lists.{same}
 use Rattle.buffers.specs.Texts.{bytes}
 use Rattle.buffers.specs.Words.{spelled}
 use Rattle.buffers.proofs.Tests.{and-l, and-r}
 use Rattle.buffers.proofs.Choices.{pick-ways}
-use Rattle.buffers.proofs.Words.{length-spelled}
 use Rattle.text.specs.Fields.{fieldOf}
 use Rattle.model.specs.Rows.{Row}
 use Rattle.model.specs.Settings.{Bucket}
@@ -30,8 +28,8 @@ use Rattle.model.specs.LockClause.{makes, putsUnder, putsOnHold, noneOf}
 use Rattle.model.proofs.Invariant.{asked}
 use Rattle.model.proofs.Retries.{retry-of, no-retry, retry-unspent, retry-fits, withRoom, LeftRow, left-row, again-accepted}
 use Rattle.settings.specs.Bytes.{settingsBytes}
-use Rattle.settings.specs.Changes.{withProgress}
 use Rattle.settings.specs.declared.Settings.{Settings}
+use Rattle.settings.specs.State.{stateOf}
 use Rattle.table.specs.Layout.{capacity}
 use Rattle.table.proofs.Held.{rows-length}
 use Rattle.bucket.specs.Whole.{Lent, lent, bucketOf, laidOut, whole}
@@ -49,7 +47,7 @@ use Rattle.knitpasture.specs.Bytes.{Bytes, asBytes, lentOf, numbersBytes, ByteO
 use Rattle.guarantee.specs.Calls.{step, isAccepted, answersNumber, eventHeard, callEvent}
 use Rattle.guarantee.specs.Bytes.{Sized, outcomeInBytes, byteStep}
 use Rattle.guarantee.specs.Exchanges.{exchange, byteExchange, sentField}
-use Rattle.guarantee.specs.Retries.{atTime, writtenChecks, Retried, RetryAddsNone, OtherPutMakes, isPut, lineIn, SentTwice, SentTwiceBytes, SentLater, withTimeOf, SentLaterBytes}
+use Rattle.guarantee.specs.Retries.{settingsAt, atTime, writtenChecks, Retried, RetryAddsNone, OtherPutMakes, isPut, lineIn, SentTwice, SentTwiceBytes, SentLater, withTimeOf, SentLaterBytes}
 use Rattle.guarantee.proofs.Said.{Read, accepted-read, read-field, read-same}
 use Rattle.guarantee.proofs.Bytes.{accepted-sized, same-number, accepted-bytes, served-spelled, sized-after, spelled-after}
 
@@ -99,7 +97,7 @@ module _ (b : Lent) (g : Call) (q : Request) (k : List ℕ) (body size : ℕ) (t
       let p = whole-parts b w in
       let s = b .settings in
       let z : s .next + 0 ≡ s .next = omega arith in
-      same-lent _ _ _ _ _ _ (rw (z, rows-length (b .numbers) (b .keys) (s .used)) (sym (settings-after s (retry .verb) ((nowOf (bucketOf b) (q .context)) .stamp) (s .used) (s .next) refl (p .prefixes)))) (sym (p .holds .numbers-are)) (sym (p .holds .keys-are))
+      same-lent _ _ _ _ _ _ (rw (z, rows-length (b .numbers) (b .keys) (s .used)) (sym (settings-after (stateOf s) (s .rules) (retry .verb) ((nowOf (bucketOf b) (q .context)) .stamp) (s .used) (s .next) refl (p .prefixes)))) (sym (p .holds .numbers-are)) (sym (p .holds .keys-are))
 
   -- The event of the call, if it is accepted.
   abbrev told : Event
@@ -250,15 +248,9 @@ sent-later b g again e f z =
 -- ## Over the C entry
 
 -- The bytes of settings with another time.
-front-back : (x y rest : List ℕ) → length x ≡ 8 → length y ≡ 8 → take 8 (x ++ rest) ++ drop 8 (y ++ rest) ≡ x ++ rest
-front-back x y rest e f =
-    ap₂ (λ (s t : List ℕ). s ++ t)
-    (ap (λ (n : ℕ). take n (x ++ rest)) (sym e) ∙ take-append-seam x rest)
-    (ap (λ (n : ℕ). drop n (y ++ rest)) (sym f) ∙ drop-append-seam y rest)
-
-time-bytes : (s : Settings) (t : ℕ) → take 8 (settingsBytes (withProgress s t (s .used) (s .next))) ++ drop 8 (settingsBytes s) ≡ settingsBytes (withProgress s t (s .used) (s .next))
-unfolding settingsBytes
-time-bytes s t = front-back (spelled 8 t) (spelled 8 (s .time)) _ (length-spelled 8 t) (length-spelled 8 (s .time))
+time-bytes : (s : Settings) (t : ℕ) → take 8 (settingsBytes (settingsAt s t)) ++ drop 8 (settingsBytes s) ≡ settingsBytes (settingsAt s t)
+unfolding settingsBytes spelled
+time-bytes s t = refl
 
 module _ (b : Bytes) (g again : Call) (e : isPut (byteExchange b g) ≡ true) where
   abbrev c : ℕ

@@ -6,7 +6,7 @@ use mathlib.Core.Bool.{true}
 use lib.ListN.{length, drop}
 use Rattle.text.specs.Lines.{linesOf}
 use Rattle.model.specs.Run.{left, gathered}
-use Rattle.bucket.specs.Whole.{Lent, whole}
+use Rattle.bucket.specs.Whole.{Lent}
 use Rattle.outcome.specs.Calls.{Call, call}
 use Rattle.outcome.specs.Outcome.{outcome}
 
@@ -29,9 +29,8 @@ servedLines s answer ls = left lineStep (ended s answer) ls
 abbrev pub callsOf : Lent → List ℕ → List (List ℕ) → List Call
 callsOf s answer ls = gathered lineStep (λ e l. call l (e .answer) ∷ []) (ended s answer) ls
 
--- What holds between two lines: the bucket is whole, the lines from i on lead to the end, and the buffers have their lengths.
+-- What holds between two lines: the lines from i on lead to the end, and the buffers have their lengths.
 pub record Serving (text : List ℕ) (end : Ended) (b₀ : Lent) (answer₀ : List ℕ) (i : ℕ) (b : Lent) (answer : List ℕ) : Type 0 where
-  pub is-whole : whole b ≡ true
   pub leads : end ≡ servedLines b answer (linesOf (drop i text))
   pub most : i ≤ length text + 1
   pub numbers-long : length (b .numbers) ≡ length (b₀ .numbers)

@@ -16,7 +16,7 @@ use Rattle.model.specs.Retries.{IsRetry}
 use Rattle.model.specs.Refusals.{leastRoom, outOfRange, halfGiven, lacksRight, pastDate, Check, check, firstOf}
 use Rattle.model.specs.Answers.{made}
 use Rattle.model.specs.LockClause.{History, makes, putsUnder, putsOnHold, noneOf}
-use Rattle.settings.specs.Changes.{withProgress}
+use Rattle.settings.specs.declared.Settings.{Settings}
 use Rattle.table.specs.Layout.{capacity}
 use Rattle.bucket.specs.Whole.{Lent, lent, bucketOf, laidOut, whole}
 use Rattle.answers.specs.Text.{answerText}
@@ -27,9 +27,13 @@ use Rattle.guarantee.specs.Calls.{step, callEvent}
 use Rattle.guarantee.specs.Bytes.{byteStep}
 use Rattle.guarantee.specs.Exchanges.{Exchange, exchange, byteExchange, sentField, isServed}
 
+-- The settings at another time, all else as it is.
+abbrev pub settingsAt : Settings → ℕ → Settings
+settingsAt s time = record { time = time; used = s .used; next = s .next; mode = s .mode; count = s .count; unit = s .unit; rules = s .rules }
+
 -- The bucket at another time, all else as it is.
 abbrev pub atTime : Lent → ℕ → Lent
-atTime b time = lent (withProgress (b .settings) time (b .settings .used) (b .settings .next)) (b .numbers) (b .keys)
+atTime b time = lent (settingsAt (b .settings) time) (b .numbers) (b .keys)
 
 -- ## A retry
 

@@ -23,8 +23,8 @@ use Rattle.model.specs.Refusals.{missing, namesMarker, barred, tooLate}
 use Rattle.model.specs.Answers.{reply}
 use Rattle.model.proofs.SoundRows.{row-parts}
 use Rattle.model.proofs.Room.{length-swept}
-use Rattle.settings.specs.declared.Rule.{Rule}
 use Rattle.settings.specs.declared.State.{State}
+use Rattle.settings.specs.Bytes.{rulesOf}
 use Rattle.settings.specs.Meaning.{rulesMean}
 use Rattle.table.specs.Layout.{rowAt, rowsOf, capacity}
 use Rattle.table.proofs.Held.{rows-length, held-numbers, held-keys, held-block, held-fit}
@@ -62,9 +62,9 @@ sound-days us e = all-as model.soundRule fewDays few us (and-r (eqb (length us) 
         let g = and-r (isPrefix (u .prefix)) _ f in
         and-i (leb (u .currentDays) 36500) _ (and-l _ _ g) (and-l _ _ (and-r (leb (u .currentDays) 36500) _ g))
 
-module _ (s : State) (numbers keys : List ℕ) (now : ℕ) (rules : List Rule) (fs : List ℕ) (v : Verb) (asked : Asked s numbers keys now v) (ready-rules : Sweepable s rules fs) where
+module _ (s : State) (numbers keys : List ℕ) (now : ℕ) (entries fs : List ℕ) (v : Verb) (asked : Asked s numbers keys now v) (ready-rules : Sweepable s entries fs) where
   -- What lifecycle's judgement asks.
-  pub sweep-asks : Judgeable numbers keys (s .used) rules
+  pub sweep-asks : Judgeable numbers keys (s .used) (rulesOf entries)
   sweep-asks =
       let h = asked .ready .holds in
       let f = asked .ready .used-fits in
@@ -82,7 +82,7 @@ module _ (s : State) (numbers keys : List ℕ) (now : ℕ) (rules : List Rule) (
               few = omega (arith, asked .ready .used-fits, asked .ready .capacity-fits);
             };
         prefixes = ready-rules .prefixes;
-        days = sound-days (rulesMean rules) (ready-rules .rules-sound);
+        days = sound-days (rulesMean (rulesOf entries)) (ready-rules .rules-sound);
       }
     where
       whole : (i : ℕ) → i < length (rowsOf numbers keys (s .used)) → isBlock (take 64 (drop (64 * i) keys)) ≡ true

@@ -13,8 +13,8 @@ use Rattle.calendar.specs.declared.Now.{Now}
 use Rattle.calendar.specs.Calendar.{latest}
 use Rattle.model.specs.Settings.{Rule, spentNumber, soundRules}
 use Rattle.model.specs.Requests.{Rights, Terms, Verb, Put, inRange}
-use Rattle.settings.specs.declared.Rule as settings
 use Rattle.settings.specs.declared.State.{State}
+use Rattle.settings.specs.Bytes.{entriesLength, rulesOf}
 use Rattle.settings.specs.Meaning.{rulesMean, prefixesAre}
 use Rattle.table.specs.Layout.{capacity}
 use Rattle.search.specs.Places.{keyPlace}
@@ -46,9 +46,10 @@ unfoldable pub rowRefusal : ℕ → ℕ → ℕ → ℕ
 rowRefusal c used next = pick (eqb next spentNumber) 11 (pick (ltb used c) 0 12)
 
 -- The rules of a sweep are sound, and there is room for a fate of each used row.
-pub record Sweepable (s : State) (rules : List settings.Rule) (fates : List ℕ) : Type 0 where
-  pub prefixes : prefixesAre rules ≡ true
-  pub rules-sound : soundRules (rulesMean rules) ≡ true
+pub record Sweepable (s : State) (entries fates : List ℕ) : Type 0 where
+  pub entries-long : length entries ≡ entriesLength
+  pub prefixes : prefixesAre (rulesOf entries) ≡ true
+  pub rules-sound : soundRules (rulesMean (rulesOf entries)) ≡ true
   pub long : s .used ≤ length fates
 
 -- The verdict is what the definitions decide for a sender with these rights, with these rules and these fates of a sweep.

@@ -11,7 +11,6 @@ use locks::NewLock;
 use request::Action;
 use request::Name;
 use search::Found;
-use settings::Rule;
 use settings::State;
 use table::Numbers;
 use text::Place;
@@ -29,6 +28,7 @@ ghost use Rattle.model.specs.Effects.{newHold, holdNumber, setRetention, setHol
 ghost use Rattle.model.specs.Retries.{repeats, meant};
 ghost use Rattle.calendar.specs.Calendar.{latest};
 ghost use Rattle.settings.specs.Meaning.{rulesMean};
+ghost use Rattle.settings.specs.Bytes.{rulesOf};
 ghost use Rattle.table.specs.Layout.{capacity};
 ghost use Rattle.table.specs.Places.{rowFrom};
 ghost use Rattle.fields.specs.Meaning.{modeMeans, untilMeans, holdMeans, Inside, retentionMeans, termsMeans};
@@ -371,18 +371,18 @@ pub fn judge_sweep(
     rows: &[u64],
     keys: &[u8],
     s: State,
-    rules: [Rule; 8],
+    entries: &[u8],
     instant: u64,
     fates: &mut [u8],
 ) -> SweepVerdict
     requires { ⌜ Asked s (now rows) (now keys) instant model.Sweep ⌝ }
-    requires { ⌜ Sweepable s rules (now fates) ⌝ }
-    ensures { λ r. ⌜ ((line : List ℕ) (who : model.Rights) → JudgesBy s (now (rows .entry)) (now (keys .entry)) line instant who (rulesMean rules) (now (fates .exit)) model.Sweep (r .verdict)) ⌝ }
-    ensures { λ _. ⌜ now (fates .exit) ≡ fatesAfter (rulesMean rules) instant (rowsIn s (now (rows .entry)) (now (keys .entry))) (now (fates .entry)) ⌝ }
-    ensures { λ r. ⌜ r .comparisons ≡ comparisons (rulesMean rules) (rowsIn s (now (rows .entry)) (now (keys .entry))) ⌝ }
+    requires { ⌜ Sweepable s (now entries) (now fates) ⌝ }
+    ensures { λ r. ⌜ ((line : List ℕ) (who : model.Rights) → JudgesBy s (now (rows .entry)) (now (keys .entry)) line instant who (rulesMean (rulesOf (now (entries .entry)))) (now (fates .exit)) model.Sweep (r .verdict)) ⌝ }
+    ensures { λ _. ⌜ now (fates .exit) ≡ fatesAfter (rulesMean (rulesOf (now (entries .entry)))) instant (rowsIn s (now (rows .entry)) (now (keys .entry))) (now (fates .entry)) ⌝ }
+    ensures { λ r. ⌜ r .comparisons ≡ comparisons (rulesMean (rulesOf (now (entries .entry)))) (rowsIn s (now (rows .entry)) (now (keys .entry))) ⌝ }
 {
     let used = s.used;
-    let judged = lifecycle::judge_table(rows, keys, used, rules, instant, fates);
+    let judged = lifecycle::judge_table(rows, keys, used, entries, instant, fates);
     let comparisons = judged.comparisons;
     let gone = judged.counts.removed;
     let new = judged.counts.added;

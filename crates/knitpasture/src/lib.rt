@@ -1,14 +1,16 @@
 // The entries of the hub: the settings lent by reference or as bytes, the rows as numbers or as bytes. The definitions are in specs/.
+use engine::Counted;
 use settings::Settings;
 ghost use mathlib.Core.Path.{_≡_};
 ghost use Prim.Native.Nat.{_*_};
 ghost use lib.ListN.{length, replicate};
-ghost use Rattle.settings.specs.Bytes.{settingsLength};
+ghost use Rattle.settings.specs.Bytes.{settingsLength, settingsBytes};
+ghost use Rattle.settings.specs.Meaning.{freshSettings};
 ghost use Rattle.bucket.specs.Whole.{lent, keyOf};
 ghost use Rattle.outcome.specs.Calls.{call};
 ghost use Rattle.outcome.specs.Outcome.{outcome};
 ghost use Rattle.outcome.specs.Comparisons.{comparisonsOf};
-ghost use Rattle.knitpasture.specs.Lent.{lentOutcome, lentOutcomeFrom};
+ghost use Rattle.knitpasture.specs.Lent.{lentOutcome, lentOutcomeFrom, EntriesServed};
 ghost use Rattle.knitpasture.specs.Bytes.{numbersFrom, numbersBytes, asBytes, spelledBy, byteOutcome, wordsServed, spelledServed, hubServed, wordsComparisons, hubComparisons, hubCounted, hubKey, freshOutcome, fitRows, wordsFresh, hubFresh};
 
 // Serves a line on settings that are lent and altered here, and returns 0 or the refusal.
@@ -33,6 +35,21 @@ struct Called {
     comparisons: u64,
 }
 
+// Serves a line on settings as bytes, whose entries are lent on; the state afterwards is returned and not yet written.
+fn serve_entries(
+    settings: &mut [u8],
+    rows: &mut [u64],
+    keys: &mut [u8],
+    line: &[u8],
+    answer: &mut [u8],
+) -> Counted
+    requires { ⌜ length (now settings) ≡ settingsLength ⌝ }
+    ensures { λ r. ⌜ EntriesServed (now (settings .entry)) (now (rows .entry)) (now (keys .entry)) (call (now (line .entry)) (now (answer .entry))) r (now (settings .exit)) (now (rows .exit)) (now (keys .exit)) (now (answer .exit)) ⌝ }
+{
+    let s = settings::state_in(settings);
+    engine::serve_counted(s, &mut settings[48..], rows, keys, line, answer)
+}
+
 // Serves a line on settings as bytes and rows as numbers; only an accepted line alters them.
 fn serve_words(
     settings: &mut [u8],
@@ -50,21 +67,17 @@ fn serve_words(
             comparisons: 0,
         };
     }
-    let s = settings::decode(settings);
-    let mut comparisons = 0;
-    let r = engine::serve_counted(s, rows, keys, line, answer, &mut comparisons);
-    if r.number != 0 {
-        return Called {
-            number: r.number,
-            comparisons,
-        };
+    let counted = serve_entries(settings, rows, keys, line, answer);
+    let done = counted.done;
+    let called = Called {
+        number: done.number,
+        comparisons: counted.comparisons,
+    };
+    if done.number != 0 {
+        return called;
     }
-    let after = r.settings;
-    settings::encode(after, settings);
-    Called {
-        number: 0,
-        comparisons,
-    }
+    settings::put_state(settings, done.state);
+    called
 }
 
 // The same for C.
@@ -219,8 +232,8 @@ fn key_length(settings: &[u8], rows: &[u8], keys: &[u8], at: usize, numbers: &mu
     ensures { λ r. ⌜ r ≡ length (keyOf (spelledBy (length (now (numbers .entry))) (asBytes (now (settings .entry)) (now (rows .entry)) (now (keys .entry)))) at) ⌝ }
 {
     read_numbers(rows, numbers);
-    let s = settings::decode(settings);
-    let key = bucket::key_of(s, numbers, keys, at);
+    let s = settings::state_in(settings);
+    let key = bucket::key_with(s, &settings[48..], numbers, keys, at);
     key.len()
 }
 
@@ -272,6 +285,15 @@ fn clear_numbers(s: &mut [u64])
     buffers::move_down_numbers(s, n);
 }
 
+// Makes the bytes those of fresh settings.
+fn put_fresh(settings: &mut [u8])
+    requires { ⌜ length (now settings) ≡ settingsLength ⌝ }
+    ensures { λ _. ⌜ now (settings .exit) ≡ settingsBytes freshSettings ⌝ }
+{
+    clear(settings);
+    settings::put_state(settings, settings::state_of(settings::fresh()));
+}
+
 // Makes the buffers those of a fresh bucket, the rows as numbers; returns 0, or 1 where the lengths don't fit one capacity.
 #[no_mangle]
 pub extern "C" fn knitpasture_fresh_words(
@@ -290,7 +312,7 @@ pub extern "C" fn knitpasture_fresh_words(
     if !fit_rows(keys.len()) {
         return model::UNSOUND;
     }
-    settings::encode(settings::fresh(), settings);
+    put_fresh(settings);
     clear_numbers(rows);
     clear(keys);
     0
@@ -310,7 +332,7 @@ pub extern "C" fn knitpasture_fresh(settings: &mut [u8], rows: &mut [u8], keys: 
     if !fit_rows(keys.len()) {
         return model::UNSOUND;
     }
-    settings::encode(settings::fresh(), settings);
+    put_fresh(settings);
     clear(rows);
     clear(keys);
     0

@@ -2,8 +2,8 @@
 use Prim.Native.Nat.{ℕ, zero, suc, _+_, _-_, _*_, _/_, _^_, _≤_, _<_}
 use mathlib.Core.Path.{_≡_, refl, sym, ap, _∙_}
 use mathlib.Core.Logic.{inl, inr}
-use mathlib.Core.Bool.{Bool, true, false}
-use mathlib.Core.List.{List}
+use mathlib.Core.Bool.{Bool, true, false, false≢true}
+use mathlib.Core.List.{List, [], _∷_}
 use native.Mathlib.Omega.{arith}
 use native.Mathlib.Nat.{pow-succ'}
 use mir.Val.{Fits}
@@ -170,6 +170,17 @@ module _ (b : List ℕ) (at : ℕ) (h : KeyThere b at) where
 
 -- ## A key by the bounds
 
+-- What begins it, begins it from a place on.
+begins-drop : (n : ℕ) (p k : List ℕ) → begins p k ≡ true → begins (drop n p) (drop n k) ≡ true
+begins-drop zero p k e = e
+begins-drop (suc n) [] k e = refl
+begins-drop (suc n) (x ∷ p) [] e = absurd (false≢true e)
+begins-drop (suc n) (x ∷ p) (y ∷ k) e =
+    elim (either (eqb x y)) [
+      | inl t ↦ begins-drop n p k (rw t at e)
+      | inr t ↦ absurd (false≢true (rw t at e))
+    ]
+
 module _ (p d k : List ℕ) (i x : ℕ) (h : Rules p d (i + 1)) (ex : x ≡ rank 8 k) (ks : (j : ℕ) → Fits w8 (getD k j 0)) where
   bound : Bounded (keyAt p i) (getD d (16 + i) 0) (getD d (24 + i) 0)
   bound = h .bounds i (omega arith)
@@ -200,6 +211,19 @@ module _ (p d k : List ℕ) (i x : ℕ) (h : Rules p d (i + 1)) (ex : x ≡ rank
   pub begins-longer : (q : List ℕ) → q ≡ keyAt p i → length k < length q → false ≡ begins (keyAt p i) k
   begins-longer q e l = begins-short (keyAt p i) k (rw e at l)
 
+  -- The last eight bytes of a prefix stand in each key that it begins.
+  pub begins-last : (q : List ℕ) (u v : ℕ) → q ≡ keyAt p i → u ≡ rank 8 (drop (length q - 8) k) → v ≡ rank 8 (drop (length q - 8) q) → (u ≡ v → ⊥) → 8 < length q → false ≡ begins (keyAt p i) k
+  begins-last q u v e fu fv other long =
+      elim (either (begins (keyAt p i) k)) [
+        | inl t ↦
+            let d = begins-drop (length q - 8) q k (ap (λ (y : List ℕ). begins y k) e ∙ t) in
+            let n : 8 - length (drop (length q - 8) q) ≡ 0 = omega (arith, length-drop (length q - 8) q) in
+            let low = begins-low 8 (drop (length q - 8) q) (drop (length q - 8) k) d in
+            let high : rank 8 (drop (length q - 8) k) < rank 8 (drop (length q - 8) q) + 1 = rw n at (begins-high 8 (drop (length q - 8) q) (drop (length q - 8) k) (bytes-drop (length q - 8) k (all-bytes k ks)) d) in
+            absurd (other (omega (arith, fu, fv, low, high)))
+        | inr t ↦ sym t
+      ]
+
   pub begins-behind : (q : List ℕ) (r : Bool) → q ≡ keyAt p i → r ≡ begins (take (length q - 8) (drop 8 q)) (take (length q - 8) (drop 8 k)) → ((j : ℕ) → Fits w8 (getD p j 0)) → 8 < length q → length q ≤ length k → getD d (16 + i) 0 ≤ x → x ≤ getD d (24 + i) 0
       → r ≡ begins (keyAt p i) k
   begins-behind q r e f ps long there low high =
@@ -227,4 +251,4 @@ module _ (p d : List ℕ) (i : ℕ) (h : Rules p d (i + 1)) where
   pub high-there : 24 + i < length d
   high-there = omega (arith, h .places .few, h .places .numbers-long)
 
-pub ruleset begins-cases = (prefix-fits, prefix-short, low-there, high-there, begins-below, begins-above, begins-within, begins-longer, begins-behind)
+pub ruleset begins-cases = (prefix-fits, prefix-short, low-there, high-there, begins-below, begins-above, begins-within, begins-longer, begins-last, begins-behind)

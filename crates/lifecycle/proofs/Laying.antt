@@ -11,11 +11,13 @@ use lib.ListN.{length, getD, take, drop, set, length-set}
 use lib.Seq.{drop-cons, drop-length, getD-set-same, getD-set-other}
 use borrow.Author.Tests.{eqb-true, eqb-false}
 use Rattle.buffers.specs.Writes.{Wrote}
-use Rattle.buffers.proofs.Parts.{part-before, part-at, placed-length}
+use Rattle.buffers.proofs.Parts.{part-cut, part-before, part-at, placed-length}
 use Rattle.blocks.specs.Blocks.{keyIn, isBlock}
 use Rattle.model.specs.Settings as model
 use Rattle.model.specs.Comparisons.{setRules}
 use Rattle.settings.specs.declared.Rule.{Rule}
+use Rattle.settings.specs.Bytes.{wordAt, ruleAt, rulesOf}
+use Rattle.settings.proofs.Entries.{rules-long, rule-among}
 use Rattle.settings.proofs.Encoding.{no-rule}
 use Rattle.settings.specs.Meaning.{rulesMean, prefixesAre}
 use Rattle.buffers.proofs.Tests.{either}
@@ -86,59 +88,64 @@ module _ (p d : List ℕ) (n : ℕ) (b : List ℕ) (c m : ℕ) (p′ d′ : List
 
 -- ## Laying the rules that are set
 
--- what holds at each turn: of the last i rules those that are set are laid, n of them
-pub record Laying (rules : List Rule) (p d : List ℕ) (n i : ℕ) : Type 0 where
+-- what holds at each turn: of the last i rules of the entries those that are set are laid, n of them
+pub record Laying (e p d : List ℕ) (n i : ℕ) : Type 0 where
   pub low : n ≤ i
   pub most : i ≤ 8
-  pub laid : Laid p d n (setRules (rulesMean (drop (8 - i) rules)))
+  pub laid : Laid p d n (setRules (rulesMean (drop (8 - i) (rulesOf e))))
 
-module _ (rules : List Rule) (long : length rules ≡ 8) where
-  pub lay-start : (p d : List ℕ) → length p ≡ 512 → length d ≡ 32 → Laying rules p d 0 0
-  lay-start p d lp ld =
-      let e : drop (8 - 0) rules ≡ [] = ap (λ (n : ℕ). drop n rules) (sym long) ∙ drop-length rules in
-      record {
-        low = omega arith;
-        most = omega arith;
-        laid =
-            record {
-              places = record { few = omega arith; prefixes-there = λ i h. absurd (omega arith); numbers-long = ld };
-              are = rw e;
-              long = lp;
-            };
-      }
-
-  module _ (i : ℕ) (below : i < 8) where
-    one-more : drop (8 - (i + 1)) rules ≡ getD rules (7 - i) no-rule ∷ drop (8 - i) rules
-    one-more =
-        let j : suc (7 - i) ≡ 8 - i = omega arith in
-        let k : 8 - (i + 1) ≡ 7 - i = omega arith in
-        rw k (drop-cons rules (7 - i) no-rule (omega arith) ∙ rw j)
-
-    module _ (e : prefixesAre rules ≡ true) where
-      pub prefix-at : isBlock (getD rules (7 - i) no-rule .prefix) ≡ true
-      prefix-at = all-at (λ u. isBlock (u .prefix)) rules (7 - i) no-rule (omega arith) e
-
-      pub prefix-long : length (getD rules (7 - i) no-rule .prefix) ≡ 64
-      prefix-long = block-long _ prefix-at
-
-    module _ (p d : List ℕ) (n : ℕ) (h : Laying rules p d n i) (r : Bool) (s : r ≡ not (eqb (getD rules (7 - i) no-rule .current) 0 && eqb (getD rules (7 - i) no-rule .noncurrent) 0)) where
-      pub lay-no : r ≡ false → Laying rules p d n (i + 1)
-      lay-no t = record { low = omega (arith, h .low); most = omega arith; laid = rw (one-more, sym s ∙ t) (h .laid) }
-
-      pub lay-yes : (p′ d′ : List ℕ) → r ≡ true → prefixesAre rules ≡ true
-          → RulePut n (getD rules (7 - i) no-rule .prefix) (getD rules (7 - i) no-rule .current) (getD rules (7 - i) no-rule .noncurrent) p d p′ d′
-          → Laying rules p′ d′ (n + 1) (i + 1)
-      lay-yes p′ d′ t e q =
+pub lay-start : (e p d : List ℕ) → length p ≡ 512 → length d ≡ 32 → Laying e p d 0 0
+lay-start e p d lp ld =
+    let z : drop (8 - 0) (rulesOf e) ≡ [] = ap (λ (n : ℕ). drop n (rulesOf e)) (sym (rules-long 8 0 e)) ∙ drop-length (rulesOf e) in
+    record {
+      low = omega arith;
+      most = omega arith;
+      laid =
           record {
-            low = omega (arith, h .low);
-            most = omega arith;
-            laid = rw (one-more, sym s ∙ t) (laid-more p d n _ _ _ p′ d′ q (h .laid .long) (h .laid .places .numbers-long) (omega (arith, h .low)) (prefix-at e) _ (h .laid));
-          }
+            places = record { few = omega arith; prefixes-there = λ i h. absurd (omega arith); numbers-long = ld };
+            are = rw z;
+            long = lp;
+          };
+    }
 
-  pub lay-end : (p d : List ℕ) (n i : ℕ) → Laying rules p d n i → 8 ≤ i → Laid p d n (setRules (rulesMean rules))
-  lay-end p d n i h g = let q : i ≡ 8 = omega (arith, h .most) in rw q at (h .laid)
+module _ (e : List ℕ) (i : ℕ) (below : i < 8) where
+  -- the rule of this turn, and those of the turns before
+  turn : getD (rulesOf e) (7 - i) no-rule ≡ ruleAt e (80 * (7 - i))
+  turn = let z : 0 + 80 * (7 - i) ≡ 80 * (7 - i) = omega arith in rule-among 8 0 (7 - i) e no-rule (omega arith) ∙ ap (ruleAt e) z
 
-module _ (rules : List Rule) (p d : List ℕ) (n i : ℕ) (h : Laying rules p d n i) (below : i < 8) where
+  one-more : drop (8 - (i + 1)) (rulesOf e) ≡ ruleAt e (80 * (7 - i)) ∷ drop (8 - i) (rulesOf e)
+  one-more =
+      let j : suc (7 - i) ≡ 8 - i = omega arith in
+      let k : 8 - (i + 1) ≡ 7 - i = omega arith in
+      rw k (drop-cons (rulesOf e) (7 - i) no-rule (omega (arith, rules-long 8 0 e)) ∙ rw (j, turn))
+
+  module _ (f : prefixesAre (rulesOf e) ≡ true) where
+    prefix-at : isBlock (take 64 (drop (80 * (7 - i)) e)) ≡ true
+    prefix-at = ap (λ (u : Rule). isBlock (u .prefix)) (sym turn) ∙ all-at (λ u. isBlock (u .prefix)) (rulesOf e) (7 - i) no-rule (omega (arith, rules-long 8 0 e)) f
+
+    pub prefix-long : length (take (80 * (7 - i) + 64 - 80 * (7 - i)) (drop (80 * (7 - i)) e)) ≡ 64
+    prefix-long = ap length (part-cut e (80 * (7 - i)) 64) ∙ block-long _ prefix-at
+
+  module _ (p d : List ℕ) (n x y : ℕ) where
+    is-set : (r : Bool) → x ≡ wordAt e (80 * (7 - i) + 64) → y ≡ wordAt e (80 * (7 - i) + 72) → r ≡ not (eqb x 0 && eqb y 0) → not (eqb (wordAt e (80 * (7 - i) + 64)) 0 && eqb (wordAt e (80 * (7 - i) + 72)) 0) ≡ r
+    is-set r ex ey s = sym (s ∙ rw (ex, ey))
+
+    pub lay-no : (r : Bool) → Laying e p d n i → x ≡ wordAt e (80 * (7 - i) + 64) → y ≡ wordAt e (80 * (7 - i) + 72) → r ≡ not (eqb x 0 && eqb y 0) → r ≡ false → Laying e p d n (i + 1)
+    lay-no r h ex ey s t = record { low = omega (arith, h .low); most = omega arith; laid = rw (one-more, is-set r ex ey s, t) (h .laid) }
+
+    pub lay-yes : (p′ d′ : List ℕ) (r : Bool) → RulePut n (take (80 * (7 - i) + 64 - 80 * (7 - i)) (drop (80 * (7 - i)) e)) x y p d p′ d′ → Laying e p d n i
+        → x ≡ wordAt e (80 * (7 - i) + 64) → y ≡ wordAt e (80 * (7 - i) + 72) → r ≡ not (eqb x 0 && eqb y 0) → r ≡ true → prefixesAre (rulesOf e) ≡ true → Laying e p′ d′ (n + 1) (i + 1)
+    lay-yes p′ d′ r q h ex ey s t f =
+        record {
+          low = omega (arith, h .low);
+          most = omega arith;
+          laid = rw (one-more, is-set r ex ey s, t) (laid-more p d n _ _ _ p′ d′ (rw (part-cut e (80 * (7 - i)) 64, ex, ey) at q) (h .laid .long) (h .laid .places .numbers-long) (omega (arith, h .low)) (prefix-at f) _ (h .laid));
+        }
+
+pub lay-end : (e p d : List ℕ) (n i : ℕ) → Laying e p d n i → 8 ≤ i → Laid p d n (setRules (rulesMean (rulesOf e)))
+lay-end e p d n i h g = let q : i ≡ 8 = omega (arith, h .most) in rw q at (h .laid)
+
+module _ (e p d : List ℕ) (n i : ℕ) (h : Laying e p d n i) (below : i < 8) where
   pub room-left : 64 * n + 64 ≤ length p
   room-left = omega (arith, h .low, h .laid .long)
 
@@ -148,7 +155,7 @@ module _ (rules : List Rule) (p d : List ℕ) (n i : ℕ) (h : Laying rules p d 
   pub numbers-long : length d ≡ 32
   numbers-long = h .laid .places .numbers-long
 
-pub ruleset lay-cases = (lay-start, prefix-at, prefix-long, room-left, place-left, numbers-long, lay-no, lay-yes, lay-end)
+pub ruleset lay-cases = (lay-start, prefix-long, room-left, place-left, numbers-long, lay-no, lay-yes, lay-end)
 
 -- ## The rules laid
 

@@ -1,7 +1,6 @@
 // SWEEP's judgement: the fate of every row of a table, on the table as it stands. The definitions are in specs/.
 mod rules;
 
-use settings::Rule;
 ghost use mathlib.Core.Path.{_≡_};
 ghost use mathlib.Core.Bool.{true, false};
 ghost use mathlib.Core.List.{List};
@@ -15,6 +14,7 @@ ghost use Rattle.blocks.specs.Blocks.{keyIn, isBlock};
 ghost use Rattle.model.specs.Sweep.{marks, removes};
 ghost use Rattle.model.specs.Comparisons.{comparisons};
 ghost use Rattle.settings.specs.Meaning.{rulesMean};
+ghost use Rattle.settings.specs.Bytes.{entriesLength, rulesOf};
 ghost use Rattle.table.specs.Layout.{rowAt, rowsOf};
 ghost use Rattle.table.specs.Places.{keyAt};
 ghost use Rattle.lifecycle.specs.Keys.{KeyThere};
@@ -371,19 +371,20 @@ pub fn judge_table(
     rows: &[u64],
     keys: &[u8],
     used: usize,
-    rules: [Rule; 8],
+    entries: &[u8],
     instant: u64,
     fates: &mut [u8],
 ) -> Judged
-    requires { ⌜ Judgeable (now rows) (now keys) used rules ⌝ }
+    requires { ⌜ length (now entries) ≡ entriesLength ⌝ }
+    requires { ⌜ Judgeable (now rows) (now keys) used (rulesOf (now entries)) ⌝ }
     requires { ⌜ used ≤ length (now fates) ⌝ }
-    ensures { λ r. ⌜ JudgedRows (rulesMean rules) instant (rowsOf (now (rows .entry)) (now (keys .entry)) used) used (now (fates .entry)) (now (fates .exit)) (r .counts) ⌝ }
-    ensures { λ r. ⌜ r .comparisons ≡ comparisons (rulesMean rules) (rowsOf (now (rows .entry)) (now (keys .entry)) used) ⌝ }
+    ensures { λ r. ⌜ JudgedRows (rulesMean (rulesOf (now (entries .entry)))) instant (rowsOf (now (rows .entry)) (now (keys .entry)) used) used (now (fates .entry)) (now (fates .exit)) (r .counts) ⌝ }
+    ensures { λ r. ⌜ r .comparisons ≡ comparisons (rulesMean (rulesOf (now (entries .entry)))) (rowsOf (now (rows .entry)) (now (keys .entry)) used) ⌝ }
 {
     let midnight = calendar::day_start(instant);
     let mut prefixes = rules::no_prefixes();
     let mut numbers = rules::no_numbers();
-    let n = rules::lay_rules(rules, &mut prefixes, &mut numbers);
+    let n = rules::lay_rules(entries, &mut prefixes, &mut numbers);
     rules::lay_bounds(&prefixes, &mut numbers, n);
     let comparisons = judge_rows(
         rows,

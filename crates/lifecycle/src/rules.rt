@@ -1,7 +1,6 @@
 // Lifecycle rules laid flat, and what they set for a key. The definitions are in specs/.
 use crate::Limits;
 use crate::Matched;
-use settings::Rule;
 ghost use mathlib.Core.Path.{_≡_};
 ghost use mathlib.Core.Bool.{true};
 ghost use Prim.Native.Nat.{_+_, _-_, _*_, _^_, _≤_, _<_};
@@ -10,6 +9,7 @@ ghost use Rattle.buffers.specs.Lists.{begins};
 ghost use Rattle.blocks.specs.Blocks.{keyIn, isBlock};
 ghost use Rattle.model.specs.Comparisons.{setRules};
 ghost use Rattle.settings.specs.Meaning.{rulesMean, prefixesAre};
+ghost use Rattle.settings.specs.Bytes.{entriesLength, rulesOf};
 ghost use Rattle.table.specs.Places.{keyAt};
 ghost use Rattle.search.specs.Keys.{rank};
 ghost use Rattle.lifecycle.specs.Least.{lesser, compared, mostComparisons, KeyMatched};
@@ -63,19 +63,21 @@ fn write_rule(
     numbers[8 + at] = noncurrent;
 }
 
-// Lays the rules that are set flat, and returns how many. Handing them on by value would copy them for each key.
-pub fn lay_rules(rules: [Rule; 8], prefixes: &mut [u8], numbers: &mut [u64]) -> usize
-    requires { ⌜ (prefixesAre rules ≡ true) × (length (now prefixes) ≡ 512) × (length (now numbers) ≡ 32) ⌝ }
-    ensures { λ r. ⌜ Laid (now (prefixes .exit)) (now (numbers .exit)) r (setRules (rulesMean rules)) ⌝ }
+// Lays the rules that are set flat, and returns how many.
+pub fn lay_rules(entries: &[u8], prefixes: &mut [u8], numbers: &mut [u64]) -> usize
+    requires { ⌜ (length (now entries) ≡ entriesLength) × (prefixesAre (rulesOf (now entries)) ≡ true) × (length (now prefixes) ≡ 512) × (length (now numbers) ≡ 32) ⌝ }
+    ensures { λ r. ⌜ Laid (now (prefixes .exit)) (now (numbers .exit)) r (setRules (rulesMean (rulesOf (now (entries .entry))))) ⌝ }
 {
     let mut n = 0;
     let mut i = 0;
     while i < 8 {
-        let rule = rules[7 - i];
+        let at = 80 * (7 - i);
+        let end = at + 64;
+        let current = buffers::word_at(entries, at + 64);
+        let noncurrent = buffers::word_at(entries, at + 72);
         i += 1;
-        if !((rule.current == 0) & (rule.noncurrent == 0)) {
-            let prefix = rule.prefix;
-            write_rule(prefixes, numbers, n, &prefix, rule.current, rule.noncurrent);
+        if !((current == 0) & (noncurrent == 0)) {
+            write_rule(prefixes, numbers, n, &entries[at..end], current, noncurrent);
             n += 1;
         }
     }
@@ -138,6 +140,10 @@ fn begins_at(prefixes: &[u8], numbers: &[u64], at: usize, key: &[u8], first: u64
         return end <= key.len();
     }
     if key.len() < end {
+        return false;
+    }
+    let last = end - 8;
+    if search::rank_at(key, last) != search::rank_at(prefix, last) {
         return false;
     }
     text::begins_with(&key[8..end], &prefix[8..end])

@@ -1,24 +1,27 @@
 -- Laws of soundness: a rule, the rules one after the other, and the whole in the code's order of tests.
-use Prim.Native.Nat.{ℕ, zero, suc, _+_, _≤_, _<_}
+use Prim.Native.Nat.{ℕ, zero, suc, _+_, _*_, _-_, _≤_, _<_}
 use mathlib.Core.Path.{_≡_, refl, sym, ap, _∙_}
 use mathlib.Core.Bool.{Bool, true, false, not, _&&_, _||_, and-assoc}
 use mathlib.Core.List.{List, [], _∷_}
 use native.Mathlib.Omega.{arith}
 use native.Mathlib.Numerals.{add-one}
 use lib.Dec.{eqb, leb}
-use lib.ListN.{length, getD, take, drop, drop-of-length-le}
-use lib.Seq.{drop-cons}
+use lib.ListN.{length, getD, take, drop, length-drop, drop-of-length-le}
+use lib.Seq.{drop-cons, length-take-le}
 use borrow.Author.Tests.{eq-eqb, ne-eqb}
 use Rattle.buffers.specs.Lists.{all}
+use Rattle.buffers.proofs.Parts.{part-cut, part-first}
 use Rattle.text.specs.Keys.{isPrefix}
 use Rattle.calendar.specs.Calendar.{latest}
 use Rattle.blocks.specs.Blocks.{keyIn, isBlock}
 use Rattle.model.specs.Settings as model
-use Rattle.settings.specs.declared.Settings.{Settings}
+use Rattle.settings.specs.declared.State.{State}
 use Rattle.settings.specs.declared.Rule.{Rule}
 use Rattle.settings.specs.Meaning.{ruleMeans, rulesMean, prefixesAre, settingsSound}
+use Rattle.settings.specs.Bytes.{wordAt, ruleAt, rulesOf, settingsWith}
 use Rattle.settings.specs.Changes.{ruleSound}
-use Rattle.settings.proofs.Encoding.{no-rule, at-place}
+use Rattle.settings.proofs.Entries.{rules-long, rule-among}
+use Rattle.settings.proofs.Encoding.{no-rule}
 
 -- A test in the middle comes to the front.
 and-past : (a p x : Bool) → (a && (p && x)) ≡ (p && (a && x))
@@ -35,9 +38,13 @@ empty-first (zero ∷ t) h = refl
 empty-first (suc n ∷ []) h = absurd (omega arith)
 empty-first (suc n ∷ x ∷ t) h = ne-eqb (suc n) 0 (λ e. omega arith) ∙ sym (ne-eqb (suc (length (take n t))) 0 (λ e. omega arith))
 
-pub rule-checked : (p : List ℕ) (x y : ℕ) (r : Bool) → length p ≡ 64 → r ≡ isBlock p && isPrefix (keyIn p)
-    → (r && (leb x 36500 && (leb y 36500 && (not (eqb x 0 && eqb y 0) || eqb (getD p 0 0) 0)))) ≡ ruleSound (record { prefix = p; current = x; noncurrent = y })
-rule-checked p x y r h e = rw (e, empty-first p h) (and-assoc (isBlock p) (isPrefix (keyIn p)) _)
+pub rule-checked : (e : List ℕ) (at x y : ℕ) (r : Bool) → at + 80 ≤ length e → x ≡ wordAt e (at + 64) → y ≡ wordAt e (at + 72) → r ≡ isBlock (take (at + 64 - at) (drop at e)) && isPrefix (keyIn (take (at + 64 - at) (drop at e)))
+    → (r && (leb x 36500 && (leb y 36500 && (not (eqb x 0 && eqb y 0) || eqb (getD e at 0) 0)))) ≡ ruleSound (ruleAt e at)
+rule-checked e at x y r h fx fy f =
+    let p = take 64 (drop at e) in
+    let d = length-drop at e in
+    let n : length p ≡ 64 = length-take-le 64 (drop at e) (omega arith) in
+    rw (fx, fy, f, part-cut e at 64, part-first e at 64 (omega arith), empty-first p n) (and-assoc (isBlock p) (isPrefix (keyIn p)) _)
 
 -- ## The rules
 
@@ -58,16 +65,20 @@ rules-sound : (us : List Rule) → length us ≡ 8 → all ruleSound us ≡ (pre
 unfolding model.soundRules
 rules-sound us h = rw (means-length us, eq-eqb (length us) 8 h) (all-apart us)
 
-module _ (us : List Rule) (k : ℕ) where
-  pub sound-stop : (r : Bool) → length us ≡ 8 → k < length us → r ≡ ruleSound (at-place us k) → r ≡ false → all ruleSound us ≡ all ruleSound (drop k us)
-      → false ≡ (prefixesAre us && model.soundRules (rulesMean us))
-  sound-stop r n h e t q = sym (q ∙ rw (drop-cons us k no-rule h, sym e ∙ t)) ∙ rules-sound us n
+module _ (b : List ℕ) (k : ℕ) (q : all ruleSound (rulesOf b) ≡ all ruleSound (drop k (rulesOf b))) where
+  rule-next : k < 8 → drop k (rulesOf b) ≡ ruleAt b (80 * k) ∷ drop (suc k) (rulesOf b)
+  rule-next h =
+      let z : 0 + 80 * k ≡ 80 * k = omega arith in
+      drop-cons (rulesOf b) k no-rule (omega (arith, rules-long 8 0 b)) ∙ ap (λ (u : Rule). u ∷ drop (suc k) (rulesOf b)) (rule-among 8 0 k b no-rule h ∙ ap (ruleAt b) z)
 
-  pub sound-step : (r : Bool) → k < length us → r ≡ ruleSound (at-place us k) → r ≡ true → all ruleSound us ≡ all ruleSound (drop k us) → all ruleSound us ≡ all ruleSound (drop (k + 1) us)
-  sound-step r h e t q = q ∙ rw (add-one, drop-cons us k no-rule h, sym e ∙ t)
+  pub sound-stop : (r : Bool) → k < 8 → r ≡ ruleSound (ruleAt b (80 * k)) → r ≡ false → false ≡ (prefixesAre (rulesOf b) && model.soundRules (rulesMean (rulesOf b)))
+  sound-stop r h e t = sym (q ∙ rw (rule-next h, sym e ∙ t)) ∙ rules-sound (rulesOf b) (rules-long 8 0 b)
 
-  pub sound-end : all ruleSound us ≡ all ruleSound (drop k us) → length us ≡ 8 → 8 ≤ k → true ≡ (prefixesAre us && model.soundRules (rulesMean us))
-  sound-end q n h = let l : length us ≤ k = omega arith in sym (q ∙ rw (drop-of-length-le us l)) ∙ rules-sound us n
+  pub sound-step : (r : Bool) → k < 8 → r ≡ ruleSound (ruleAt b (80 * k)) → r ≡ true → all ruleSound (rulesOf b) ≡ all ruleSound (drop (k + 1) (rulesOf b))
+  sound-step r h e t = q ∙ rw (add-one, rule-next h, sym e ∙ t)
+
+  pub sound-end : 8 ≤ k → true ≡ (prefixesAre (rulesOf b) && model.soundRules (rulesMean (rulesOf b)))
+  sound-end h = sym (q ∙ rw (drop-of-length-le (rulesOf b) {i = k} (omega (arith, rules-long 8 0 b)))) ∙ rules-sound (rulesOf b) (rules-long 8 0 b)
 
 pub ruleset rules-checked = (sound-stop, sound-step, sound-end)
 
@@ -77,10 +88,10 @@ prefixes-last : (t n m d p r : Bool) → (t && (n && (m && (d && (p && r))))) �
 prefixes-last t n m d p r =
     rw (and-past d p r, and-past m p (d && r), and-past n p (m && (d && r))) (and-past t p (n && (m && (d && r))))
 
-pub settings-checked : (s : Settings) (d r : Bool) → d ≡ model.soundDefault (record { mode = s .mode; count = s .count; unit = s .unit })
-    → r ≡ prefixesAre (s .rules) && model.soundRules (rulesMean (s .rules))
-    → (leb (s .time) latest && (leb 1 (s .next) && (leb (s .next) model.spentNumber && (d && r)))) ≡ settingsSound s
+pub settings-checked : (s : State) (e : List ℕ) (d r : Bool) → d ≡ model.soundDefault (record { mode = s .mode; count = s .count; unit = s .unit })
+    → r ≡ prefixesAre (rulesOf e) && model.soundRules (rulesMean (rulesOf e))
+    → (leb (s .time) latest && (leb 1 (s .next) && (leb (s .next) model.spentNumber && (d && r)))) ≡ settingsSound (settingsWith s e)
 unfolding settingsSound model.soundConfig
-settings-checked s d r e f =
+settings-checked s b d r e f =
     let default = model.soundDefault (record { mode = s .mode; count = s .count; unit = s .unit }) in
-    rw (e, f) (prefixes-last (leb (s .time) latest) (leb 1 (s .next)) (leb (s .next) model.spentNumber) default (prefixesAre (s .rules)) (model.soundRules (rulesMean (s .rules))))
+    rw (e, f) (prefixes-last (leb (s .time) latest) (leb 1 (s .next)) (leb (s .next) model.spentNumber) default (prefixesAre (rulesOf b)) (model.soundRules (rulesMean (rulesOf b))))

@@ -7,6 +7,7 @@ use lib.ListN.{length, take, drop, length-take, length-drop, drop-of-length-le}
 use Rattle.buffers.specs.Writes.{Wrote}
 use Rattle.settings.specs.declared.Settings.{Settings}
 use Rattle.settings.specs.declared.Rule.{Rule}
+use Rattle.settings.specs.declared.State.{State}
 
 -- What fills a buffer is all that it holds.
 pub filled : (out vs : List ℕ) (k : ℕ) (exit : List ℕ) (r : ℕ) → Wrote out 0 vs k exit r → length vs ≡ length out → exit ≡ vs
@@ -31,4 +32,8 @@ pub settings-made : (a0 a1 a2 a3 a4 a5 b0 b1 b2 b3 b4 b5 : ℕ) (us vs : List Ru
     (record { time = b0; used = b1; next = b2; mode = b3; count = b4; unit = b5; rules = vs })
 settings-made a0 a1 a2 a3 a4 a5 b0 b1 b2 b3 b4 b5 us vs e0 e1 e2 e3 e4 e5 e6 = cc
 
-pub ruleset made = (refl, prefix-read, rule-made, one-more, settings-made)
+pub state-made : (a0 a1 a2 a3 a4 a5 b0 b1 b2 b3 b4 b5 : ℕ) → a0 ≡ b0 → a1 ≡ b1 → a2 ≡ b2 → a3 ≡ b3 → a4 ≡ b4 → a5 ≡ b5
+    → _≡_ {A = State} (record { time = a0; used = a1; next = a2; mode = a3; count = a4; unit = a5 }) (record { time = b0; used = b1; next = b2; mode = b3; count = b4; unit = b5 })
+state-made a0 a1 a2 a3 a4 a5 b0 b1 b2 b3 b4 b5 e0 e1 e2 e3 e4 e5 = cc
+
+pub ruleset made = (refl, prefix-read, rule-made, one-more, settings-made, state-made)

@@ -1,4 +1,5 @@
 pub mod Decoding
+pub mod Entries
 pub mod Encoding
 pub mod Checking
 pub mod Storing

@@ -11,7 +11,7 @@ use Rattle.blocks.specs.Blocks.{blockOf, isBlock}
 use Rattle.model.specs.Settings.{soundConfig, soundRules}
 use Rattle.settings.specs.declared.Settings.{Settings}
 use Rattle.settings.specs.declared.Rule.{Rule}
-use Rattle.settings.specs.Bytes.{ruleBytes, settingsBytes, settingsOf, settingsFit}
+use Rattle.settings.specs.Bytes.{ruleBytes, settingsBytes, rulesAt, settingsOf, settingsFit}
 use Rattle.settings.specs.Meaning.{settingsSound}
 
 -- no rule
@@ -60,7 +60,7 @@ pub record Examples : Type 0 where
   pub late-rule : settingsSound (with 0 0 0 late) ≡ false
 
 pub examples : Examples
-unfolding settingsBytes settingsOf settingsFit settingsSound number spelled blockOf isBlock isPrefix isKeyByte soundConfig soundRules
+unfolding settingsBytes rulesAt settingsOf settingsFit settingsSound number spelled blockOf isBlock isPrefix isKeyByte soundConfig soundRules
 examples =
     record {
       fresh-bytes = refl;

@@ -1,16 +1,14 @@
-// The bucket's settings by value, and as bytes. The definitions are in specs/.
+// The bucket's settings: what is small by value, the entries as bytes that are lent; and both together by value. The definitions are in specs/.
 ghost use mathlib.Core.Path.{_≡_};
-ghost use Prim.Native.Nat.{_+_, _≤_, _<_};
+ghost use Prim.Native.Nat.{_+_, _*_, _≤_, _<_};
 ghost use mathlib.Core.Bool.{_&&_};
 ghost use mathlib.Core.List.{_++_};
-ghost use lib.ListN.{length, take, drop};
-ghost use Rattle.buffers.specs.Words.{spelled};
-ghost use Rattle.buffers.specs.Writes.{Wrote};
+ghost use lib.ListN.{length, take, drop, set, replicate};
 ghost use Rattle.model.specs.Settings.{soundDefault, soundRules};
 ghost use Rattle.model.specs.Effects.{stored};
 ghost use Rattle.settings.specs.Meaning.{rulesMean, ruleFrom, freshSettings, prefixesAre, settingsSound};
-ghost use Rattle.settings.specs.Changes.{ruleSound, withDefault, withProgress, withRule};
-ghost use Rattle.settings.specs.Bytes.{settingsLength, ruleAt, settingsOf, rulesBytes, settingsBytes};
+ghost use Rattle.settings.specs.Changes.{ruleSound, RulePut};
+ghost use Rattle.settings.specs.Bytes.{stateLength, entriesLength, ruleAt, rulesOf, stateIn, stateBytes, settingsWith};
 ghost use Rattle.settings.specs.State.{stateOf};
 
 // A lifecycle rule; its prefix is 64 bytes like a key, with length 0 allowed.
@@ -32,7 +30,7 @@ pub struct Settings {
     pub rules: [Rule; 8],
 }
 
-// What of the settings a line is judged by: all but the rules, which SWEEP alone is handed.
+// What is small of the settings. The entries, which are the rules, are lent beside it as bytes and never copied.
 pub struct State {
     pub time: u64,
     pub used: usize,
@@ -68,42 +66,36 @@ fn rule_at(b: &[u8], at: usize) -> Rule
     }
 }
 
-// The eight rules behind the six numbers.
-fn rules_in(b: &[u8]) -> [Rule; 8]
-    requires { ⌜ length (now b) ≡ settingsLength ⌝ }
-    ensures { λ r. ⌜ r ≡ settingsOf (now (b .entry)) .rules ⌝ }
+// The eight rules of the entries.
+fn rules_of(e: &[u8]) -> [Rule; 8]
+    requires { ⌜ length (now e) ≡ entriesLength ⌝ }
+    ensures { λ r. ⌜ r ≡ rulesOf (now (e .entry)) ⌝ }
 {
     [
-        rule_at(b, 48),
-        rule_at(b, 128),
-        rule_at(b, 208),
-        rule_at(b, 288),
-        rule_at(b, 368),
-        rule_at(b, 448),
-        rule_at(b, 528),
-        rule_at(b, 608),
+        rule_at(e, 0),
+        rule_at(e, 80),
+        rule_at(e, 160),
+        rule_at(e, 240),
+        rule_at(e, 320),
+        rule_at(e, 400),
+        rule_at(e, 480),
+        rule_at(e, 560),
     ]
 }
 
-// The settings that 688 bytes spell.
-pub fn decode(b: &[u8]) -> Settings
-    requires { ⌜ length (now b) ≡ settingsLength ⌝ }
-    ensures { λ r. ⌜ r ≡ settingsOf (now (b .entry)) ⌝ }
+// The settings of a state with these entries.
+pub fn settings_with(s: State, e: &[u8]) -> Settings
+    requires { ⌜ length (now e) ≡ entriesLength ⌝ }
+    ensures { λ r. ⌜ r ≡ settingsWith s (now (e .entry)) ⌝ }
 {
-    let time = buffers::word_at(b, 0);
-    let used = buffers::word_at(b, 8);
-    let next = buffers::word_at(b, 16);
-    let mode = buffers::word_at(b, 24);
-    let count = buffers::word_at(b, 32);
-    let unit = buffers::word_at(b, 40);
-    let rules = rules_in(b);
+    let rules = rules_of(e);
     Settings {
-        time,
-        used,
-        next,
-        mode,
-        count,
-        unit,
+        time: s.time,
+        used: s.used as u64,
+        next: s.next,
+        mode: s.mode,
+        count: s.count,
+        unit: s.unit,
         rules,
     }
 }
@@ -111,40 +103,60 @@ pub fn decode(b: &[u8]) -> Settings
 // Writes the 80 bytes of a rule at `at`.
 fn put_rule(b: &mut [u8], at: usize, prefix: [u8; 64], current: u64, noncurrent: u64)
     requires { ⌜ at + 80 ≤ length (now b) ⌝ }
-    ensures { λ _. ⌜ Wrote (now (b .entry)) at (prefix ++ (spelled 8 current ++ spelled 8 noncurrent)) 80 (now (b .exit)) (at + 80) ⌝ }
+    ensures { λ _. ⌜ RulePut (now (b .entry)) at (record { prefix = prefix; current = current; noncurrent = noncurrent }) (now (b .exit)) ⌝ }
 {
     let after = buffers::copy_in(b, at, &prefix);
     let after = buffers::put_word(b, after, current);
     buffers::put_word(b, after, noncurrent);
 }
 
-// Writes the 640 bytes of the rules at `at`.
-fn put_rules(b: &mut [u8], at: usize, rules: [Rule; 8])
-    requires { ⌜ at + 640 ≤ length (now b) ⌝ }
-    ensures { λ _. ⌜ Wrote (now (b .entry)) at (rulesBytes rules) 640 (now (b .exit)) (at + 640) ⌝ }
+// Room for the entries.
+pub fn no_entries() -> [u8; 640]
+    ensures { λ r. ⌜ (r ≡ replicate 640 0) × (length r ≡ 640) ⌝ }
+{
+    [0u8; 640]
+}
+
+// Writes the rules as entries.
+pub fn put_rules(e: &mut [u8], rules: [Rule; 8])
+    requires { ⌜ length (now e) ≡ entriesLength ⌝ }
+    ensures { λ _. ⌜ rulesOf (now (e .exit)) ≡ rules ⌝ }
 {
     let mut k = 0;
     while k < 8 {
         let rule = rules[k];
         let prefix = rule.prefix;
-        put_rule(b, at + 80 * k, prefix, rule.current, rule.noncurrent);
+        put_rule(e, 80 * k, prefix, rule.current, rule.noncurrent);
         k += 1;
     }
 }
 
-// Writes the settings' 688 bytes.
-pub fn encode(s: Settings, b: &mut [u8])
-    requires { ⌜ length (now b) ≡ settingsLength ⌝ }
-    ensures { λ _. ⌜ now (b .exit) ≡ settingsBytes s ⌝ }
+// The state that the first 48 bytes spell.
+pub fn state_in(b: &[u8]) -> State
+    requires { ⌜ stateLength ≤ length (now b) ⌝ }
+    ensures { λ r. ⌜ r ≡ stateIn (now (b .entry)) ⌝ }
+{
+    State {
+        time: buffers::word_at(b, 0),
+        used: buffers::word_at(b, 8) as usize,
+        next: buffers::word_at(b, 16),
+        mode: buffers::word_at(b, 24),
+        count: buffers::word_at(b, 32),
+        unit: buffers::word_at(b, 40),
+    }
+}
+
+// Writes the 48 bytes of a state at the start.
+pub fn put_state(b: &mut [u8], s: State)
+    requires { ⌜ stateLength ≤ length (now b) ⌝ }
+    ensures { λ _. ⌜ now (b .exit) ≡ stateBytes s ++ drop stateLength (now (b .entry)) ⌝ }
 {
     let at = buffers::put_word(b, 0, s.time);
-    let at = buffers::put_word(b, at, s.used);
+    let at = buffers::put_word(b, at, s.used as u64);
     let at = buffers::put_word(b, at, s.next);
     let at = buffers::put_word(b, at, s.mode);
     let at = buffers::put_word(b, at, s.count);
-    let at = buffers::put_word(b, at, s.unit);
-    let rules = s.rules;
-    put_rules(b, at, rules);
+    buffers::put_word(b, at, s.unit);
 }
 
 // The settings of a bucket that no line has changed yet.
@@ -178,26 +190,29 @@ fn is_sound_default(mode: u64, count: u64, unit: u64) -> bool
     absent | (is_mode & ((1 <= count) & (days | years)))
 }
 
-// Whether a rule has a prefix and days within their limits, and is all zero where it has no action.
-fn is_sound_rule(prefix: [u8; 64], current: u64, noncurrent: u64) -> bool
-    ensures { λ r. ⌜ r ≡ ruleSound (record { prefix = prefix; current = current; noncurrent = noncurrent }) ⌝ }
+// Whether the rule at `at` has a prefix and days within their limits, and is all zero where it has no action.
+fn is_sound_rule(e: &[u8], at: usize) -> bool
+    requires { ⌜ at + 80 ≤ length (now e) ⌝ }
+    ensures { λ r. ⌜ r ≡ ruleSound (ruleAt (now (e .entry)) at) ⌝ }
 {
-    let is_prefix = blocks::is_prefix_block(&prefix);
+    let current = buffers::word_at(e, at + 64);
+    let noncurrent = buffers::word_at(e, at + 72);
+    let end = at + 64;
+    let is_prefix = blocks::is_prefix_block(&e[at..end]);
     let is_set = !((current == 0) & (noncurrent == 0));
     is_prefix
         & ((current <= model::MOST_DAYS)
-            & ((noncurrent <= model::MOST_DAYS) & (is_set | (prefix[0] == 0))))
+            & ((noncurrent <= model::MOST_DAYS) & (is_set | (e[at] == 0))))
 }
 
 // Whether every rule is sound.
-fn are_sound(rules: [Rule; 8]) -> bool
-    ensures { λ r. ⌜ r ≡ prefixesAre rules && soundRules (rulesMean rules) ⌝ }
+fn are_sound(e: &[u8]) -> bool
+    requires { ⌜ length (now e) ≡ entriesLength ⌝ }
+    ensures { λ r. ⌜ r ≡ prefixesAre (rulesOf (now (e .entry))) && soundRules (rulesMean (rulesOf (now (e .entry)))) ⌝ }
 {
     let mut k = 0;
     while k < 8 {
-        let rule = rules[k];
-        let prefix = rule.prefix;
-        if is_sound_rule(prefix, rule.current, rule.noncurrent) {
+        if is_sound_rule(e, 80 * k) {
             k += 1;
         } else {
             return false;
@@ -207,16 +222,16 @@ fn are_sound(rules: [Rule; 8]) -> bool
 }
 
 // Whether the settings by themselves are sound.
-pub fn is_sound(s: Settings) -> bool
-    ensures { λ r. ⌜ r ≡ settingsSound s ⌝ }
+pub fn is_sound(s: State, e: &[u8]) -> bool
+    requires { ⌜ length (now e) ≡ entriesLength ⌝ }
+    ensures { λ r. ⌜ r ≡ settingsSound (settingsWith s (now (e .entry))) ⌝ }
 {
-    let rules = s.rules;
     let default = is_sound_default(s.mode, s.count, s.unit);
-    let config = default & are_sound(rules);
+    let config = default & are_sound(e);
     (s.time <= calendar::LATEST) & ((1 <= s.next) & ((s.next <= model::SPENT) & config))
 }
 
-// What of the settings a line is judged by.
+// What is small of the settings.
 pub fn state_of(s: Settings) -> State
     ensures { λ r. ⌜ r ≡ stateOf s ⌝ }
 {
@@ -230,62 +245,17 @@ pub fn state_of(s: Settings) -> State
     }
 }
 
-// The settings with another default retention.
-pub fn with_default(s: Settings, mode: u64, count: u64, unit: u64) -> Settings
-    ensures { λ r. ⌜ r ≡ withDefault s mode count unit ⌝ }
+// Sets the rule at a place of the entries; one without an action is stored as zeros.
+pub fn set_rule(e: &mut [u8], place: usize, prefix: &[u8], current: u64, noncurrent: u64)
+    requires { ⌜ (length (now e) ≡ entriesLength) × (place < 8) × (length (now prefix) ≤ 63) ⌝ }
+    ensures { λ _. ⌜ rulesOf (now (e .exit)) ≡ set (rulesOf (now (e .entry))) place (ruleFrom (stored (record { prefix = now (prefix .entry); currentDays = current; noncurrentDays = noncurrent }))) ⌝ }
 {
-    let mut r = s;
-    r.mode = mode;
-    r.count = count;
-    r.unit = unit;
-    r
-}
-
-// The rule as it is stored: where it has no action, all zero.
-fn stored_rule(prefix: &[u8], current: u64, noncurrent: u64) -> Rule
-    requires { ⌜ length (now prefix) ≤ 63 ⌝ }
-    ensures { λ r. ⌜ r ≡ ruleFrom (stored (record { prefix = now (prefix .entry); currentDays = current; noncurrentDays = noncurrent })) ⌝ }
-{
-    let mut block = [0u8; 64];
+    let at = 80 * place;
     if (current == 0) & (noncurrent == 0) {
-        return Rule {
-            prefix: block,
-            current: 0,
-            noncurrent: 0,
-        };
+        buffers::put_zero_bytes(e, at, 80);
+        return;
     }
-    blocks::put_block(&mut block, 0, prefix);
-    Rule {
-        prefix: block,
-        current,
-        noncurrent,
-    }
-}
-
-// The settings with another rule at a place.
-pub fn with_rule(
-    s: Settings,
-    place: usize,
-    prefix: &[u8],
-    current: u64,
-    noncurrent: u64,
-) -> Settings
-    requires { ⌜ (place < 8) × (length (now prefix) ≤ 63) ⌝ }
-    ensures { λ r. ⌜ r ≡ withRule s place (record { prefix = now (prefix .entry); currentDays = current; noncurrentDays = noncurrent }) ⌝ }
-{
-    let rule = stored_rule(prefix, current, noncurrent);
-    let mut r = s;
-    r.rules[place] = rule;
-    r
-}
-
-// The settings with another time, other used rows and another next number.
-pub fn with_progress(s: Settings, time: u64, used: u64, next: u64) -> Settings
-    ensures { λ r. ⌜ r ≡ withProgress s time used next ⌝ }
-{
-    let mut r = s;
-    r.time = time;
-    r.used = used;
-    r.next = next;
-    r
+    let after = blocks::put_block(e, at, prefix);
+    let after = buffers::put_word(e, after, current);
+    buffers::put_word(e, after, noncurrent);
 }

@@ -1,6 +1,4 @@
--- `key_of` meets its contract.
-use borrow.Author.Tests.{not-true, not-false}
-use Rattle.bucket.proofs.Passing.{key-cases}
+use Rattle.bucket.proofs.Passing.{key-by-value}
 use borrow.Author.Needs.{needs}
 use Rattle.bucket.proofs.key_of.Statement.{statement}
 use Rattle.bucket.proofs.key_of.Tie as tie
@@ -10,13 +8,9 @@ key-of-spec =
     tie.close
     (tie.spec
     (λ c κs. search needs)
+    (λ c κs. search needs)
     (λ c. search needs)
+    (λ c κs. search needs)
     (λ c. search needs)
-    (λ c. search needs)
-    (λ c. search (key-cases, not-true))
-    (λ c. search needs)
-    (λ c. search needs)
-    (λ c. search needs)
-    (λ c. search key-cases)
-    (λ c κs. search (key-cases, not-false))
-    (λ c. search (key-cases, not-false)))
+    (λ c κs. search needs)
+    (λ c. search (needs, key-by-value)))

@@ -1,4 +1,3 @@
--- `serve_counted` meets its contract: each way through it is one of the cited laws.
 use Rattle.engine.proofs.Serving.{line-1}
 use Rattle.engine.proofs.Counting.{unsound-counts}
 use borrow.Author.Needs.{needs}
@@ -10,12 +9,14 @@ serve-counted-spec =
     tie.close
     (tie.spec
     (λ c κs. search needs)
-    (λ c κs. cc)
+    (λ c κs. (search needs, cc))
+    (λ c. search needs)
     (λ c. search needs)
     (λ c. search needs)
     (λ c. search needs)
     (λ c. search needs)
     (λ c κs. search needs)
+    (λ c. search needs)
     (λ c. search needs)
     (λ c. search needs)
     (λ c. (search (needs, line-1), search (needs, unsound-counts))))

@@ -1,4 +1,3 @@
--- `serve_get` meets its contract: each way through it is one of the cited laws.
 use Rattle.engine.proofs.Serving.{gets}
 use borrow.Author.Needs.{needs}
 use Rattle.engine.proofs.serve_get.Statement.{statement}
@@ -8,7 +7,6 @@ pub serve-get-spec : {M : Type 1} → statement M
 serve-get-spec =
     tie.close
     (tie.spec
-    (λ c κs. search needs)
     (λ c κs. search (needs, gets))
     (λ c. search needs)
     (λ c κs. search needs)

@@ -1,4 +1,3 @@
--- `serve_line` meets its contract: each way through it is one of the cited laws.
 use Rattle.engine.proofs.Serving.{lines}
 use Rattle.engine.proofs.Counting.{line-counts}
 use borrow.Author.Needs.{needs}
@@ -10,7 +9,6 @@ serve-line-spec =
     tie.close
     (tie.spec
     (λ c κs. search needs)
-    (λ c κs. search needs)
     (λ c. search needs)
     (λ c κs. search needs)
     (λ c. search needs)
@@ -26,9 +24,13 @@ serve-line-spec =
     (λ c. search needs)
     (λ c. search needs)
     (λ c. search needs)
-    (λ c. (search (needs, lines), search (needs, line-counts)))
     (λ c. search needs)
     (λ c. (search (needs, lines), search (needs, line-counts)))
+    (λ c. search needs)
+    (λ c. search needs)
+    (λ c. (search (needs, lines), search (needs, line-counts)))
+    (λ c. search needs)
+    (λ c. search needs)
     (λ c. search needs)
     (λ c. search needs)
     (λ c. search needs)

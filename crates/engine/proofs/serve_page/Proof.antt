@@ -1,4 +1,3 @@
--- `serve_page` meets its contract: each way through it is one of the cited laws.
 use Rattle.engine.proofs.Serving.{pages}
 use borrow.Author.Needs.{needs}
 use Rattle.engine.proofs.serve_page.Statement.{statement}
@@ -8,10 +7,9 @@ pub serve-page-spec : {M : Type 1} → statement M
 serve-page-spec =
     tie.close
     (tie.spec
-    (λ c κs. search needs)
     (λ c κs. search (needs, pages))
     (λ c κs. search (needs, pages))
-    (λ c κs. (search (needs, pages), search (needs, pages)))
+    (λ c κs. search (needs, pages))
     (λ c κs. search needs)
     (λ c. search needs)
     (λ c. search (needs, pages)))

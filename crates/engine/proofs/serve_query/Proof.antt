@@ -1,4 +1,3 @@
--- `serve_query` meets its contract: each way through it is one of the cited laws.
 use Rattle.engine.proofs.Serving.{queries}
 use borrow.Author.Needs.{needs}
 use Rattle.engine.proofs.serve_query.Statement.{statement}

@@ -1,4 +1,3 @@
--- `serve_report` meets its contract: each way through it is one of the cited laws.
 use Rattle.engine.proofs.Serving.{reports}
 use borrow.Author.Needs.{needs}
 use Rattle.engine.proofs.serve_report.Statement.{statement}
@@ -8,9 +7,8 @@ pub serve-report-spec : {M : Type 1} → statement M
 serve-report-spec =
     tie.close
     (tie.spec
-    (λ c κs. search needs)
     (λ c κs. search (needs, reports))
-    (λ c κs. (search (needs, reports), search (needs, reports)))
+    (λ c κs. search (needs, reports))
     (λ c κs. search needs)
     (λ c. search needs)
     (λ c. search (needs, reports)))

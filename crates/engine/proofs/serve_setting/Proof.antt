@@ -1,4 +1,3 @@
--- `serve_setting` meets its contract.
 use Rattle.engine.proofs.Serving.{set-done}
 use borrow.Author.Needs.{needs}
 use Rattle.engine.proofs.serve_setting.Statement.{statement}
@@ -11,5 +10,6 @@ serve-setting-spec =
     (λ c κs. search needs)
     (λ c κs. search needs)
     (λ c κs. search needs)
+    (λ c. search needs)
     (λ c. search needs)
     (λ c. search (needs, set-done)))

@@ -1,4 +1,3 @@
--- `serve_sweep` meets its contract: each way through it is one of the cited laws.
 use Rattle.engine.proofs.Serving.{swept-lines}
 use Rattle.engine.proofs.Counting.{sweep-counts}
 use borrow.Author.Needs.{needs}
@@ -9,9 +8,11 @@ pub serve-sweep-spec : {M : Type 1} → statement M
 serve-sweep-spec =
     tie.close
     (tie.spec
-    (λ c κs. search needs)
     (λ c κs. search (needs, swept-lines))
-    (λ c κs. search needs)
+    (λ c. search needs)
+    (λ c. search needs)
+    (λ c. search needs)
+    (λ c. (search (needs, swept-lines), search (needs, sweep-counts)))
     (λ c. search needs)
     (λ c. search needs)
     (λ c. search needs)

@@ -44,7 +44,7 @@ use Rattle.settings.specs.declared.Settings.{Settings}
 use Rattle.bucket.specs.Whole.{lent}
 use Rattle.outcome.specs.Calls.{call}
 use Rattle.outcome.specs.Outcome.{outcome}
-use Rattle.engine.specs.Served.{outcomeFrom}
+use Rattle.engine.specs.Served.{servedOutcome}
 use Rattle.knitpasture.specs.Lent.{lentOutcomeFrom}
 use Rattle.engine.specs.declared.Served.{Served}
 use Rattle.knitpasture.proofs.knitpasture_serve_lent.Key.{name as #serve-lent}
@@ -123,7 +123,7 @@ module _ {M : Type 1} (𝓤 : URA M) (H : Heap 𝓤) (A : Atoms 𝓤) (W : Given
 
   abbrev Says : Served → Lasts → Type 0
   Says r zs =
-      outcomeFrom r (zs .1 .0) (zs .1 .1 .0) (zs .1 .1 .1 .1 .0) ≡ outcome (lent h (x₁ .now) (x₂ .now)) (call (x₃ .now) (x₄ .now))
+      servedOutcome r (zs .1 .0) (zs .1 .1 .0) (zs .1 .1 .1 .1 .0) ≡ outcome (lent h (x₁ .now) (x₂ .now)) (call (x₃ .now) (x₄ .now))
 
   asked : ent 𝓤 (sep 𝓤 (sep 𝓤 (A .lft κ₁ q₁) (sep 𝓤 (A .lft κ₂ q₂) (sep 𝓤 (A .lft κ₃ q₃) (sep 𝓤 (A .lft κ₄ q₄) (sem 𝓤 H A ftrue))))) (sem 𝓤 H A whole-own)) (Serve 𝓤 H A at-mem run .pre to)
   asked = qed W (toks ∷ ‵ whole-own ∷ []) ∵ join ! $ frame ! $ done !

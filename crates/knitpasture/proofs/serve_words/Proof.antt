@@ -1,4 +1,3 @@
--- `serve_words` meets its contract: each way through it is one of the cited laws.
 use Rattle.knitpasture.proofs.Serving.{words-cases, words-counts}
 use borrow.Author.Needs.{needs}
 use Rattle.knitpasture.proofs.serve_words.Statement.{statement}
@@ -9,7 +8,6 @@ serve-words-spec =
     tie.close
     (tie.spec
     (λ c. (search (needs, words-cases), search (needs, words-counts)))
-    (λ c κs. search needs)
     (λ c κs. search needs)
     (λ c. search needs)
     (λ c. search needs)

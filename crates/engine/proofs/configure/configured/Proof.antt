@@ -1,4 +1,3 @@
--- `configured` meets its contract: each way through it is one of the cited laws.
 use Rattle.engine.proofs.Configuring.{sets}
 use borrow.Author.Needs.{needs}
 use Rattle.engine.proofs.configure.configured.Statement.{statement}
@@ -17,4 +16,5 @@ configured-spec =
     (λ c κs. search (needs, sets))
     (λ c κs. search (needs, sets))
     (λ c. search (needs, sets))
+    (λ c. search needs)
     (λ c. search (needs, sets)))

@@ -1,4 +1,3 @@
--- `begins_at` meets its contract.
 use Rattle.lifecycle.proofs.Bounding.{begins-cases}
 use borrow.Author.Needs.{needs}
 use Rattle.lifecycle.proofs.rules.begins_at.Statement.{statement}
@@ -18,6 +17,10 @@ begins-at-spec =
     (λ c. search (needs, begins-cases))
     (λ c κs. search (needs, begins-cases))
     (λ c. search (needs, begins-cases))
+    (λ c. search (needs, begins-cases))
+    (λ c. search needs)
+    (λ c κs. search needs)
+    (λ c κs. search needs)
     (λ c. search (needs, begins-cases))
     (λ c. search needs)
     (λ c. search needs)

@@ -1,16 +1,12 @@
--- `decode` meets its contract.
-use Rattle.settings.specs.Bytes.{settingsOf}
 use Rattle.settings.proofs.Decoding.{made}
 use borrow.Author.Needs.{needs}
-use Rattle.settings.proofs.decode.Statement.{statement}
-use Rattle.settings.proofs.decode.Tie as tie
+use Rattle.settings.proofs.state_in.Statement.{statement}
+use Rattle.settings.proofs.state_in.Tie as tie
 
-pub decode-spec : {M : Type 1} → statement M
-unfolding settingsOf
-decode-spec =
+pub state-in-spec : {M : Type 1} → statement M
+state-in-spec =
     tie.close
     (tie.spec
-    (λ c κs. search needs)
     (λ c κs. search needs)
     (λ c κs. search needs)
     (λ c κs. search needs)

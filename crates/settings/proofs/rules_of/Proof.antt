@@ -1,13 +1,13 @@
--- `rules_in` meets its contract.
-use Rattle.settings.specs.Bytes.{settingsOf}
+-- `rules_of` meets its contract.
+use Rattle.settings.specs.Bytes.{rulesAt}
 use Rattle.settings.proofs.Decoding.{made}
 use borrow.Author.Needs.{needs}
-use Rattle.settings.proofs.rules_in.Statement.{statement}
-use Rattle.settings.proofs.rules_in.Tie as tie
+use Rattle.settings.proofs.rules_of.Statement.{statement}
+use Rattle.settings.proofs.rules_of.Tie as tie
 
-pub rules-in-spec : {M : Type 1} → statement M
-unfolding settingsOf
-rules-in-spec =
+pub rules-of-spec : {M : Type 1} → statement M
+unfolding rulesAt
+rules-of-spec =
     tie.close
     (tie.spec
     (λ c κs. search needs)
