@@ -20,7 +20,6 @@ use Rattle.buffers.specs.Words.{number, AllBytes}
 use Rattle.buffers.proofs.Tests.{either, and-l, and-r}
 use Rattle.buffers.proofs.Words.{bytes-take, bytes-drop}
 use Rattle.calendar.proofs.Tables.{upto, upto-at}
-use Rattle.calendar.specs.declared.Civil.{Civil}
 use Rattle.text.specs.declared.Value.{Value}
 use Rattle.text.specs.declared.Value.the-variants.{Is, Bad}
 use Rattle.text.specs.Numbers.{valueOf, isDigit}

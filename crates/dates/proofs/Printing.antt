@@ -14,7 +14,7 @@ use Rattle.buffers.proofs.Writes.{wrote-as}
 use Rattle.text.proofs.Joined.{visible}
 use Rattle.calendar.specs.declared.Civil.{Civil}
 use Rattle.calendar.specs.Calendar.{Bounded, day, civilOf}
-use Rattle.calendar.proofs.Tables.{upto, upto-at}
+use Rattle.calendar.proofs.Tables.{upto-at}
 use Rattle.dates.specs.Printing.{digitPair, dateText, printDate}
 
 pub printed-length : (t : ℕ) → length (printDate t) ≡ 24

@@ -12,7 +12,7 @@ use Rattle.buffers.specs.Choices.{pick}
 use Rattle.buffers.specs.Lists.{all}
 use Rattle.buffers.specs.Words.{number, AllBytes}
 use Rattle.buffers.proofs.Tests.{and-l, and-r}
-use Rattle.calendar.proofs.Tables.{upto, upto-at}
+use Rattle.calendar.proofs.Tables.{upto-at}
 
 -- ## Operations byte by byte
 

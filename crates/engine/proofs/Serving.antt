@@ -70,7 +70,6 @@ use Rattle.outcome.proofs.Room.{outcome-fits}
 use Rattle.outcome.proofs.Deciding.{decide-stop, decide-go, decide-done, outcome-1, outcome-2, outcome-3, outcome-said}
 use Rattle.engine.specs.Configured.{Settable, configuredBy}
 use Rattle.engine.specs.declared.Done.{Done}
-use Rattle.engine.specs.declared.Served.{Served}
 use Rattle.engine.specs.Served.{outcomeBy, outcomeFrom, servedOutcome, answeredWith, Passing, CanCarryOut, CarriedOut, SweepAsked, Swept}
 use Rattle.engine.proofs.Ready.{whole-rules, line-says, line-judge, line-stamp, line-asked}
 use Rattle.engine.proofs.Carrying.{refused-is, kept-is, settings-after}

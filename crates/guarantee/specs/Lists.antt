@@ -2,7 +2,6 @@
 use Prim.Native.Nat.{ℕ, _+_, _≤_}
 use mathlib.Core.List.{List, [], _∷_}
 use mathlib.Core.Path.{_≡_}
-use mathlib.Core.Bool.{true}
 use lib.ListN.{length, drop}
 use Rattle.text.specs.Lines.{linesOf}
 use Rattle.model.specs.Run.{left, gathered}

@@ -19,7 +19,7 @@ use Rattle.buffers.proofs.Words.{bytes-drop}
 use Rattle.blocks.specs.Blocks.{blockOf}
 use Rattle.settings.specs.declared.Settings.{Settings}
 use Rattle.settings.specs.declared.State.{State}
-use Rattle.settings.specs.Bytes.{settingsLength, entriesLength, rulesBytes, stateBytes, settingsBytes, rulesOf, stateIn, settingsWith, settingsOf}
+use Rattle.settings.specs.Bytes.{settingsLength, entriesLength, rulesBytes, stateBytes, settingsBytes, stateIn, settingsWith, settingsOf}
 use Rattle.settings.specs.Meaning.{freshSettings}
 use Rattle.settings.specs.State.{stateOf}
 use Rattle.settings.proofs.RoundTrip.{entries-back, entries-kept}

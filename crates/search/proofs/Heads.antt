@@ -1,21 +1,20 @@
 -- A row's key and a key by the bytes of their heads.
-use Prim.Native.Nat.{ℕ, zero, suc, _+_, _-_, _*_, _^_, _≤_, _<_}
+use Prim.Native.Nat.{ℕ, zero, suc, _+_, _-_, _*_, _≤_, _<_}
 use mathlib.Core.Path.{_≡_, refl, sym, ap, _∙_}
 use mathlib.Core.Logic.{_⊎_, inl, inr}
-use mathlib.Core.Bool.{Bool, true, false, _&&_, _||_, true≢false, false≢true}
+use mathlib.Core.Bool.{Bool, true, false, _&&_, _||_}
 use mathlib.Core.List.{List, [], _∷_}
 use native.Mathlib.Omega.{arith}
 use native.Mathlib.Nat.{le-of-eq}
 use mir.Val.{Fits}
 use mir.Syntax.{w8, w64}
-use lib.Dec.{ltb, leb, eqb}
+use lib.Dec.{ltb, eqb}
 use lib.ListN.{length, getD, take, drop, length-drop, drop-of-length-le}
 use lib.Seq.{take-all, take-take, drop-drop, getD-take, getD-drop}
-use borrow.Author.Tests.{ltb-true, ltb-false, leb-true, eqb-true, eqb-false}
-use Rattle.buffers.specs.Choices.{pick}
+use borrow.Author.Tests.{ltb-true, ltb-false, eqb-true}
 use Rattle.buffers.specs.Words.{AllBytes}
 use Rattle.buffers.proofs.Lists.{drop-take}
-use Rattle.buffers.proofs.Tests.{either, and-i, and-l, and-r, or-l, or-r, or-one, or-none}
+use Rattle.buffers.proofs.Tests.{either, and-i, and-l, and-r, or-l, or-r, or-one}
 use Rattle.buffers.proofs.Words.{bytes-take, bytes-drop}
 use Rattle.model.specs.Rows.{before}
 use Rattle.table.specs.Places.{keyAt}

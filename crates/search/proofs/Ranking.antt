@@ -1,5 +1,5 @@
 -- A stored key and a key by their first eight bytes.
-use Prim.Native.Nat.{ℕ, zero, suc, _+_, _-_, _*_, _^_, _≤_, _<_}
+use Prim.Native.Nat.{ℕ, zero, suc, _+_, _-_, _*_, _^_, _≤_}
 use mathlib.Core.Path.{_≡_, refl, sym, ap, _∙_}
 use mathlib.Core.Bool.{true}
 use mathlib.Core.List.{List, [], _∷_, _++_}
@@ -7,7 +7,7 @@ use native.Mathlib.Omega.{arith}
 use mir.Val.{Fits}
 use mir.Syntax.{w8}
 use lib.ListN.{length, getD, take, drop, replicate}
-use lib.Seq.{drop-drop, getD-take, getD-drop}
+use lib.Seq.{drop-drop}
 use Rattle.buffers.specs.Words.{AllBytes}
 use Rattle.buffers.specs.Writes.{Wrote}
 use Rattle.buffers.proofs.Lists.{drop-take}
@@ -15,9 +15,8 @@ use Rattle.buffers.proofs.Words.{bytes-take, bytes-drop}
 use Rattle.blocks.specs.Blocks.{blockOf, keyIn, isBlock}
 use Rattle.blocks.proofs.Blocks.{block-path}
 use Rattle.table.specs.Places.{keyAt}
-use Rattle.search.specs.Keys.{isOrder, rank}
-use Rattle.search.specs.declared.Order.the-variants.{Before, After}
-use Rattle.search.proofs.Comparing.{rank-less, all-bytes}
+use Rattle.search.specs.Keys.{rank}
+use Rattle.search.proofs.Comparing.{all-bytes}
 
 zeros-rank : (k m c : ℕ) → rank k (drop m (replicate c 0)) ≡ 0
 unfolding rank

@@ -1,9 +1,9 @@
 -- Laws of the entries: a rule by its 80 bytes, the rules one after the other, and one of them written anew.
 use Prim.Native.Nat.{ℕ, zero, suc, _+_, _*_, _-_, _≤_, _<_}
 use mathlib.Core.Path.{_≡_, refl, sym, ap, ap₂, _∙_}
-use mathlib.Core.List.{List, [], _∷_, _++_}
+use mathlib.Core.List.{List, _∷_, _++_}
 use native.Mathlib.Omega.{arith}
-use lib.ListN.{length, getD, take, drop, set, length-append, length-take, length-drop, take-append-drop}
+use lib.ListN.{length, getD, take, drop, set, length-append, length-drop, take-append-drop}
 use lib.Seq.{take-take, drop-drop, take-add, length-take-le, drop-append-add}
 use Rattle.buffers.specs.Words.{number, spelled, AllBytes}
 use Rattle.buffers.specs.Writes.{placed}

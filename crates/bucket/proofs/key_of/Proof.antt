@@ -1,3 +1,4 @@
+-- `key_of` meets its contract.
 use Rattle.bucket.proofs.Passing.{key-by-value}
 use borrow.Author.Needs.{needs}
 use Rattle.bucket.proofs.key_of.Statement.{statement}

@@ -1,3 +1,4 @@
+-- `serve` meets its contract.
 use Rattle.engine.proofs.Serving.{by-value}
 use borrow.Author.Needs.{needs}
 use Rattle.engine.proofs.serve.Statement.{statement}

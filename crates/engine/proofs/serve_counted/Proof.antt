@@ -1,3 +1,4 @@
+-- `serve_counted` meets its contract.
 use Rattle.engine.proofs.Serving.{line-1}
 use Rattle.engine.proofs.Counting.{unsound-counts}
 use borrow.Author.Needs.{needs}

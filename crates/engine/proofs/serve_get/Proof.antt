@@ -1,3 +1,4 @@
+-- `serve_get` meets its contract.
 use Rattle.engine.proofs.Serving.{gets}
 use borrow.Author.Needs.{needs}
 use Rattle.engine.proofs.serve_get.Statement.{statement}

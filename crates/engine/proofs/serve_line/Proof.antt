@@ -1,3 +1,4 @@
+-- `serve_line` meets its contract.
 use Rattle.engine.proofs.Serving.{lines}
 use Rattle.engine.proofs.Counting.{line-counts}
 use borrow.Author.Needs.{needs}

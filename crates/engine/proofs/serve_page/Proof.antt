@@ -1,3 +1,4 @@
+-- `serve_page` meets its contract.
 use Rattle.engine.proofs.Serving.{pages}
 use borrow.Author.Needs.{needs}
 use Rattle.engine.proofs.serve_page.Statement.{statement}

@@ -1,3 +1,4 @@
+-- `serve_query` meets its contract.
 use Rattle.engine.proofs.Serving.{queries}
 use borrow.Author.Needs.{needs}
 use Rattle.engine.proofs.serve_query.Statement.{statement}

@@ -1,3 +1,4 @@
+-- `serve_report` meets its contract.
 use Rattle.engine.proofs.Serving.{reports}
 use borrow.Author.Needs.{needs}
 use Rattle.engine.proofs.serve_report.Statement.{statement}

@@ -1,3 +1,4 @@
+-- `serve_setting` meets its contract.
 use Rattle.engine.proofs.Serving.{set-done}
 use borrow.Author.Needs.{needs}
 use Rattle.engine.proofs.serve_setting.Statement.{statement}

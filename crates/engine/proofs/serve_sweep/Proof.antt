@@ -1,3 +1,4 @@
+-- `serve_sweep` meets its contract.
 use Rattle.engine.proofs.Serving.{swept-lines}
 use Rattle.engine.proofs.Counting.{sweep-counts}
 use borrow.Author.Needs.{needs}

@@ -1,3 +1,4 @@
+-- `key_length` meets its contract.
 use Rattle.knitpasture.proofs.Serving.{key-spelled, entries-long}
 use borrow.Author.Needs.{needs}
 use Rattle.knitpasture.proofs.key_length.Statement.{statement}

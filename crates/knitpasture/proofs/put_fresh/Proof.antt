@@ -1,3 +1,4 @@
+-- `put_fresh` meets its contract.
 use Rattle.knitpasture.proofs.Serving.{fresh-put}
 use borrow.Author.Needs.{needs}
 use Rattle.knitpasture.proofs.put_fresh.Statement.{statement}

@@ -1,3 +1,4 @@
+-- `serve_entries` meets its contract. Its five buffers hold more records than the search looks into, so that five facts are named by their places.
 use Rattle.knitpasture.proofs.Serving.{entries-long, entries-served}
 use borrow.Author.Needs.{needs}
 use Rattle.knitpasture.proofs.serve_entries.Statement.{statement}

@@ -1,3 +1,4 @@
+-- `serve_words` meets its contract.
 use Rattle.knitpasture.proofs.Serving.{words-cases, words-counts}
 use borrow.Author.Needs.{needs}
 use Rattle.knitpasture.proofs.serve_words.Statement.{statement}

@@ -1,3 +1,4 @@
+-- `is_sound_rule` meets its contract.
 use Rattle.settings.proofs.Checking.{rule-checked}
 use borrow.Author.Needs.{needs}
 use Rattle.settings.proofs.is_sound_rule.Statement.{statement}

@@ -1,3 +1,4 @@
+-- `put_state` meets its contract.
 use Rattle.settings.proofs.Encoding.{state-written}
 use borrow.Author.Needs.{needs}
 use Rattle.settings.proofs.put_state.Statement.{statement}

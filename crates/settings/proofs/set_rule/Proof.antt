@@ -1,3 +1,4 @@
+-- `set_rule` meets its contract.
 use Rattle.settings.proofs.Storing.{stored-cases}
 use borrow.Author.Needs.{needs}
 use Rattle.settings.proofs.set_rule.Statement.{statement}

@@ -1,3 +1,4 @@
+-- `settings_with` meets its contract.
 use Rattle.settings.proofs.Decoding.{made}
 use borrow.Author.Needs.{needs}
 use Rattle.settings.proofs.settings_with.Statement.{statement}

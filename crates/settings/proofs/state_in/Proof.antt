@@ -1,3 +1,4 @@
+-- `state_in` meets its contract.
 use Rattle.settings.proofs.Decoding.{made}
 use borrow.Author.Needs.{needs}
 use Rattle.settings.proofs.state_in.Statement.{statement}

@@ -1,3 +1,4 @@
+-- `configured` meets its contract.
 use Rattle.engine.proofs.Configuring.{sets}
 use borrow.Author.Needs.{needs}
 use Rattle.engine.proofs.configure.configured.Statement.{statement}

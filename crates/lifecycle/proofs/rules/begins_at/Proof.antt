@@ -1,3 +1,4 @@
+-- `begins_at` meets its contract.
 use Rattle.lifecycle.proofs.Bounding.{begins-cases}
 use borrow.Author.Needs.{needs}
 use Rattle.lifecycle.proofs.rules.begins_at.Statement.{statement}
