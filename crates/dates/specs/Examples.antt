@@ -1,11 +1,15 @@
 -- The paper's examples of dates, as theorems about the definitions.
+use Prim.Native.Nat.{_%_}
 use mathlib.Core.Path.{_≡_, refl}
+use mathlib.Core.Bool.{true, false}
 use mathlib.Core.Option.{some, none}
 use Rattle.buffers.specs.Texts.{bytes}
+use Rattle.buffers.specs.Words.{number}
 use Rattle.text.specs.Numbers.{isDigit}
 use Rattle.calendar.specs.Calendar.{leap, yearsLength, monthStart, monthLength, validDay, daysOf, guessOf, yearOf, monthOf, dateIn, civilOf}
 use Rattle.dates.specs.Reading.{digitOf, twoDigits, fourDigits, dayNumber, dayAt, secondOfDay, secondAt, fractionDigit, milliseconds, fractionOf, readDate}
-use Rattle.dates.specs.Printing.{dateText, printDate}
+use Rattle.dates.specs.Pairs.{apart, isPairs, pairsOf}
+use Rattle.dates.specs.Printing.{digitPair, dateText, printDate}
 
 -- the starred date examples
 pub record Starred : Type 0 where
@@ -34,3 +38,14 @@ starred =
 pub shown : printDate 1709337600000 ≡ bytes "2024-03-02T00:00:00.000Z"
 unfolding leap yearsLength monthStart guessOf yearOf monthOf dateIn civilOf dateText printDate
 shown = refl
+
+-- three pairs at once: the hour, and what is no time
+pub record AtOnce : Type 0 where
+  pub time : isPairs (apart (bytes "12:34:56") 0 0x30303a30303a3030) ≡ true
+  pub hour : pairsOf (apart (bytes "12:34:56") 0 0x30303a30303a3030) % 256 ≡ 12
+  pub no-digit : isPairs (apart (bytes "12:3x:56") 0 0x30303a30303a3030) ≡ false
+  pub tens-first : digitPair 42 ≡ number (bytes "42")
+
+pub at-once : AtOnce
+unfolding apart isPairs pairsOf number
+at-once = record { time = refl; hour = refl; no-digit = refl; tens-first = refl }

@@ -11,7 +11,8 @@ use Rattle.blocks.specs.Blocks.{blockOf, isBlock}
 use Rattle.model.specs.Settings.{soundConfig, soundRules}
 use Rattle.settings.specs.declared.Settings.{Settings}
 use Rattle.settings.specs.declared.Rule.{Rule}
-use Rattle.settings.specs.Bytes.{ruleBytes, settingsBytes, rulesAt, settingsOf, settingsFit}
+use Rattle.settings.specs.Bytes.{ruleBytes, rulesBytes, settingsBytes, rulesAt, settingsWith, settingsOf, settingsFit}
+use Rattle.settings.specs.State.{stateOf}
 use Rattle.settings.specs.Meaning.{settingsSound}
 
 -- no rule
@@ -45,6 +46,7 @@ pub record Examples : Type 0 where
   -- the prefix's length, the prefix, zeros, and two numbers with the low byte first
   pub rule-bytes : ruleBytes logs ≡ 5 ∷ 108 ∷ 111 ∷ 103 ∷ 115 ∷ 47 ∷ replicate 58 0 ++ (30 ∷ replicate 7 0 ++ (1 ∷ 2 ∷ replicate 6 0))
   pub read-back : settingsOf (settingsBytes (with 1 30 1 logs)) ≡ with 1 30 1 logs
+  pub lent-back : settingsWith (stateOf (with 1 30 1 logs)) (rulesBytes (with 1 30 1 logs .rules)) ≡ with 1 30 1 logs
   pub fits : settingsFit (with 1 30 1 logs) ≡ true
   pub fresh-sound : settingsSound (with 0 0 0 absent) ≡ true
   -- GOVERNANCE for 36500 days, and no day more
@@ -66,6 +68,7 @@ examples =
       fresh-bytes = refl;
       rule-bytes = refl;
       read-back = refl;
+      lent-back = refl;
       fits = refl;
       fresh-sound = refl;
       longest = refl;

@@ -1,4 +1,4 @@
--- Numbers, fields, keys and prefixes, computed.
+-- Numbers, fields, tabs as bits, keys and prefixes, computed.
 use mathlib.Core.Path.{_≡_, refl}
 use mathlib.Core.Bool.{true, false}
 use mathlib.Core.List.{[], _∷_}
@@ -8,6 +8,7 @@ use Rattle.buffers.specs.Texts.{bytes}
 use Rattle.buffers.specs.Lists.{begins}
 use Rattle.text.specs.Numbers.{isDigit, leadingZero, numberOf, positiveOf}
 use Rattle.text.specs.Fields.{fields, fieldOf, placeOf}
+use Rattle.text.specs.Bits.{bitsOf}
 use Rattle.text.specs.Lines.{linesOf}
 use Rattle.text.specs.Keys.{isKeyByte, isPrefix, isKey}
 use Rattle.text.specs.Printing.{digits}
@@ -25,6 +26,8 @@ pub record Examples : Type 0 where
   pub split : fields (bytes "GET\tkey\t\t7") ≡ bytes "GET" ∷ bytes "key" ∷ [] ∷ bytes "7" ∷ []
   pub last : placeOf (bytes "GET\tkey\t\t7") 3 ≡ record { start = 9; len = 1 }
   pub missing : fieldOf (bytes "GET\tkey") 2 ≡ []
+  -- the second and the fourth byte
+  pub tabBits : bitsOf 9 (bytes "a\tb\t") ≡ 10
   pub lines : linesOf (bytes "GET\n\nPUT") ≡ bytes "GET" ∷ [] ∷ bytes "PUT" ∷ []
   pub lastFeed : linesOf (bytes "GET\n") ≡ bytes "GET" ∷ []
   pub dashKey : isKey (bytes "-") ≡ true
@@ -52,6 +55,7 @@ examples =
       split = refl;
       last = refl;
       missing = refl;
+      tabBits = refl;
       lines = refl;
       lastFeed = refl;
       dashKey = refl;
