@@ -1,4 +1,6 @@
 // The answers to accepted lines, written at the start of the answer buffer. The definitions are in specs/.
+#![tactic(auto)]
+
 ghost use Rattle.std.specs.Prelude.{◌+◌, ◌≤◌, length, [], ◌∷◌};
 ghost use Rattle.buffers.specs.Writes.{Wrote};
 ghost use Rattle.text.specs.Printing.{digits};
@@ -13,7 +15,7 @@ ghost use Rattle.answers.specs.Meaning.{totals_mean, text_of, Printable};
 use table::Numbers;
 
 // What REPORT answers: how many rows are data, how many are markers, the sum of the data lengths, and how many data rows are locked.
-#[derive(Drop)]
+#[derive(Clone, Copy)]
 pub struct Totals {
     pub versions: u64,
     pub markers: u64,
@@ -22,7 +24,7 @@ pub struct Totals {
 }
 
 // What an accepted line answers.
-#[derive(Drop)]
+#[derive(Clone, Copy)]
 pub enum Answer {
     Done,
     Made(u64),

@@ -1,4 +1,6 @@
 // A judged change carried out on the lent table. The definitions are in specs/.
+#![tactic(auto)]
+
 mod sweep;
 
 ghost use Rattle.table.specs.Layout.{rows_of, capacity};
@@ -7,7 +9,7 @@ ghost use Rattle.apply.specs.Applied.{judged, Applicable, Applied};
 use judge::Change;
 
 // The counts of a table after a change: the used rows and the next version number.
-#[derive(Drop)]
+#[derive(Clone, Copy)]
 pub struct Progress {
     pub used: usize,
     pub next: u64,

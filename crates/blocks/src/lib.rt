@@ -1,4 +1,6 @@
 // A key or a prefix in 64 bytes: its length, its bytes, zeros. The definitions are in specs/.
+#![tactic(auto)]
+
 ghost use Rattle.std.specs.Prelude.{◌≡◌, ◌&&◌, ◌+◌, ◌≤◌, length, get_or, drop};
 ghost use Rattle.buffers.specs.Lists.{all};
 ghost use Rattle.buffers.specs.Writes.{Wrote};

@@ -1,4 +1,6 @@
 // Refusal 1: whether settings and buffers hold a sound bucket, and the key of a row of one. The definitions are in specs/.
+#![tactic(auto)]
+
 ghost use Rattle.std.specs.Prelude.{◌≡◌, true, false, ◌&&◌, [], ◌+◌, ◌*◌, ◌≤◌, ◌<◌, length, take, drop};
 ghost use Rattle.buffers.specs.Lists.{same};
 ghost use Rattle.blocks.specs.Blocks.{key_in};

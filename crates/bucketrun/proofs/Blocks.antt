@@ -1,13 +1,15 @@
 -- Laws of reading: what stands in the input before, between and after blocks.
-use Prim.Native.Nat.{ℕ, ◌+◌, ◌-◌, ◌≤◌, ◌<◌, min}
+use Prim.Native.Nat.{ℕ, ◌+◌, ◌-◌, ◌<◌, min}
 use mathlib.Core.Path.{◌≡◌, refl, sym, ◌∙◌, ap, ap₂}
 use mathlib.Core.Bool.{Bool, true, false}
-use mathlib.Core.List.{List, [], ◌∷◌, ◌++◌}
+use mathlib.Core.List.{List, [], ◌∷◌, ◌++◌, append-nil}
 use native.Mathlib.Omega.{arith}
-use native.Mathlib.Numerals.{add-one}
-use lib.ListN.{length, take, drop, set, replicate, length-take, length-drop, length-replicate}
-use lib.Seq.{length-take-le, take-add, take-suc-set, take-set-le}
-use borrow.Rule.Slice.PartMut.{mid_of, put_mid, take_put, same_len_mid}
+use lib.ListN.{length, take, drop, replicate, length-take, length-drop, length-replicate}
+use lib.Seq.{length-take-le, take-add}
+use borrow.Rule.Slice.PartMut.{mid_of}
+use Rattle.std.proofs.Common.{Option, subst}
+use Rattle.std.specs.Io.KnownBytes.{Appends, Consumes}
+use Rattle.std.proofs.KnownBytes.{Appends-nil, Appends-trans, Consumes-nil, Consumes-trans, Consumes-whole}
 use Rattle.buffers.specs.Ranges.{Within, Span}
 use Rattle.buffers.specs.Writes.{Wrote}
 use Rattle.buffers.proofs.Tests.{clash}
@@ -26,47 +28,13 @@ use Rattle.settings.specs.Meaning.{fresh_settings}
 use Rattle.model.proofs.Runs.{left_append}
 use Rattle.bucket.specs.Whole.{Lent, lent_with}
 use Rattle.bucket.proofs.Whole.{fresh_whole}
-use Rattle.bucketrun.specs.Program.{left_by, ended_length, ended_lines, Waiting, waiting, after_block, feed_ended}
+use Rattle.bucketrun.specs.Program.{left_by, printed_by, ended_length, ended_lines, Waiting, waiting, after_block, written_by, joined}
 use Rattle.bucketrun.specs.Course.{ServedAll, CameBehind, TookBlock, Startable, BetweenBlocks, Ran}
-use Rattle.bucketrun.proofs.Lines.{rest_none, none_take, closed_some, closed_lines}
-use Rattle.bucketrun.proofs.Cutting.{blocks_left}
+use Rattle.bucketrun.proofs.Lines.{rest_none, none_take, closed_lines}
+use Rattle.bucketrun.proofs.Cutting.{blocks_left, all_written, written_more, joined_more}
 use Rattle.bucketrun.proofs.Printing.{wrote_front}
 
 -- ## Reading and keeping
-
-module _ (input : List ℕ) (kept : ℕ) (ys : List ℕ) (h : kept < length input) (l : length ys ≡ length (mid_of kept (length input - kept) input)) where
-  abbrev filled : List ℕ
-  filled = put_mid kept (length input - kept) input ys
-
-  filled_long : length filled ≡ length input
-  filled_long = same_len_mid kept (length input - kept) input ys l
-
-  filled_stays : take kept filled ≡ take kept input
-  filled_stays = take_put kept (length input - kept) input ys (omega arith)
-
-  pub came_more : (k : ℕ) → 0 < k → k ≤ length (take (length filled - kept) (drop kept filled)) → CameBehind input kept filled (kept + k) false
-  came_more k n m =
-      let e = filled_long in
-      let t = length-take (length filled - kept) (drop kept filled) in
-      let d = length-drop kept filled in
-      record { span = record { from = omega arith; to = omega arith }; stays = filled_stays; comes = λ x. omega arith; ends = λ x. absurd (clash false x refl) }
-
-  pub came_none : kept ≡ 0 → CameBehind input kept filled 0 true
-  came_none e = record { span = record { from = omega arith; to = omega arith }; stays = filled_stays; comes = λ x. absurd (clash true refl x); ends = λ x. sym (ap (λ (k : ℕ). feed_ended (take k input)) e) }
-
-  pub came_end : (kept ≡ 0 → ⊥) → CameBehind input kept (set filled kept 10) (kept + 1) true
-  came_end q =
-      let e = filled_long in
-      let t = length-take-le kept input (omega arith) in
-      let n : 0 < kept = omega (arith, q) in
-      record {
-        span = record { from = omega arith; to = omega arith };
-        stays = take-set-le kept filled kept 10 (omega arith) ∙ filled_stays;
-        comes = λ x. omega arith;
-        ends = λ x. rw add-one (take-suc-set filled kept 10 (omega arith)) ∙ ap (λ (u : List ℕ). u ++ 10 ∷ []) filled_stays ∙ sym (closed_some (take kept input) (omega arith));
-      }
-
-pub ruleset read_cases = (came_more, came_none, came_end)
 
 -- The start of a line goes to the front by way of another buffer.
 pub kept_start : (input : List ℕ) (from to len : ℕ) (line line' : List ℕ) (k a : ℕ) (exit : List ℕ) (m r : ℕ) → Span from to (length input) → Within len (min (to - from) 513) 513
@@ -82,16 +50,17 @@ kept_start input from to len line line' k a exit m r h c v w =
 
 -- ## A block
 
-module _ (h : Lent) (input : List ℕ) (end : ℕ) (b : Lent) (i : ℕ) (told : Bool) (d : ServedAll h (mid_of 0 (end - 0) input) b i told) where
-  pub took_block : (input' : List ℕ) (k : ℕ) → Wrote input 0 (take 513 (drop i (take end input))) 513 input' k → TookBlock h (take end input) b input' k told
+module _ (h : Lent) (input : List ℕ) (end : ℕ) (v : Option (List ℕ)) (b : Lent) (v' : Option (List ℕ)) (i : ℕ) (told : Bool) (d : ServedAll h (mid_of 0 (end - 0) input) v b v' i told) where
+  pub took_block : (input' : List ℕ) (k : ℕ) → Wrote input 0 (take 513 (drop i (take end input))) 513 input' k → TookBlock h (take end input) v b input' v' k told
   took_block input' k w =
       let z : end - 0 ≡ end = omega arith in
-      let x : ServedAll h (take end input) b i told = rw z at d in
+      let x : ServedAll h (take end input) v b v' i told = rw z at d in
       let f = wrote_front input 0 _ 513 input' k (omega arith) w in
       record {
         is_whole = x.through.is_whole;
         few = omega (arith, w.most);
         takes = λ t. ap₂ waiting (x.through.leads ∙ ap (λ (j : ℕ). left_by h (lines_of (take j (take end input)))) (x.all t)) (f ∙ ap (λ (j : ℕ). take 513 (drop j (take end input))) (x.all t));
+        writes = λ t. subst (λ (j : ℕ). Appends v v' (printed_by h (lines_of (take j (take end input))))) (x.all t) (x.writes t);
       }
 
 -- ## The run
@@ -107,11 +76,13 @@ may_start x s e input n k out fx f ee ei en ek eo =
       input_long = zeros_long input 66560 ei;
     }
 
-pub first_block : (b : Lent) (e input out : List ℕ) → Startable b e input out → BetweenBlocks b e input out b e input out 0
-first_block b e input out a =
+pub first_block : (b : Lent) (e input out : List ℕ) (u v : Option (List ℕ)) → Startable b e input out → BetweenBlocks b e input out u v b e input out u v 0
+first_block b e input out u v a =
     record {
       blocks = [];
       leads = refl;
+      reads = Consumes-nil u;
+      writes = Appends-nil v;
       servable = a.servable;
       entries_same = refl;
       few = omega arith;
@@ -124,16 +95,32 @@ first_block b e input out a =
     }
 
 -- Output was not taken.
-pub run_stopped : (h : Lent) (n k : List ℕ) → Ran false h n k
-run_stopped h n k = record { blocks = []; settings = h.settings; is = λ x. absurd (clash false x refl) }
+pub run_stopped : (h : Lent) (u v : Option (List ℕ)) (n k : List ℕ) (u' v' : Option (List ℕ)) → Ran false false h u v n k u' v'
+run_stopped h u v n k u' v' =
+    record { blocks = []; settings = h.settings; is = λ x. absurd (clash false x refl); reads = λ x. absurd (clash false x refl); writes = λ x. absurd (clash false x refl); at_end = λ x. absurd (clash false x refl); whole = λ x. absurd (clash false x refl) }
 
-module _ (h : Lent) (e₀ input₀ out₀ : List ℕ) (b : Lent) (e input out : List ℕ) (kept : ℕ) (g : BetweenBlocks h e₀ input₀ out₀ b e input out kept) where
+module _ (h : Lent) (e₀ input₀ out₀ : List ℕ) (u₀ v₀ : Option (List ℕ)) (b : Lent) (e input out : List ℕ) (u v : Option (List ℕ)) (kept : ℕ) (g : BetweenBlocks h e₀ input₀ out₀ u₀ v₀ b e input out u v kept) where
   pub read_room : kept < length input
   read_room = omega (arith, g.few, g.input_long)
 
-  module _ (filled : List ℕ) (end : ℕ) (over : Bool) (c : CameBehind input kept filled end over) where
-    pub run_ends : (s : State) (e' n k input' : List ℕ) (kept' : ℕ) (told : Bool) → TookBlock b (take end filled) (lent_with s e' n k) input' kept' told → over ≡ true → Ran told h n k
-    run_ends s e' n k input' kept' told d o =
+  module _ (filled : List ℕ) (u' : Option (List ℕ)) (end : ℕ) (over failed : Bool) (c : CameBehind input kept u filled u' end over failed) where
+    -- What the last block prints stands behind what is written.
+    last_written : over ≡ true → written_by (waiting h []) g.blocks ++ printed_by b (ended_lines (take end filled)) ≡ printed_by h (lines_of (joined g.blocks))
+    last_written o =
+        ap
+        (λ (t : List ℕ). written_by (waiting h []) g.blocks ++ t)
+        (ap (printed_by b) (ap ended_lines (c.ends o) ∙ closed_lines (take kept input) g.no_feed) ∙ ap (λ (w : Waiting). printed_by w.bucket (lines_of w.begun)) g.leads)
+        ∙ all_written h g.blocks
+
+    all_read : over ≡ true → Consumes u₀ u' (joined g.blocks)
+    all_read o = subst (Consumes u₀ u') (append-nil (joined g.blocks)) (Consumes-trans u₀ u u' _ _ g.reads (c.rests o))
+
+    run_written : (v' : Option (List ℕ)) (b' : Lent) (input' : List ℕ) (kept' : ℕ) (told : Bool) → TookBlock b (take end filled) v b' input' v' kept' told → over ≡ true → told ≡ true
+        → Appends v₀ v' (printed_by h (lines_of (joined g.blocks)))
+    run_written v' b' input' kept' told d o t = subst (Appends v₀ v') (last_written o) (Appends-trans v₀ v v' _ _ g.writes (d.writes t))
+
+    pub run_ends : (s : State) (e' n k input' : List ℕ) (v' : Option (List ℕ)) (kept' : ℕ) (told : Bool) → TookBlock b (take end filled) v (lent_with s e' n k) input' v' kept' told → over ≡ true → Ran told failed h u₀ v₀ n k u' v'
+    run_ends s e' n k input' v' kept' told d o =
         record {
           blocks = g.blocks;
           settings = settings_with s e';
@@ -142,6 +129,12 @@ module _ (h : Lent) (e₀ input₀ out₀ : List ℕ) (b : Lent) (e input out : 
               ∙ ap (left_by b) (ap ended_lines (c.ends o) ∙ closed_lines (take kept input) g.no_feed)
               ∙ ap (λ (w : Waiting). left_by w.bucket (lines_of w.begun)) g.leads
               ∙ blocks_left h [] g.blocks;
+          reads = λ t. all_read o;
+          writes = λ t. run_written v' (lent_with s e' n k) input' kept' told d o t;
+          at_end = λ t. c.at_end o;
+          whole =
+              λ t f. Consumes-whole u₀ u' (joined g.blocks) (λ (xs : List ℕ). Appends v₀ v' (printed_by h (lines_of xs))) (all_read o) (c.at_end o f)
+              (run_written v' (lent_with s e' n k) input' kept' told d o t);
         }
 
     -- The text up to its end is what was kept, and what came.
@@ -150,13 +143,23 @@ module _ (h : Lent) (e₀ input₀ out₀ : List ℕ) (b : Lent) (e input out : 
         let z : end ≡ kept + (end - kept) = omega (arith, c.span.from) in
         ap (λ (j : ℕ). take j filled) z ∙ take-add kept (end - kept) filled ∙ ap (λ (t : List ℕ). t ++ take (end - kept) (drop kept filled)) c.stays
 
-    pub next_block : (b' : Lent) (input' : List ℕ) (kept' : ℕ) (told : Bool) → TookBlock b (take end filled) b' input' kept' told → (e' out' : List ℕ) → told ≡ true → length filled ≡ length input
-        → length input' ≡ length filled → length e' ≡ length e → length b'.numbers ≡ length b.numbers → length b'.keys ≡ length b.keys → length out' ≡ length out → BetweenBlocks h e₀ input₀ out₀ b' e' input' out' kept'
-    next_block b' input' kept' told d e' out' t lf li le ln lk lo =
+    next_written : written_by (waiting h []) (g.blocks ++ take (end - kept) (drop kept filled) ∷ []) ≡ written_by (waiting h []) g.blocks ++ printed_by b (ended_lines (take end filled))
+    next_written =
+        let x = take (end - kept) (drop kept filled) in
+        written_more (waiting h []) g.blocks x
+        ∙ ap
+        (λ (t : List ℕ). written_by (waiting h []) g.blocks ++ t)
+        (ap (λ (w : Waiting). printed_by w.bucket (ended_lines (w.begun ++ x))) (sym g.leads) ∙ ap (λ (t : List ℕ). printed_by b (ended_lines t)) (sym came))
+
+    pub next_block : (b' : Lent) (input' : List ℕ) (v' : Option (List ℕ)) (kept' : ℕ) (told : Bool) → TookBlock b (take end filled) v b' input' v' kept' told → (e' out' : List ℕ) → over ≡ false → told ≡ true → length filled ≡ length input
+        → length input' ≡ length filled → length e' ≡ length e → length b'.numbers ≡ length b.numbers → length b'.keys ≡ length b.keys → length out' ≡ length out → BetweenBlocks h e₀ input₀ out₀ u₀ v₀ b' e' input' out' u' v' kept'
+    next_block b' input' v' kept' told d e' out' o t lf li le ln lk lo =
         let x = take (end - kept) (drop kept filled) in
         let q : waiting b' (take kept' input') ≡ after_block (waiting b []) (take end filled) = d.takes t in
         record {
           blocks = g.blocks ++ x ∷ [];
+          reads = subst (Consumes u₀ u') (sym (joined_more g.blocks x)) (Consumes-trans u₀ u u' _ _ g.reads (c.reads o));
+          writes = subst (Appends v₀ v') (sym (next_written)) (Appends-trans v₀ v v' _ _ g.writes (d.writes t));
           leads = q ∙ ap (after_block (waiting b [])) came ∙ ap (λ (w : Waiting). after_block w x) g.leads ∙ sym (left_append after_block (waiting h []) g.blocks (x ∷ []));
           servable = record { is_whole = d.is_whole; entries_long = le ∙ g.servable.entries_long; long = lo ∙ g.servable.long };
           entries_same = le ∙ g.entries_same;

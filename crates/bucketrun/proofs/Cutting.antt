@@ -1,6 +1,6 @@
 -- However the input is cut into blocks, it prints and leaves what its lines print and leave.
 use Prim.Native.Nat.{ℕ, suc, ◌≤◌, ◌<◌}
-use mathlib.Core.Path.{◌≡◌, sym, ◌∙◌, ap}
+use mathlib.Core.Path.{◌≡◌, refl, sym, ◌∙◌, ap}
 use mathlib.Core.Logic.{inl, inr}
 use mathlib.Core.Bool.{false}
 use mathlib.Core.List.{List, [], ◌∷◌, ◌++◌, append-nil, append_assoc}
@@ -19,7 +19,7 @@ use Rattle.bucket.specs.Whole.{Lent}
 use Rattle.outcome.specs.Outcome.{Outcome}
 use Rattle.outcome.specs.Printed.{printed_of}
 use Rattle.outcome.proofs.Heard.{same_outcome}
-use Rattle.bucketrun.specs.Program.{answer_room, served_line, after_line, printed_line, left_by, printed_by, ended_length, ended_lines, begun_line, waiting, after_blocks, printed_blocks, joined, CutAnywhere}
+use Rattle.bucketrun.specs.Program.{answer_room, served_line, after_line, printed_line, left_by, printed_by, ended_length, ended_lines, begun_line, Waiting, waiting, after_block, after_blocks, printed_blocks, written_by, joined, CutAnywhere}
 use Rattle.bucketrun.proofs.Lines.{end_cut, end_most, rest_none, none_take, lines_append, lines_begun}
 
 -- ## Long lines
@@ -95,3 +95,27 @@ blocks_left h begun (x ∷ xs) =
 
 pub cut_anywhere : CutAnywhere
 cut_anywhere h xs = blocks_printed h [] xs
+
+-- ## One more block
+
+-- What is written before the input's end, and what is kept.
+written_kept : (w : Waiting) (xs : List (List ℕ)) → written_by w xs ++ printed_by (after_blocks w xs).bucket (lines_of (after_blocks w xs).begun) ≡ printed_blocks w xs
+written_kept w [] = refl
+written_kept w (x ∷ xs) =
+    append_assoc (printed_by w.bucket (ended_lines (w.begun ++ x))) (written_by (after_block w x) xs) _
+    ∙ ap (λ (t : List ℕ). printed_by w.bucket (ended_lines (w.begun ++ x)) ++ t) (written_kept (after_block w x) xs)
+
+pub all_written : (h : Lent) (xs : List (List ℕ))
+    → written_by (waiting h []) xs ++ printed_by (after_blocks (waiting h []) xs).bucket (lines_of (after_blocks (waiting h []) xs).begun) ≡ printed_by h (lines_of (joined xs))
+all_written h xs = written_kept (waiting h []) xs ∙ cut_anywhere h xs
+
+pub written_more : (w : Waiting) (xs : List (List ℕ)) (x : List ℕ)
+    → written_by w (xs ++ x ∷ []) ≡ written_by w xs ++ printed_by (after_blocks w xs).bucket (ended_lines ((after_blocks w xs).begun ++ x))
+written_more w [] x = append-nil (printed_by w.bucket (ended_lines (w.begun ++ x)))
+written_more w (y ∷ xs) x =
+    ap (λ (t : List ℕ). printed_by w.bucket (ended_lines (w.begun ++ y)) ++ t) (written_more (after_block w y) xs x)
+    ∙ sym (append_assoc (printed_by w.bucket (ended_lines (w.begun ++ y))) (written_by (after_block w y) xs) _)
+
+pub joined_more : (xs : List (List ℕ)) (x : List ℕ) → joined (xs ++ x ∷ []) ≡ joined xs ++ x
+joined_more [] x = append-nil x
+joined_more (y ∷ xs) x = ap (λ (t : List ℕ). y ++ t) (joined_more xs x) ∙ sym (append_assoc y (joined xs) x)

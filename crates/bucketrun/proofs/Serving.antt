@@ -1,12 +1,15 @@
 -- Laws of the loops over a block: what holds between two lines, and between two parts.
 use Prim.Native.Nat.{ℕ, zero, suc, ◌+◌, ◌-◌, ◌≤◌, ◌<◌}
 use mathlib.Core.Path.{◌≡◌, refl, sym, ◌∙◌, ap, ap₂, subst⁻¹}
-use mathlib.Core.Bool.{true, false}
+use mathlib.Core.Bool.{Bool, true, false}
 use mathlib.Core.List.{List, [], ◌∷◌, ◌++◌, append-nil}
 use native.Mathlib.Omega.{arith}
 use lib.ListN.{length, take, drop, length-take, length-drop, length-replicate, take-append-drop}
 use lib.Seq.{length-take-le, drop_at, drop-drop, take-add, take-append-le, drop-append-le}
 use borrow.Rule.Slice.PartMut.{mid_of, put_mid, take_put, same_len_mid}
+use Rattle.std.proofs.Common.{Option, subst}
+use Rattle.std.specs.Io.KnownBytes.{Appends}
+use Rattle.std.proofs.KnownBytes.{Appends-nil, Appends-trans}
 use Rattle.buffers.specs.Ranges.{Within}
 use Rattle.buffers.specs.Writes.{placed, Wrote}
 use Rattle.buffers.proofs.Tests.{clash}
@@ -26,6 +29,7 @@ use Rattle.engine.specs.Served.{outcome_from}
 use Rattle.engine.proofs.Serving.{answer_fits}
 use Rattle.bucketrun.specs.Program.{answer_room, served_line, after_line, printed_line, left_by, printed_by, ended_length}
 use Rattle.bucketrun.specs.Course.{Servable, Through, BetweenLines, ServedSome, BetweenParts, ServedAll}
+use Rattle.bucketrun.proofs.Printing.{wrote_front}
 use Rattle.bucketrun.proofs.Lines.{none_feed, none_end, end_append, end_first, lines_append, lines_first}
 
 -- ## The first bytes of a block, and more of them
@@ -205,10 +209,10 @@ some_served : (h : Lent) (block : List ℕ) (j : ℕ) → 0 < length (printed_by
 some_served h block zero q = absurd (omega arith)
 some_served h block (suc j) q = omega arith
 
-pub first_part : (b : Lent) (e out block : List ℕ) → Servable b e out → BetweenParts b block e out b e out 0
-first_part b e out block a = record { through = through_none b block a.is_whole; long = a.long; entries_long = a.entries_long; entries_same = refl; numbers_same = refl; keys_same = refl; out_same = refl }
+pub first_part : (b : Lent) (e out block : List ℕ) (w : Option (List ℕ)) → Servable b e out → BetweenParts b block e out w b e out w 0
+first_part b e out block w a = record { through = through_none b block a.is_whole; writes = Appends-nil w; long = a.long; entries_long = a.entries_long; entries_same = refl; numbers_same = refl; keys_same = refl; out_same = refl }
 
-module _ (h : Lent) (block e₀ out₀ : List ℕ) (b : Lent) (e out : List ℕ) (i : ℕ) (g : BetweenParts h block e₀ out₀ b e out i) where
+module _ (h : Lent) (block e₀ out₀ : List ℕ) (w₀ : Option (List ℕ)) (b : Lent) (e out : List ℕ) (w : Option (List ℕ)) (i : ℕ) (g : BetweenParts h block e₀ out₀ w₀ b e out w i) where
   pub part_servable : Servable b e out
   part_servable = record { is_whole = g.through.is_whole; entries_long = g.entries_long; long = g.long }
 
@@ -225,10 +229,20 @@ module _ (h : Lent) (block e₀ out₀ : List ℕ) (b : Lent) (e out : List ℕ)
         let x = some_served b (drop i block) (j - i) (omega (arith, d.served.prints.next)) in
         omega (arith, d.served.span.to)
 
-    pub part_next : (e' : List ℕ) → length e' ≡ length e → length b'.numbers ≡ length b.numbers → length b'.keys ≡ length b.keys → length out' ≡ length out → BetweenParts h block e₀ out₀ b' e' out' j
-    part_next e' le ln lk lo =
+    -- What waits is what the part prints.
+    part_written : (w' : Option (List ℕ)) → Appends w w' (take (at - 0) out') → Appends w₀ w' (printed_by h (lines_of (take j block)))
+    part_written w' p =
+        let z : at - 0 ≡ at = omega arith in
+        let front : take (at - 0) out' ≡ printed_by b (lines_of (take (j - i) (drop i block))) = rw z (wrote_front out 0 _ 131072 out' at (omega arith) d.served.prints) in
+        let both = rw on at (printed_both h block i b g.through (j - i) b' d.served.through) in
+        subst (Appends w₀ w') (sym both) (Appends-trans w₀ w w' _ _ g.writes (subst (Appends w w') front p))
+
+    pub part_next : (e' : List ℕ) (w' : Option (List ℕ)) (told : Bool) → (told ≡ true → Appends w w' (take (at - 0) out')) → told ≡ true
+        → length e' ≡ length e → length b'.numbers ≡ length b.numbers → length b'.keys ≡ length b.keys → length out' ≡ length out → BetweenParts h block e₀ out₀ w₀ b' e' out' w' j
+    part_next e' w' told p t le ln lk lo =
         record {
           through = part_through;
+          writes = part_written w' (p t);
           long = lo ∙ g.long;
           entries_long = le ∙ g.entries_long;
           entries_same = le ∙ g.entries_same;
@@ -238,8 +252,8 @@ module _ (h : Lent) (block e₀ out₀ : List ℕ) (b : Lent) (e out : List ℕ)
         }
 
     -- Nobody takes the output.
-    pub parts_stopped : ServedAll h block b' j false
-    parts_stopped = record { through = part_through; all = λ x. absurd (clash false x refl) }
+    pub parts_stopped : (w' : Option (List ℕ)) → ServedAll h block w₀ b' w' j false
+    parts_stopped w' = record { through = part_through; all = λ x. absurd (clash false x refl); writes = λ x. absurd (clash false x refl) }
 
-    pub parts_done : at ≤ 65536 → ServedAll h block b' j true
-    parts_done q = record { through = part_through; all = λ y. omega (arith, on, d.all q, end_rest h block i b g.through) }
+    pub parts_done : (w' : Option (List ℕ)) (told : Bool) → (told ≡ true → Appends w w' (take (at - 0) out')) → told ≡ true → at ≤ 65536 → ServedAll h block w₀ b' w' j true
+    parts_done w' told p t q = record { through = part_through; all = λ y. omega (arith, on, d.all q, end_rest h block i b g.through); writes = λ y. part_written w' (p t) }

@@ -73,6 +73,11 @@ abbrev pub printed_blocks : Waiting → List (List ℕ) → List ℕ
 printed_blocks w [] = printed_by w.bucket (lines_of w.begun)
 printed_blocks w (x ∷ xs) = printed_by w.bucket (ended_lines (w.begun ++ x)) ++ printed_blocks (after_block w x) xs
 
+-- What they print before the input's end.
+abbrev pub written_by : Waiting → List (List ℕ) → List ℕ
+written_by w [] = []
+written_by w (x ∷ xs) = printed_by w.bucket (ended_lines (w.begun ++ x)) ++ written_by (after_block w x) xs
+
 abbrev pub joined : List (List ℕ) → List ℕ
 joined [] = []
 joined (x ∷ xs) = x ++ joined xs

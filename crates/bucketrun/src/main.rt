@@ -1,5 +1,7 @@
 // Serves the lines of standard input on a fresh bucket of 1024 rows, and prints each answer, or `no`, tab, number, line feed.
 // All that is owed is written before more is read, so that whoever waits for an answer has it.
+#![tactic(auto)]
+
 ghost use Rattle.std.specs.Prelude.{◌≡◌, ◌+◌, ◌≤◌, ◌<◌, min, length, take, drop, replicate};
 ghost use Rattle.buffers.specs.Ranges.{Within, Span};
 ghost use Rattle.buffers.specs.Writes.{Wrote};
@@ -7,8 +9,8 @@ ghost use Rattle.bucket.specs.Whole.{lent_with};
 ghost use Rattle.outcome.specs.Printed.{printed};
 ghost use Rattle.bucketrun.specs.Course.{Servable, ServedSome, ServedAll, CameBehind, TookBlock, Startable, Ran};
 
-use libc::{STDERR_FILENO, STDIN_FILENO, STDOUT_FILENO};
 use settings::State;
+use std::io::{Read, Write};
 
 // The length of the answer buffer; no more output than that waits when a line comes.
 const ROOM: usize = 65536;
@@ -17,7 +19,7 @@ const ROOM: usize = 65536;
 const LONGEST: usize = 513;
 
 // After lines of a block: the state, how many bytes of output wait, and the place behind the lines.
-#[derive(Drop)]
+#[derive(Clone, Copy)]
 pub struct Course {
     pub state: State,
     pub at: usize,
@@ -25,26 +27,34 @@ pub struct Course {
 }
 
 // After a block: the state, how many of its bytes are served, and whether all output is written.
-#[derive(Drop)]
+#[derive(Clone, Copy)]
 pub struct Block {
     pub state: State,
     pub served: usize,
     pub told: bool,
 }
 
-// After a read: the place behind the bytes that are there, and whether the input has ended.
-#[derive(Drop)]
+// After a read: the place behind the bytes that are there, whether no more come, and whether that is since reading failed.
+#[derive(Clone, Copy)]
 pub struct Came {
     pub end: usize,
     pub over: bool,
+    pub failed: bool,
 }
 
 // Before the next block: the state, how many bytes at the input's front are kept, and whether all output is written.
-#[derive(Drop)]
+#[derive(Clone, Copy)]
 pub struct Rest {
     pub state: State,
     pub kept: usize,
     pub told: bool,
+}
+
+// After the run: whether all output is written, and whether reading failed.
+#[derive(Clone, Copy)]
+pub struct End {
+    pub told: bool,
+    pub failed: bool,
 }
 
 // What a line prints stands where it goes out from: its answer does so already, a refusal is written there. Returns the place after it.
@@ -105,7 +115,8 @@ fn serve_some(
 }
 
 // Serves every line that ends in the block, and writes what they print, until nobody takes it.
-fn serve_all(
+fn serve_all<W: Write>(
+    writer: &mut W,
     block: &[u8],
     s: State,
     entries: &mut [u8],
@@ -114,7 +125,7 @@ fn serve_all(
     out: &mut [u8],
 ) -> Block
     requires { Servable (lent_with s entries.old rows.old keys.old) entries.old out.old }
-    ensures { ServedAll (lent_with s entries.old rows.old keys.old) block.now (lent_with result.state entries.new rows.new keys.new) result.served result.told }
+    ensures { ServedAll (lent_with s entries.old rows.old keys.old) block.now (W.contents writer.old) (lent_with result.state entries.new rows.new keys.new) (W.contents writer.new) result.served result.told }
 {
     let mut after = s;
     let mut i = 0;
@@ -123,7 +134,7 @@ fn serve_all(
         after = r.state;
         i = r.served;
         let at = r.at;
-        if !io::write_all(STDOUT_FILENO, &out[0..at]) {
+        if !streams::write_whole(writer, &out[0..at]) {
             return Block {
                 state: after,
                 served: i,
@@ -140,26 +151,32 @@ fn serve_all(
     }
 }
 
-// Reads behind the bytes that are kept; at the input's end nothing comes, and a line feed ends what is kept, if that is anything.
-fn read_behind(input: &mut [u8], kept: usize) -> Came
+// Reads behind the bytes that are kept; at the input's end, or where reading fails, nothing comes, and a line feed ends what is kept, if that is anything.
+fn read_behind<R: Read>(reader: &mut R, input: &mut [u8], kept: usize) -> Came
     requires { kept < length input.old }
-    ensures { CameBehind input.old kept input.new result.end result.over }
+    ensures { CameBehind input.old kept (R.remaining reader.old) input.new (R.remaining reader.new) result.end result.over result.failed }
 {
-    let got = libc::read(STDIN_FILENO, &mut input[kept..]);
-    let count = io::count(got, &input[kept..]);
+    let brought = streams::read_some(reader, &mut input[kept..]);
+    let count = brought.count;
     if count > 0 {
         return Came {
             end: kept + count,
             over: false,
+            failed: false,
         };
     }
     if kept == 0 {
-        return Came { end: 0, over: true };
+        return Came {
+            end: 0,
+            over: true,
+            failed: brought.failed,
+        };
     }
     input[kept] = b'\n';
     Came {
         end: kept + 1,
         over: true,
+        failed: brought.failed,
     }
 }
 
@@ -186,7 +203,8 @@ fn keep(input: &mut [u8], from: usize, to: usize) -> usize
 }
 
 // Serves the lines of the input up to `end`, and keeps what stands behind its last line feed.
-fn serve_block(
+fn serve_block<W: Write>(
+    writer: &mut W,
     input: &mut [u8],
     end: usize,
     s: State,
@@ -197,9 +215,9 @@ fn serve_block(
 ) -> Rest
     requires end_in_bounds { end ≤ length input.old }
     requires servable { Servable (lent_with s entries.old rows.old keys.old) entries.old out.old }
-    ensures { TookBlock (lent_with s entries.old rows.old keys.old) (take end input.old) (lent_with result.state entries.new rows.new keys.new) input.new result.kept result.told }
+    ensures { TookBlock (lent_with s entries.old rows.old keys.old) (take end input.old) (W.contents writer.old) (lent_with result.state entries.new rows.new keys.new) input.new (W.contents writer.new) result.kept result.told }
 {
-    let block = serve_all(&input[0..end], s, entries, rows, keys, out);
+    let block = serve_all(writer, &input[0..end], s, entries, rows, keys, out);
     let after = block.state;
     let kept = keep(input, block.served, end);
     Rest {
@@ -209,37 +227,43 @@ fn serve_block(
     }
 }
 
-// Serves the input block by block, and returns whether all output is written.
-// Nothing says that the input ends, and a proved loop has to: it counts down from a number that no run uses up.
-fn run(
+// Serves the input block by block, up to its end or to where reading fails, and returns whether all output is written, and whether reading failed.
+// Nothing says that the input ends, and a proved loop has to: it counts up to a number of blocks that no run reaches.
+fn run<R: Read, W: Write>(
+    reader: &mut R,
+    writer: &mut W,
     s: State,
     entries: &mut [u8],
     input: &mut [u8],
     rows: &mut [u64],
     keys: &mut [u8],
     out: &mut [u8],
-) -> bool
+) -> End
     requires { Startable (lent_with s entries.old rows.old keys.old) entries.old input.old out.old }
-    ensures { Ran result (lent_with s entries.old rows.old keys.old) rows.new keys.new }
+    ensures { Ran result.told result.failed (lent_with s entries.old rows.old keys.old) (R.remaining reader.old) (W.contents writer.old) rows.new keys.new (R.remaining reader.new) (W.contents writer.new) }
 {
     let mut after = s;
     let mut kept = 0;
-    let mut turns = u64::MAX;
-    while turns > 0 {
-        let came = read_behind(input, kept);
-        let rest = serve_block(input, came.end, after, entries, rows, keys, out);
+    let stopped = End {
+        told: false,
+        failed: false,
+    };
+    for _ in 0..u64::MAX {
+        let came = read_behind(reader, input, kept);
+        let rest = serve_block(writer, input, came.end, after, entries, rows, keys, out);
         if came.over {
-            return rest.told;
+            return End {
+                told: rest.told,
+                failed: came.failed,
+            };
         }
-        if rest.told {
-            after = rest.state;
-            kept = rest.kept;
-            turns -= 1;
-        } else {
-            return false;
+        if !rest.told {
+            return stopped;
         }
+        after = rest.state;
+        kept = rest.kept;
     }
-    false
+    stopped
 }
 
 // A block of input, and a line that began before it.
@@ -263,23 +287,28 @@ fn no_output() -> [u8; 131072]
     [0; 131072]
 }
 
-fn main() {
+fn main(rt: HostRuntime) {
     let mut entries = settings::no_entries();
     let mut input = no_input();
     let mut rows = table::fresh_rows();
     let mut keys = table::fresh_keys();
     let mut out = no_output();
-    if !run(
+    let mut reader = rt.stdin();
+    let mut writer = rt.stdout();
+    let end = run(
+        &mut reader,
+        &mut writer,
         settings::state_of(settings::fresh()),
         &mut entries,
         &mut input,
         &mut rows,
         &mut keys,
         &mut out,
-    ) {
-        io::write_all(
-            STDERR_FILENO,
-            b"bucketrun: standard output can't be written\n",
-        );
+    );
+    if end.failed {
+        let _ = eprintln!(rt; "bucketrun: standard input can't be read");
+    }
+    if !end.told {
+        let _ = eprintln!(rt; "bucketrun: standard output can't be written");
     }
 }

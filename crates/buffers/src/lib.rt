@@ -1,4 +1,6 @@
 // Buffers that a caller lends: copying into them, moving a tail by one row, little-endian words. The definitions are in specs/.
+#![tactic(auto)]
+
 ghost use Rattle.std.specs.Prelude.{◌≡◌, ◌+◌, ◌≤◌, length, take, drop, replicate};
 ghost use Rattle.buffers.specs.Moves.{moved_up, moved_down};
 ghost use Rattle.buffers.specs.Ranges.{Within};

@@ -1,11 +1,13 @@
 // Days, months and years of the Gregorian calendar since 1970-01-01, and periods. The definitions are in specs/.
+#![tactic(auto)]
+
 ghost use Rattle.std.specs.Prelude.{◌≡◌, ◌+◌, ◌-◌, ◌*◌, ◌%◌, ◌≤◌, ◌<◌, leb};
 ghost use Rattle.buffers.specs.Ranges.{Within, Span};
 ghost use Rattle.calendar.specs.Calendar.{Bounded, latest, day, leap, year_length, year_start, month_start, month_length, valid_day, days_of, year_of, month_of, date_in, civil_of};
 ghost use Rattle.calendar.specs.Periods.{years_later, turning_year, period_end, day_start, expires_at};
 
 // A date of the Gregorian calendar.
-#[derive(Drop)]
+#[derive(Clone, Copy)]
 pub struct Civil {
     pub year: u64,
     pub month: u64,
@@ -13,7 +15,7 @@ pub struct Civil {
 }
 
 // The now of a line: locks and expiry are judged by the one, creation and dates are taken from the other.
-#[derive(Drop)]
+#[derive(Clone, Copy)]
 pub struct Now {
     pub judge: u64,
     pub stamp: u64,

@@ -1,4 +1,6 @@
 // The texts of dates, read and printed; an instant is milliseconds since 1970. The definitions are in specs/.
+#![tactic(auto)]
+
 ghost use Rattle.std.specs.Prelude.{◌≡◌, true, ◌+◌, ◌-◌, ◌*◌, ◌≤◌, ◌<◌, length};
 ghost use Rattle.buffers.specs.Lists.{all};
 ghost use Rattle.buffers.specs.Ranges.{Within};
@@ -13,7 +15,7 @@ use calendar::Civil;
 use text::Value;
 
 // What a date's text says.
-#[derive(Drop)]
+#[derive(Clone, Copy)]
 pub enum DateRead {
     At(u64),
     Unreadable,

@@ -1,4 +1,6 @@
 // The engine: a line is screened, judged, carried out or set, and answered. The definitions are in outcome.
+#![tactic(auto)]
+
 mod configure;
 
 ghost use Rattle.std.specs.Prelude.{◌≡◌, true, List, [], ℕ, ◌≤◌, length, replicate};
@@ -25,7 +27,7 @@ use settings::{Settings, State};
 use text::Place;
 
 // What a call returns: 0 or the refusal, the answer's length, and the state afterwards.
-#[derive(Drop)]
+#[derive(Clone, Copy)]
 pub struct Done {
     pub number: u64,
     pub len: usize,
@@ -33,14 +35,14 @@ pub struct Done {
 }
 
 // The same, and beside it the comparisons of a prefix with a key: SWEEP alone makes any.
-#[derive(Drop)]
+#[derive(Clone, Copy)]
 pub struct Counted {
     pub done: Done,
     pub comparisons: u64,
 }
 
 // What is returned of the whole settings by value.
-#[derive(Drop)]
+#[derive(Clone, Copy)]
 pub struct Served {
     pub number: u64,
     pub len: usize,

@@ -1,4 +1,6 @@
 // The values of a request line's single fields. The definitions are in specs/.
+#![tactic(auto)]
+
 ghost use Rattle.std.specs.Prelude.{◌≡◌, true, ◌-◌, ◌^◌, ◌<◌};
 ghost use Rattle.buffers.specs.Choices.{is_some, or_zero, then_some};
 ghost use Rattle.buffers.specs.Ranges.{Within};
@@ -13,7 +15,7 @@ use dates::DateRead;
 use text::{Place, Value};
 
 // A mode, `-` for missing.
-#[derive(Drop)]
+#[derive(Clone, Copy)]
 pub enum Mode {
     Missing,
     Governance,
@@ -21,14 +23,14 @@ pub enum Mode {
 }
 
 // A retain-until date, `-` for missing.
-#[derive(Drop)]
+#[derive(Clone, Copy)]
 pub enum Until {
     Missing,
     Given(u64),
 }
 
 // A legal hold, `-` for missing.
-#[derive(Drop)]
+#[derive(Clone, Copy)]
 pub enum Hold {
     Missing,
     Off,
@@ -36,14 +38,14 @@ pub enum Hold {
 }
 
 // A version number, `-` for the current version.
-#[derive(Drop)]
+#[derive(Clone, Copy)]
 pub enum Version {
     Current,
     Numbered(u64),
 }
 
 // A default retention's period, `-` for missing.
-#[derive(Drop)]
+#[derive(Clone, Copy)]
 pub enum Period {
     Missing,
     Days(u64),
@@ -51,21 +53,21 @@ pub enum Period {
 }
 
 // The fields mode and date.
-#[derive(Drop)]
+#[derive(Clone, Copy)]
 pub struct Retention {
     pub mode: Mode,
     pub until: Until,
 }
 
 // The lock fields of a PUT or COPY.
-#[derive(Drop)]
+#[derive(Clone, Copy)]
 pub struct Terms {
     pub retention: Retention,
     pub hold: Hold,
 }
 
 // The letters r w d t h b c.
-#[derive(Drop)]
+#[derive(Clone, Copy)]
 pub struct Rights {
     pub r: bool,
     pub w: bool,
@@ -77,49 +79,49 @@ pub struct Rights {
 }
 
 // What a field says: the value, or that it can't be read.
-#[derive(Drop)]
+#[derive(Clone, Copy)]
 pub enum KeyRead {
     Is(Place),
     Bad,
 }
 
-#[derive(Drop)]
+#[derive(Clone, Copy)]
 pub enum VersionRead {
     Is(Version),
     Bad,
 }
 
-#[derive(Drop)]
+#[derive(Clone, Copy)]
 pub enum ModeRead {
     Is(Mode),
     Bad,
 }
 
-#[derive(Drop)]
+#[derive(Clone, Copy)]
 pub enum UntilRead {
     Is(Until),
     Bad,
 }
 
-#[derive(Drop)]
+#[derive(Clone, Copy)]
 pub enum FlagRead {
     Is(bool),
     Bad,
 }
 
-#[derive(Drop)]
+#[derive(Clone, Copy)]
 pub enum HoldRead {
     Is(Hold),
     Bad,
 }
 
-#[derive(Drop)]
+#[derive(Clone, Copy)]
 pub enum PeriodRead {
     Is(Period),
     Bad,
 }
 
-#[derive(Drop)]
+#[derive(Clone, Copy)]
 pub enum RightsRead {
     Is(Rights),
     Bad,

@@ -1,4 +1,6 @@
 // The three demands, stated in specs/ and proved in proofs/, and beside them a function: a whole list of lines, served.
+#![tactic(auto)]
+
 ghost use Rattle.std.specs.Prelude.{◌≡◌};
 ghost use Rattle.text.specs.Lines.{lines_of};
 ghost use Rattle.bucket.specs.Whole.{lent};

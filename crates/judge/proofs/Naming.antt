@@ -9,7 +9,6 @@ use native.Mathlib.Omega.{arith}
 use lib.Dec.{eqb, leb, ltb}
 use borrow.Author.Tests.{eq-eqb, ne_eqb, eqb-true}
 use Rattle.buffers.specs.Choices.{or_zero}
-use Rattle.buffers.specs.Lists.{change}
 use Rattle.buffers.proofs.Tests.{either, and_l, and_r}
 use Rattle.calendar.specs.Calendar.{latest}
 use Rattle.model.specs.Rows.{bodies, largest_size}

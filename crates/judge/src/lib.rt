@@ -1,4 +1,6 @@
 // A request judged on the table, with shared borrows only: refusals 7 to 12, or the plan of what the line does. The definitions are in specs/.
+#![tactic(auto)]
+
 mod lookup;
 
 ghost use Rattle.std.specs.Prelude.{◌≡◌, Bool, true, List, ℕ, ◌≤◌};
@@ -32,7 +34,7 @@ use table::Numbers;
 use text::Place;
 
 // How an accepted line changes the table.
-#[derive(Drop)]
+#[derive(Clone, Copy)]
 pub enum Change {
     Keep,
     // position, numbers, the key's place in the line
@@ -43,27 +45,27 @@ pub enum Change {
     Sweep(usize, usize),
 }
 
-#[derive(Drop)]
+#[derive(Clone, Copy)]
 pub struct Plan {
     pub change: Change,
     pub answer: Answer,
 }
 
-#[derive(Drop)]
+#[derive(Clone, Copy)]
 pub enum Verdict {
     Refused(u64),
     Accepted(Plan),
 }
 
 // A sweep's verdict, and the comparisons of a prefix with a key that it took.
-#[derive(Drop)]
+#[derive(Clone, Copy)]
 pub struct SweepVerdict {
     pub verdict: Verdict,
     pub comparisons: u64,
 }
 
 // The row that a line names: its position and its numbers, or the refusal.
-#[derive(Drop)]
+#[derive(Clone, Copy)]
 enum Named {
     Refused(u64),
     Row(usize, Numbers),

@@ -1,4 +1,6 @@
 // The entries of the hub: the settings lent by reference or as bytes, the rows as numbers or as bytes. The definitions are in specs/.
+#![tactic(auto)]
+
 ghost use Rattle.std.specs.Prelude.{◌≡◌, ◌*◌, length, replicate};
 ghost use Rattle.settings.specs.Bytes.{settings_length, settings_bytes};
 ghost use Rattle.settings.specs.Meaning.{fresh_settings};
@@ -13,8 +15,7 @@ use engine::Counted;
 use settings::Settings;
 
 // Serves a line on settings that are lent and altered here, and returns 0 or the refusal.
-#[unsafe(no_mangle)]
-pub extern "C" fn knitpasture_serve_lent(
+pub fn knitpasture_serve_lent(
     settings: &mut Settings,
     rows: &mut [u64],
     keys: &mut [u8],
@@ -29,7 +30,7 @@ pub extern "C" fn knitpasture_serve_lent(
 }
 
 // What serving returns: 0 or the refusal, and the comparisons of a prefix with a key that an accepted line made.
-#[derive(Drop)]
+#[derive(Clone, Copy)]
 struct Called {
     number: u64,
     comparisons: u64,
@@ -80,9 +81,8 @@ fn serve_words(
     called
 }
 
-// The same for C.
-#[unsafe(no_mangle)]
-pub extern "C" fn knitpasture_serve_words(
+// The same without the comparisons.
+pub fn knitpasture_serve_words(
     settings: &mut [u8],
     rows: &mut [u64],
     keys: &mut [u8],
@@ -191,8 +191,7 @@ fn serve_bytes(
 }
 
 // Serves a line on settings and rows as bytes, and returns 0 or the refusal.
-#[unsafe(no_mangle)]
-pub extern "C" fn knitpasture_serve(
+pub fn knitpasture_serve(
     settings: &mut [u8],
     rows: &mut [u8],
     keys: &mut [u8],
@@ -206,8 +205,7 @@ pub extern "C" fn knitpasture_serve(
 }
 
 // The same, and an accepted line leaves the comparisons of a prefix with a key that it made.
-#[unsafe(no_mangle)]
-pub extern "C" fn knitpasture_serve_counted(
+pub fn knitpasture_serve_counted(
     settings: &mut [u8],
     rows: &mut [u8],
     keys: &mut [u8],
@@ -238,8 +236,7 @@ fn key_length(settings: &[u8], rows: &[u8], keys: &[u8], at: usize, numbers: &mu
 }
 
 // The length of a used row's key, which stands in the key bytes from the row's second on; 0 for the empty part.
-#[unsafe(no_mangle)]
-pub extern "C" fn knitpasture_key(settings: &[u8], rows: &[u8], keys: &[u8], at: usize) -> usize
+pub fn knitpasture_key(settings: &[u8], rows: &[u8], keys: &[u8], at: usize) -> usize
     ensures { result ≡ length (hub_key (as_bytes settings.now rows.now keys.now) at) }
 {
     if settings.len() != model::SETTINGS_BYTES {
@@ -295,12 +292,7 @@ fn put_fresh(settings: &mut [u8])
 }
 
 // Makes the buffers those of a fresh bucket, the rows as numbers; returns 0, or 1 where the lengths don't fit one capacity.
-#[unsafe(no_mangle)]
-pub extern "C" fn knitpasture_fresh_words(
-    settings: &mut [u8],
-    rows: &mut [u64],
-    keys: &mut [u8],
-) -> u64
+pub fn knitpasture_fresh_words(settings: &mut [u8], rows: &mut [u64], keys: &mut [u8]) -> u64
     ensures { fresh_outcome result (as_bytes settings.new rows.new keys.new) ≡ words_fresh (as_bytes settings.old rows.old keys.old) }
 {
     if settings.len() != model::SETTINGS_BYTES {
@@ -319,8 +311,7 @@ pub extern "C" fn knitpasture_fresh_words(
 }
 
 // The same with the rows as bytes.
-#[unsafe(no_mangle)]
-pub extern "C" fn knitpasture_fresh(settings: &mut [u8], rows: &mut [u8], keys: &mut [u8]) -> u64
+pub fn knitpasture_fresh(settings: &mut [u8], rows: &mut [u8], keys: &mut [u8]) -> u64
     ensures { fresh_outcome result (as_bytes settings.new rows.new keys.new) ≡ hub_fresh (as_bytes settings.old rows.old keys.old) }
 {
     if settings.len() != model::SETTINGS_BYTES {

@@ -4,7 +4,7 @@ use mathlib.Core.Bool.{false≢true}
 use mathlib.Core.Option.{Option, some, none}
 use borrow.Author.Tests.{eqb-false}
 use Rattle.buffers.specs.Choices.{pick}
-use Rattle.buffers.specs.Lists.{all, same, begins}
+use Rattle.buffers.specs.Lists.{all, same}
 use Rattle.buffers.proofs.Lists.{same_path, keep_narrower, all_keep}
 use Rattle.buffers.proofs.Tests.{either, and_l}
 use Rattle.calendar.specs.Periods.{day_start}
@@ -13,7 +13,7 @@ use Rattle.model.specs.Rows.{Row, before, ahead, ordered}
 use Rattle.model.specs.Settings as model
 use Rattle.model.specs.Settings.{is_set}
 use Rattle.model.specs.Sweep.{applying, fate, fates}
-use Rattle.model.specs.Comparisons.{set_rules, different, comparisons}
+use Rattle.model.specs.Comparisons.{set_rules, comparisons}
 use Rattle.model.proofs.Order.{before_irrefl, ordered_at}
 use Rattle.model.proofs.Comparisons.{beginnings, ordered_back, different_ordered}
 use Rattle.table.specs.Layout.{row_at, rows_of}

@@ -1,4 +1,6 @@
 // SWEEP's judgement: the fate of every row of a table, on the table as it stands. The definitions are in specs/.
+#![tactic(auto)]
+
 mod rules;
 
 ghost use Rattle.std.specs.Prelude.{◌≡◌, ℕ, ◌+◌, ◌-◌, ◌*◌, ◌%◌, ◌<◌, ◌≤◌, true, false, List, length};
@@ -21,35 +23,35 @@ ghost use Rattle.lifecycle.specs.Fates.{fate_byte, fate_of};
 ghost use Rattle.lifecycle.specs.Judging.{current_by, same_key, older_byte, version_byte, KeysInOrder, Between, KeyEnding, KeyEnds, Readable, Judgeable, Dated, Older, Stored, JudgedKey, JudgedAll, Counted, Passed, JudgedRows};
 
 // The least days that the rules set for a key's rows, 0 for none.
-#[derive(Drop)]
+#[derive(Clone, Copy)]
 struct Limits {
     current: u64,
     noncurrent: u64,
 }
 
 // What the rules set for a key, and the comparisons of a prefix with a key so far.
-#[derive(Drop)]
+#[derive(Clone, Copy)]
 struct Matched {
     limits: Limits,
     comparisons: u64,
 }
 
 // Where a key's rows end, and the comparisons so far.
-#[derive(Drop)]
+#[derive(Clone, Copy)]
 struct KeyDone {
     end: usize,
     comparisons: u64,
 }
 
 // The rows that go and the markers that come.
-#[derive(Drop)]
+#[derive(Clone, Copy)]
 pub struct Counts {
     pub removed: usize,
     pub added: usize,
 }
 
 // What a sweep comes to, and the comparisons of a prefix with a key that it took.
-#[derive(Drop)]
+#[derive(Clone, Copy)]
 pub struct Judged {
     pub counts: Counts,
     pub comparisons: u64,

@@ -14,7 +14,7 @@ ghost use Rattle.lifecycle.specs.Flat.{rule_in, rules_in, Bounded, Places, Rules
 use crate::{Limits, Matched};
 
 // The ranks of the first and the last key that a prefix may begin.
-#[derive(Drop)]
+#[derive(Clone, Copy)]
 struct Bounds {
     low: u64,
     high: u64,

@@ -1,6 +1,6 @@
 -- Laws of REPORT's totals: a row more, and all rows of a run.
 use Prim.Native.Nat.{ℕ, ◌+◌, ◌-◌, ◌*◌, ◌≤◌, ◌<◌}
-use mathlib.Core.Path.{◌≡◌, sym, ◌∙◌, ap}
+use mathlib.Core.Path.{◌≡◌, sym, ◌∙◌, ap, ap₂, subst}
 use mathlib.Core.Logic.{inl, inr}
 use mathlib.Core.Bool.{Bool, true, false}
 use mathlib.Core.List.{List, [], ◌∷◌, ◌++◌}
@@ -134,7 +134,7 @@ module _ (rows : List ℕ) (start end instant : ℕ) where
               bounded = rw one_more (bounded_more (i - start) t r instant (row_from n []) w.bounded row_sized (f []));
               is = λ keys used l.
                   let row : row_from n (key_at keys i) ≡ row_at rows keys i = rw e in
-                  f (key_at keys i) ∙ rw (w.is keys used l, row) (sym (totals_more instant (run rows keys used start i) (row_at rows keys i)))
+                  f (key_at keys i) ∙ ap₂ (with_row instant) row (w.is keys used l) ∙ sym (totals_more instant (run rows keys used start i) (row_at rows keys i))
                   ∙ ap (totals instant) (sym (run_next rows keys used start i w.span.from (omega arith)));
             }
 
@@ -156,6 +156,7 @@ pub report_wrote : (rows keys p : List ℕ) (u start end : ℕ) (instant : ℕ) 
 report_wrote rows keys p u start end instant t out exit r l s e f w =
     let xs = rows_of rows keys u in
     let all_rows : run rows keys u start end ≡ keep (matches p) xs = prefix_run p xs u start end (rows_length rows keys u) l.searchable.in_order s.is e.is in
-    rw (f keys u e.to ∙ ap (totals instant) all_rows) at w
+    let P : model.Totals → Type 0 = λ z. Wrote out 0 (answer_text (reported z)) longest_answer exit r in
+    subst P (f keys u e.to ∙ ap (totals instant) all_rows) w
 
 pub ruleset report_cases = (run_countable, report_wrote)

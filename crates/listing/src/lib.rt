@@ -1,4 +1,6 @@
 // LIST and REPORT: a page of a prefix's rows, or their totals, written straight from the lent table into the answer buffer. The definitions are in specs/.
+#![tactic(auto)]
+
 mod report;
 
 ghost use Rattle.std.specs.Prelude.{◌+◌, ◌-◌, ◌*◌, ◌≤◌, min, length, take, drop};

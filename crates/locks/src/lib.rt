@@ -1,4 +1,6 @@
 // What is locked, what RETAIN's rule admits, and which lock a new row gets. The definitions are the model's; specs/ says how the code answers the last.
+#![tactic(auto)]
+
 ghost use Rattle.std.specs.Prelude.{◌≡◌, List, ℕ, ◌≤◌};
 ghost use Rattle.std.proofs.Math.Option.{Option, none};
 ghost use Rattle.calendar.specs.Calendar.{latest};
@@ -16,7 +18,7 @@ use settings::State;
 use table::Numbers;
 
 // The mode and the date of a new row.
-#[derive(Drop)]
+#[derive(Clone, Copy)]
 pub enum NewLock {
     TooLate,
     Lock(u64, u64),

@@ -1,4 +1,5 @@
 // The locked bucket as definitions and theorems, in specs/ and proofs/; the code's names for its numbers.
+#![tactic(auto)]
 
 // The refusals.
 pub const UNSOUND: u64 = 1;

@@ -1,4 +1,6 @@
 // A request line, read whole: its clock, its rights, its verb with the verb's fields. The definitions are in specs/.
+#![tactic(auto)]
+
 mod verbs;
 
 ghost use Rattle.std.specs.Prelude.{◌≡◌, ◌≤◌, length};
@@ -11,14 +13,14 @@ use fields::{Mode, Period, Retention, Rights, RightsRead, Terms, Version};
 use text::Place;
 
 // A key, by its place in the line, and a version of it.
-#[derive(Drop)]
+#[derive(Clone, Copy)]
 pub struct Name {
     pub key: Place,
     pub version: Version,
 }
 
 // The verbs that alter the rows of a key.
-#[derive(Drop)]
+#[derive(Clone, Copy)]
 pub enum Action {
     // key, body, length
     Put(Place, u64, u64, Terms),
@@ -35,7 +37,7 @@ pub enum Action {
 }
 
 // The verbs that set what the settings hold.
-#[derive(Drop)]
+#[derive(Clone, Copy)]
 pub enum Setting {
     Default(Mode, Period),
     // number, prefix, current days, noncurrent days
@@ -43,7 +45,7 @@ pub enum Setting {
 }
 
 // A page of versions: the places of its prefix and of the key that it starts after, the version, and how many rows at most.
-#[derive(Drop)]
+#[derive(Clone, Copy)]
 pub struct Page {
     pub prefix: Place,
     pub key: Place,
@@ -52,7 +54,7 @@ pub struct Page {
 }
 
 // The verbs that only ask.
-#[derive(Drop)]
+#[derive(Clone, Copy)]
 pub enum Query {
     Get(Name),
     ListVersions(Page),
@@ -60,7 +62,7 @@ pub enum Query {
     Report(Place),
 }
 
-#[derive(Drop)]
+#[derive(Clone, Copy)]
 pub enum Verb {
     Act(Action),
     Set(Setting),
@@ -68,7 +70,7 @@ pub enum Verb {
     Ask(Query),
 }
 
-#[derive(Drop)]
+#[derive(Clone, Copy)]
 pub struct Request {
     pub clock: u64,
     pub rights: Rights,
@@ -76,32 +78,32 @@ pub struct Request {
 }
 
 // What a line says.
-#[derive(Drop)]
+#[derive(Clone, Copy)]
 pub enum LineRead {
     Reads(Request),
     Unreadable,
 }
 
 // What some fields together say: the value, or that they can't be read.
-#[derive(Drop)]
+#[derive(Clone, Copy)]
 pub enum NameRead {
     Is(Name),
     Bad,
 }
 
-#[derive(Drop)]
+#[derive(Clone, Copy)]
 pub enum RetentionRead {
     Is(Retention),
     Bad,
 }
 
-#[derive(Drop)]
+#[derive(Clone, Copy)]
 pub enum TermsRead {
     Is(Terms),
     Bad,
 }
 
-#[derive(Drop)]
+#[derive(Clone, Copy)]
 pub enum VerbRead {
     Is(Verb),
     Bad,

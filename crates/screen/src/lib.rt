@@ -1,4 +1,6 @@
 // The refusals that are decided without the table: 2 to 6, and 13 after 5. The definitions are in the model and in specs/.
+#![tactic(auto)]
+
 ghost use Rattle.std.specs.Prelude.{◌≡◌, List, ℕ, ◌≤◌, max, true, not};
 ghost use Rattle.buffers.specs.Choices.{pick};
 ghost use Rattle.model.specs.Settings.{Config};
@@ -15,7 +17,7 @@ use request::{Action, LineRead, Query, Request, Setting, Verb};
 use settings::State;
 
 // What a line comes to before the table is looked at: its refusal, or its verb and its now.
-#[derive(Drop)]
+#[derive(Clone, Copy)]
 pub enum Screened {
     Refused(u64),
     Passed(Verb, Now),

@@ -1,4 +1,6 @@
 // Search by halving in an ordered table. The definitions are in specs/.
+#![tactic(auto)]
+
 ghost use Rattle.std.specs.Prelude.{◌≡◌, true, ◌+◌, ◌*◌, ◌≤◌, length, get_or, drop};
 ghost use Rattle.buffers.specs.Ranges.{Within};
 ghost use Rattle.table.specs.Layout.{rows_of};
@@ -8,7 +10,7 @@ ghost use Rattle.search.specs.Places.{key_place, current_in, version_in};
 ghost use Rattle.search.specs.Searching.{Searchable};
 
 // How one key stands to another.
-#[derive(Drop)]
+#[derive(Clone, Copy)]
 pub enum Order {
     Before,
     Same,
@@ -16,7 +18,7 @@ pub enum Order {
 }
 
 // A position where a row is found, or the place where it belongs.
-#[derive(Drop)]
+#[derive(Clone, Copy)]
 pub enum Found {
     At(usize),
     Place(usize),

@@ -1,4 +1,6 @@
 // The bucket's settings: what is small by value, the entries as bytes that are lent; and both together by value. The definitions are in specs/.
+#![tactic(auto)]
+
 ghost use Rattle.std.specs.Prelude.{◌≡◌, ◌+◌, ◌*◌, ◌≤◌, ◌<◌, ◌&&◌, ◌++◌, length, take, drop, set, replicate};
 ghost use Rattle.model.specs.Settings.{sound_default, sound_rules};
 ghost use Rattle.model.specs.Effects.{stored};
@@ -9,7 +11,7 @@ ghost use Rattle.settings.specs.State.{state_of};
 
 // A lifecycle rule; its prefix is 64 bytes like a key, with length 0 allowed.
 #[repr(C)]
-#[derive(Drop)]
+#[derive(Clone, Copy)]
 pub struct Rule {
     pub prefix: [u8; 64],
     pub current: u64,
@@ -17,7 +19,7 @@ pub struct Rule {
 }
 
 #[repr(C)]
-#[derive(Drop)]
+#[derive(Clone, Copy)]
 pub struct Settings {
     pub time: u64,
     pub used: u64,
@@ -29,7 +31,7 @@ pub struct Settings {
 }
 
 // What is small of the settings. The entries, which are the rules, are lent beside it as bytes and never copied.
-#[derive(Drop)]
+#[derive(Clone, Copy)]
 pub struct State {
     pub time: u64,
     pub used: usize,

@@ -1,4 +1,6 @@
 // The table of versions in two buffers that a caller lends: eight numbers and 64 key bytes a row. The definitions are in specs/.
+#![tactic(auto)]
+
 ghost use Rattle.std.specs.Prelude.{◌≡◌, [], ◌+◌, ◌*◌, ◌≤◌, ◌<◌, length, get_or, set, replicate};
 ghost use Rattle.buffers.specs.Writes.{placed};
 ghost use Rattle.blocks.specs.Blocks.{block_of};
@@ -8,7 +10,7 @@ ghost use Rattle.table.specs.Places.{row_from, row_numbers, key_at, Insertable, 
 ghost use Rattle.table.specs.Moves.{opened, closed};
 
 // The numbers of a row.
-#[derive(Drop)]
+#[derive(Clone, Copy)]
 pub struct Numbers {
     pub number: u64,
     pub kind: u64,

@@ -1,4 +1,6 @@
 // Parts of a text: lines, fields between tabs, whole numbers, words, keys and prefixes, and printed numbers. The definitions are in specs/.
+#![tactic(auto)]
+
 ghost use Rattle.std.specs.Prelude.{◌≡◌, ◌+◌, ◌-◌, ◌≤◌, ◌<◌, eqb, length, take, drop};
 ghost use Rattle.buffers.specs.Choices.{pick};
 ghost use Rattle.buffers.specs.Lists.{same, begins};
@@ -12,14 +14,14 @@ ghost use Rattle.text.specs.Keys.{is_key_byte, key_bytes, is_prefix, is_key, con
 ghost use Rattle.text.specs.Printing.{pair_of, four_of, eight_of, digits};
 
 // A number that was read, or one that can't be read.
-#[derive(Drop)]
+#[derive(Clone, Copy)]
 pub enum Value {
     Is(u64),
     Bad,
 }
 
 // A part of a line: the bytes from `start` on, `len` of them.
-#[derive(Drop)]
+#[derive(Clone, Copy)]
 pub struct Place {
     pub start: usize,
     pub len: usize,

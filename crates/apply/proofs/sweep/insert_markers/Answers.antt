@@ -1,0 +1,28 @@
+-- `insert_markers` meets its contract: each way through it is one of the cited laws.
+use Rattle.apply.proofs.Marking.{mark_cases}
+use borrow.Author.Rules.{rules}
+use Rattle.apply.proofs.sweep.insert_markers.Goals as goal
+
+pub loop-k-init : goal.loop-k-init
+loop-k-init c = search (rules, mark_cases)
+
+pub overflow_sub-i : goal.overflow_sub-i
+overflow_sub-i c = search (rules, mark_cases)
+
+pub copy_row_with_marker-requires : goal.copy_row_with_marker-requires
+copy_row_with_marker-requires c = search (rules, mark_cases)
+
+pub loop-k-preserved-then-fate-eq-GAINS : goal.loop-k-preserved-then-fate-eq-GAINS
+loop-k-preserved-then-fate-eq-GAINS c = search (rules, mark_cases)
+
+pub copy_row-requires : goal.copy_row-requires
+copy_row-requires c = search (rules, mark_cases)
+
+pub loop-k-preserved-else-fate-eq-GAINS : goal.loop-k-preserved-else-fate-eq-GAINS
+loop-k-preserved-else-fate-eq-GAINS c = search (rules, mark_cases)
+
+pub loop-k-preserved : goal.loop-k-preserved
+loop-k-preserved c = search (rules, mark_cases)
+
+pub returns : goal.returns
+returns c = search (rules, mark_cases)

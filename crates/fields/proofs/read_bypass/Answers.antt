@@ -1,0 +1,17 @@
+-- `read_bypass` meets its contract.
+use Rattle.buffers.proofs.Choices.{picks}
+use Rattle.fields.specs.Fields.{read_bypass}
+use borrow.Author.Rules.{rules}
+use Rattle.fields.proofs.read_bypass.Goals as goal
+
+pub returns-then-is_word : goal.returns-then-is_word
+unfolding read_bypass
+returns-then-is_word c = search (rules, picks)
+
+pub returns-then-is_word-2 : goal.returns-then-is_word-2
+unfolding read_bypass
+returns-then-is_word-2 c = search (rules, picks)
+
+pub returns : goal.returns
+unfolding read_bypass
+returns c = search (rules, picks)

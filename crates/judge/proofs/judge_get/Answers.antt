@@ -1,0 +1,10 @@
+-- `judge_get` meets its contract.
+use Rattle.judge.proofs.Naming.{data_ways}
+use borrow.Author.Rules.{rules}
+use Rattle.judge.proofs.judge_get.Goals as goal
+
+pub returns-in-Refused : goal.returns-in-Refused
+returns-in-Refused c = λ who us fs. search (rules, data_ways)
+
+pub returns-in-Row : goal.returns-in-Row
+returns-in-Row c = λ who us fs. search (rules, data_ways)

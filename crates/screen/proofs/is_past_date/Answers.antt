@@ -1,0 +1,16 @@
+-- `is_past_date` meets its contract.
+use Rattle.screen.proofs.Cases.{dates}
+use borrow.Author.Rules.{rules}
+use Rattle.screen.proofs.is_past_date.Goals as goal
+
+pub returns-in-Act : goal.returns-in-Act
+returns-in-Act c = search (rules, dates)
+
+pub returns-in-Set : goal.returns-in-Set
+returns-in-Set c = search (rules, dates)
+
+pub returns-in-Sweep : goal.returns-in-Sweep
+returns-in-Sweep c = search (rules, dates)
+
+pub returns-in-Ask : goal.returns-in-Ask
+returns-in-Ask c = search (rules, dates)

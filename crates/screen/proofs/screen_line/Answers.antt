@@ -1,0 +1,16 @@
+-- `screen_line` meets its contract: each way through it is one of the cited laws.
+use Rattle.screen.proofs.Lines.{lines}
+use borrow.Author.Rules.{rules}
+use Rattle.screen.proofs.screen_line.Goals as goal
+
+pub returns-then-room-lt-LEAST_ROOM : goal.returns-then-room-lt-LEAST_ROOM
+returns-then-room-lt-LEAST_ROOM c = search (rules, lines)
+
+pub returns-in_default : goal.returns-in_default
+returns-in_default c = search (rules, lines)
+
+pub returns-then-n-ne0 : goal.returns-then-n-ne0
+returns-then-n-ne0 c = search (rules, lines)
+
+pub returns : goal.returns
+returns c = search (rules, lines)

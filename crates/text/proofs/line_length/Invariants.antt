@@ -1,0 +1,11 @@
+-- `line_length` meets its contract.
+use Prim.Native.Nat.{◌-◌}
+use Rattle.text.specs.Lines.{Clear}
+use lib.ListN.{length}
+use Rattle.text.proofs.line_length.Given as goal
+
+abbrev pub invariant-loop-i : goal.invariant-loop-i
+invariant-loop-i l = Clear l.rest l.i
+
+abbrev pub decreases-loop-i : goal.decreases-loop-i
+decreases-loop-i l = length l.rest - l.i
