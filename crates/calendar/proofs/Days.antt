@@ -128,8 +128,8 @@ days_civil c d =
     let within : YearIs (days_of c) y = record { from = d.from; low = omega arith; high = omega (arith, year_next y d.from, ends, d.fits) } in
     let there : year_of (days_of c) ≡ y = year_once (days_of c) _ y (year_is (days_of c) (omega (arith, within.high, furthest_end y d.from d.to))) within in
     let since : days_of c - year_start y ≡ k = omega arith in
-    let in-day : k - month_start l c.month + 1 ≡ c.day = omega arith in
-    rw (there, since, month_again l c.month c.day d.first d.last d.one d.fits, in-day)
+    let in_day : k - month_start l c.month + 1 ≡ c.day = omega arith in
+    rw (there, since, month_again l c.month c.day d.first d.last d.one d.fits, in_day)
 
 -- ## `date_in`
 

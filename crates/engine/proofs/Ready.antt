@@ -12,7 +12,7 @@ use Rattle.calendar.specs.declared.Now.{Now}
 use Rattle.calendar.specs.Calendar.{latest}
 use Rattle.model.specs.Settings.{sound_rules}
 use Rattle.model.specs.Requests.{in_range}
-use Rattle.model.proofs.Sound.{whole as sound-whole, config_default, config_rules}
+use Rattle.model.proofs.Sound.{whole as sound_whole, config_default, config_rules}
 use Rattle.settings.specs.Meaning.{settings_mean}
 use Rattle.settings.specs.State.{state_of}
 use Rattle.table.specs.Layout.{capacity}
@@ -29,7 +29,7 @@ use Rattle.engine.specs.Served.{Passing}
 ready : (b : Lent) → whole b ≡ true → Ready (state_of b.settings) b.numbers b.keys
 ready b e =
     let p = whole_parts b e in
-    let w = sound-whole (capacity b.keys) (bucket_of b) p.is_sound in
+    let w = sound_whole (capacity b.keys) (bucket_of b) p.is_sound in
     record {
       holds = p.holds;
       in_order = w.in_order;
@@ -43,7 +43,7 @@ ready b e =
 
 -- The rules of a whole bucket are sound.
 pub whole_rules : (b : Lent) → whole b ≡ true → sound_rules (settings_mean b.settings).config.rules ≡ true
-whole_rules b e = config_rules (settings_mean b.settings).config (sound-whole (capacity b.keys) (bucket_of b) (whole_parts b e).is_sound).config_sound
+whole_rules b e = config_rules (settings_mean b.settings).config (sound_whole (capacity b.keys) (bucket_of b) (whole_parts b e).is_sound).config_sound
 
 -- A line that passes the screen is judged on such a bucket.
 module _ (b : Lent) (line a : List ℕ) (v : Verb) (when : Now) (p : Passing b line a v when) where
@@ -63,6 +63,6 @@ module _ (b : Lent) (line a : List ℕ) (v : Verb) (when : Now) (p : Passing b l
   pub line_asked : Asked (state_of b.settings) b.numbers b.keys when.judge (verb_means line v)
   line_asked =
       let q = line_says in
-      let t = leb-true b.settings.time latest (sound-whole (capacity b.keys) (bucket_of b) (whole_parts b p.is_whole).is_sound).time_fits in
+      let t = leb-true b.settings.time latest (sound_whole (capacity b.keys) (bucket_of b) (whole_parts b p.is_whole).is_sound).time_fits in
       let c = leb-true q.clock latest (and_l _ _ line_ranges) in
       record { ready = ready b p.is_whole; instant = omega (arith, line_judge); since = omega (arith, line_judge); in_range_lem = and_r (leb q.clock latest) _ line_ranges }

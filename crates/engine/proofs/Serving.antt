@@ -44,7 +44,7 @@ use Rattle.request.proofs.Ranges.{read_in_range}
 use Rattle.request.proofs.Actions.{action_unset}
 use Rattle.screen.specs.declared.Screened.{Screened}
 use Rattle.screen.specs.declared.Screened.TheVariants as screened
-use Rattle.screen.specs.Screen.{screened as fieldRefusal, screened_line, Screens, line_refusal}
+use Rattle.screen.specs.Screen.{screened as field_refusal, screened_line, Screens, line_refusal}
 use Rattle.screen.proofs.Lines.{Comes, short, unread, barred, passed, comes, passes_page}
 use Rattle.answers.specs.declared.Answer.{Answer}
 use Rattle.answers.specs.declared.Answer.TheVariants as answer
@@ -89,8 +89,8 @@ module _ (b : Lent) (line a : List ℕ) (w : whole b ≡ true) where
   said_is q l e = outcome_said b (call line a) (asked (length a) q) w l (hears line a q e) (read_in_range line q e)
 
   -- A line that its own fields refuse.
-  said_stops : (k : ℕ) (q : Said) → least_room ≤ length a → read_line line ≡ some q → k ≡ fieldRefusal (settings_mean b.settings).config q.who (length a) (max b.settings.time q.clock) q.verb → (k ≡ 0 → ⊥) → refused k b a ≡ outcome b (call line a)
-  unfolding fieldRefusal
+  said_stops : (k : ℕ) (q : Said) → least_room ≤ length a → read_line line ≡ some q → k ≡ field_refusal (settings_mean b.settings).config q.who (length a) (max b.settings.time q.clock) q.verb → (k ≡ 0 → ⊥) → refused k b a ≡ outcome b (call line a)
+  unfolding field_refusal
   said_stops k q l e h z =
       let c = bucket_of b in
       let now = max b.settings.time q.clock in
@@ -100,9 +100,9 @@ module _ (b : Lent) (line a : List ℕ) (w : whole b ≡ true) where
       ∙ said_is q l e
 
   -- A line that they don't refuse is done as the table decides of what it means.
-  said_passes : (q : Said) (now : ℕ) → least_room ≤ length a → read_line line ≡ some q → now ≡ max b.settings.time q.clock → 0 ≡ fieldRefusal (settings_mean b.settings).config q.who (length a) now q.verb
+  said_passes : (q : Said) (now : ℕ) → least_room ≤ length a → read_line line ≡ some q → now ≡ max b.settings.time q.clock → 0 ≡ field_refusal (settings_mean b.settings).config q.who (length a) now q.verb
       → let v = meant (bucket_of b).rows q.verb in done b now v a (table_decision (capacity b.keys) (bucket_of b) (both now) q.who v) ≡ outcome b (call line a)
-  unfolding fieldRefusal
+  unfolding field_refusal
   said_passes q now l e t h =
       let c = bucket_of b in
       let m = max b.settings.time q.clock in
@@ -149,7 +149,7 @@ known {b} {line} {a} {v} {when} p =
       one_now = line_stamp b line a v when p;
       decided = λ d e. ap (λ (x : Decision). done b when.judge (meant (bucket_of b).rows (verb_means line v)) a x) e
           ∙ said_passes b line a p.is_whole _ when.judge q.room_fits q.says (line_judge b line a v when p)
-          (q.passes ∙ ap (λ (t : ℕ). fieldRefusal (settings_mean b.settings).config q.who (length a) t (verb_means line v)) (line_stamp b line a v when p));
+          (q.passes ∙ ap (λ (t : ℕ). field_refusal (settings_mean b.settings).config q.who (length a) t (verb_means line v)) (line_stamp b line a v when p));
     }
 
 -- What asks keeps the rows and takes no number.

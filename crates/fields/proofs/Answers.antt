@@ -22,19 +22,19 @@ use Rattle.fields.specs.declared.Version.{Version}
 use Rattle.fields.specs.declared.KeyRead.{KeyRead}
 use Rattle.fields.specs.declared.KeyRead.TheVariants as key_read
 use Rattle.fields.specs.declared.VersionRead.{VersionRead}
-use Rattle.fields.specs.declared.VersionRead.TheVariants as version-read
+use Rattle.fields.specs.declared.VersionRead.TheVariants as version_read
 use Rattle.fields.specs.declared.ModeRead.{ModeRead}
-use Rattle.fields.specs.declared.ModeRead.TheVariants as mode-read
+use Rattle.fields.specs.declared.ModeRead.TheVariants as mode_read
 use Rattle.fields.specs.declared.UntilRead.{UntilRead}
-use Rattle.fields.specs.declared.UntilRead.TheVariants as until-read
+use Rattle.fields.specs.declared.UntilRead.TheVariants as until_read
 use Rattle.fields.specs.declared.FlagRead.{FlagRead}
-use Rattle.fields.specs.declared.FlagRead.TheVariants as flag-read
+use Rattle.fields.specs.declared.FlagRead.TheVariants as flag_read
 use Rattle.fields.specs.declared.HoldRead.{HoldRead}
-use Rattle.fields.specs.declared.HoldRead.TheVariants as hold-read
+use Rattle.fields.specs.declared.HoldRead.TheVariants as hold_read
 use Rattle.fields.specs.declared.PeriodRead.{PeriodRead}
-use Rattle.fields.specs.declared.PeriodRead.TheVariants as period-read
+use Rattle.fields.specs.declared.PeriodRead.TheVariants as period_read
 use Rattle.fields.specs.declared.RightsRead.{RightsRead}
-use Rattle.fields.specs.declared.RightsRead.TheVariants as rights-read
+use Rattle.fields.specs.declared.RightsRead.TheVariants as rights_read
 use Rattle.fields.specs.Fields.{read_rights, read_version, read_mode, read_until, read_switch, read_hold, read_bypass, read_period}
 use Rattle.fields.specs.Meaning.{key_from, version_from, mode_from, until_from, flag_from, hold_from, period_from, rights_from}
 
@@ -48,10 +48,10 @@ module _ (b : Bool) where
 module _ (A : Type 0) (v y : A) where
   -- ## A switch in the same text
 
-  pub flag_is : (r : FlagRead) (w : Option Bool) (b : Bool) (f : Bool → A) → flag_from r ≡ w → r ≡ flag-read.Is b → v ≡ f b → v ≡ then_some w y f
+  pub flag_is : (r : FlagRead) (w : Option Bool) (b : Bool) (f : Bool → A) → flag_from r ≡ w → r ≡ flag_read.Is b → v ≡ f b → v ≡ then_some w y f
   flag_is r w b f e h q = cc
 
-  pub flag_bad : (r : FlagRead) (w : Option Bool) (f : Bool → A) → flag_from r ≡ w → r ≡ flag-read.Bad → v ≡ y → v ≡ then_some w y f
+  pub flag_bad : (r : FlagRead) (w : Option Bool) (f : Bool → A) → flag_from r ≡ w → r ≡ flag_read.Bad → v ≡ y → v ≡ then_some w y f
   flag_bad r w f e h q = cc
 
   -- ## Fields
@@ -74,52 +74,52 @@ module _ (A : Type 0) (v y : A) where
   pub clock_bad : (r : DateRead) (t u : List ℕ) (f : ℕ → A) → instant_of r ≡ read_date t → t ≡ u → r ≡ Unreadable → v ≡ y → v ≡ then_some (read_date u) y f
   clock_bad r t u f e i h q = cc
 
-  pub version_is : (r : VersionRead) (x : Version) (t u : List ℕ) (f : Version → A) → version_from r ≡ read_version t → t ≡ u → r ≡ version-read.Is x → v ≡ f x → v ≡ then_some (read_version u) y f
+  pub version_is : (r : VersionRead) (x : Version) (t u : List ℕ) (f : Version → A) → version_from r ≡ read_version t → t ≡ u → r ≡ version_read.Is x → v ≡ f x → v ≡ then_some (read_version u) y f
   version_is r x t u f e i h q = cc
 
-  pub version_bad : (r : VersionRead) (t u : List ℕ) (f : Version → A) → version_from r ≡ read_version t → t ≡ u → r ≡ version-read.Bad → v ≡ y → v ≡ then_some (read_version u) y f
+  pub version_bad : (r : VersionRead) (t u : List ℕ) (f : Version → A) → version_from r ≡ read_version t → t ≡ u → r ≡ version_read.Bad → v ≡ y → v ≡ then_some (read_version u) y f
   version_bad r t u f e i h q = cc
 
-  pub mode_is : (r : ModeRead) (x : Mode) (t u : List ℕ) (f : Mode → A) → mode_from r ≡ read_mode t → t ≡ u → r ≡ mode-read.Is x → v ≡ f x → v ≡ then_some (read_mode u) y f
+  pub mode_is : (r : ModeRead) (x : Mode) (t u : List ℕ) (f : Mode → A) → mode_from r ≡ read_mode t → t ≡ u → r ≡ mode_read.Is x → v ≡ f x → v ≡ then_some (read_mode u) y f
   mode_is r x t u f e i h q = cc
 
-  pub mode_bad : (r : ModeRead) (t u : List ℕ) (f : Mode → A) → mode_from r ≡ read_mode t → t ≡ u → r ≡ mode-read.Bad → v ≡ y → v ≡ then_some (read_mode u) y f
+  pub mode_bad : (r : ModeRead) (t u : List ℕ) (f : Mode → A) → mode_from r ≡ read_mode t → t ≡ u → r ≡ mode_read.Bad → v ≡ y → v ≡ then_some (read_mode u) y f
   mode_bad r t u f e i h q = cc
 
-  pub until_is : (r : UntilRead) (x : Until) (t u : List ℕ) (f : Until → A) → until_from r ≡ read_until t → t ≡ u → r ≡ until-read.Is x → v ≡ f x → v ≡ then_some (read_until u) y f
+  pub until_is : (r : UntilRead) (x : Until) (t u : List ℕ) (f : Until → A) → until_from r ≡ read_until t → t ≡ u → r ≡ until_read.Is x → v ≡ f x → v ≡ then_some (read_until u) y f
   until_is r x t u f e i h q = cc
 
-  pub until_bad : (r : UntilRead) (t u : List ℕ) (f : Until → A) → until_from r ≡ read_until t → t ≡ u → r ≡ until-read.Bad → v ≡ y → v ≡ then_some (read_until u) y f
+  pub until_bad : (r : UntilRead) (t u : List ℕ) (f : Until → A) → until_from r ≡ read_until t → t ≡ u → r ≡ until_read.Bad → v ≡ y → v ≡ then_some (read_until u) y f
   until_bad r t u f e i h q = cc
 
-  pub hold_is : (r : HoldRead) (x : Hold) (t u : List ℕ) (f : Hold → A) → hold_from r ≡ read_hold t → t ≡ u → r ≡ hold-read.Is x → v ≡ f x → v ≡ then_some (read_hold u) y f
+  pub hold_is : (r : HoldRead) (x : Hold) (t u : List ℕ) (f : Hold → A) → hold_from r ≡ read_hold t → t ≡ u → r ≡ hold_read.Is x → v ≡ f x → v ≡ then_some (read_hold u) y f
   hold_is r x t u f e i h q = cc
 
-  pub hold_bad : (r : HoldRead) (t u : List ℕ) (f : Hold → A) → hold_from r ≡ read_hold t → t ≡ u → r ≡ hold-read.Bad → v ≡ y → v ≡ then_some (read_hold u) y f
+  pub hold_bad : (r : HoldRead) (t u : List ℕ) (f : Hold → A) → hold_from r ≡ read_hold t → t ≡ u → r ≡ hold_read.Bad → v ≡ y → v ≡ then_some (read_hold u) y f
   hold_bad r t u f e i h q = cc
 
-  pub period_is : (r : PeriodRead) (x : Period) (t u : List ℕ) (f : Period → A) → period_from r ≡ read_period t → t ≡ u → r ≡ period-read.Is x → v ≡ f x → v ≡ then_some (read_period u) y f
+  pub period_is : (r : PeriodRead) (x : Period) (t u : List ℕ) (f : Period → A) → period_from r ≡ read_period t → t ≡ u → r ≡ period_read.Is x → v ≡ f x → v ≡ then_some (read_period u) y f
   period_is r x t u f e i h q = cc
 
-  pub period_bad : (r : PeriodRead) (t u : List ℕ) (f : Period → A) → period_from r ≡ read_period t → t ≡ u → r ≡ period-read.Bad → v ≡ y → v ≡ then_some (read_period u) y f
+  pub period_bad : (r : PeriodRead) (t u : List ℕ) (f : Period → A) → period_from r ≡ read_period t → t ≡ u → r ≡ period_read.Bad → v ≡ y → v ≡ then_some (read_period u) y f
   period_bad r t u f e i h q = cc
 
-  pub rights_is : (r : RightsRead) (x : Rights) (t u : List ℕ) (f : Rights → A) → rights_from r ≡ read_rights t → t ≡ u → r ≡ rights-read.Is x → v ≡ f x → v ≡ then_some (read_rights u) y f
+  pub rights_is : (r : RightsRead) (x : Rights) (t u : List ℕ) (f : Rights → A) → rights_from r ≡ read_rights t → t ≡ u → r ≡ rights_read.Is x → v ≡ f x → v ≡ then_some (read_rights u) y f
   rights_is r x t u f e i h q = cc
 
-  pub rights_bad : (r : RightsRead) (t u : List ℕ) (f : Rights → A) → rights_from r ≡ read_rights t → t ≡ u → r ≡ rights-read.Bad → v ≡ y → v ≡ then_some (read_rights u) y f
+  pub rights_bad : (r : RightsRead) (t u : List ℕ) (f : Rights → A) → rights_from r ≡ read_rights t → t ≡ u → r ≡ rights_read.Bad → v ≡ y → v ≡ then_some (read_rights u) y f
   rights_bad r t u f e i h q = cc
 
-  pub switch_is : (r : FlagRead) (x : Bool) (t u : List ℕ) (f : Bool → A) → flag_from r ≡ read_switch t → t ≡ u → r ≡ flag-read.Is x → v ≡ f x → v ≡ then_some (read_switch u) y f
+  pub switch_is : (r : FlagRead) (x : Bool) (t u : List ℕ) (f : Bool → A) → flag_from r ≡ read_switch t → t ≡ u → r ≡ flag_read.Is x → v ≡ f x → v ≡ then_some (read_switch u) y f
   switch_is r x t u f e i h q = cc
 
-  pub switch_bad : (r : FlagRead) (t u : List ℕ) (f : Bool → A) → flag_from r ≡ read_switch t → t ≡ u → r ≡ flag-read.Bad → v ≡ y → v ≡ then_some (read_switch u) y f
+  pub switch_bad : (r : FlagRead) (t u : List ℕ) (f : Bool → A) → flag_from r ≡ read_switch t → t ≡ u → r ≡ flag_read.Bad → v ≡ y → v ≡ then_some (read_switch u) y f
   switch_bad r t u f e i h q = cc
 
-  pub bypass_is : (r : FlagRead) (x : Bool) (t u : List ℕ) (f : Bool → A) → flag_from r ≡ read_bypass t → t ≡ u → r ≡ flag-read.Is x → v ≡ f x → v ≡ then_some (read_bypass u) y f
+  pub bypass_is : (r : FlagRead) (x : Bool) (t u : List ℕ) (f : Bool → A) → flag_from r ≡ read_bypass t → t ≡ u → r ≡ flag_read.Is x → v ≡ f x → v ≡ then_some (read_bypass u) y f
   bypass_is r x t u f e i h q = cc
 
-  pub bypass_bad : (r : FlagRead) (t u : List ℕ) (f : Bool → A) → flag_from r ≡ read_bypass t → t ≡ u → r ≡ flag-read.Bad → v ≡ y → v ≡ then_some (read_bypass u) y f
+  pub bypass_bad : (r : FlagRead) (t u : List ℕ) (f : Bool → A) → flag_from r ≡ read_bypass t → t ≡ u → r ≡ flag_read.Bad → v ≡ y → v ≡ then_some (read_bypass u) y f
   bypass_bad r t u f e i h q = cc
 
   pub key_is : (r : KeyRead) (w : Option Place) (x : Place) (f : Place → A) → key_from r ≡ w → r ≡ key_read.Is x → v ≡ f x → v ≡ then_some w y f

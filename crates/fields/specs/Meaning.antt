@@ -19,19 +19,19 @@ use Rattle.fields.specs.declared.Rights.{Rights}
 use Rattle.fields.specs.declared.KeyRead.{KeyRead}
 use Rattle.fields.specs.declared.KeyRead.TheVariants as key_read
 use Rattle.fields.specs.declared.VersionRead.{VersionRead}
-use Rattle.fields.specs.declared.VersionRead.TheVariants as version-read
+use Rattle.fields.specs.declared.VersionRead.TheVariants as version_read
 use Rattle.fields.specs.declared.ModeRead.{ModeRead}
-use Rattle.fields.specs.declared.ModeRead.TheVariants as mode-read
+use Rattle.fields.specs.declared.ModeRead.TheVariants as mode_read
 use Rattle.fields.specs.declared.UntilRead.{UntilRead}
-use Rattle.fields.specs.declared.UntilRead.TheVariants as until-read
+use Rattle.fields.specs.declared.UntilRead.TheVariants as until_read
 use Rattle.fields.specs.declared.FlagRead.{FlagRead}
-use Rattle.fields.specs.declared.FlagRead.TheVariants as flag-read
+use Rattle.fields.specs.declared.FlagRead.TheVariants as flag_read
 use Rattle.fields.specs.declared.HoldRead.{HoldRead}
-use Rattle.fields.specs.declared.HoldRead.TheVariants as hold-read
+use Rattle.fields.specs.declared.HoldRead.TheVariants as hold_read
 use Rattle.fields.specs.declared.PeriodRead.{PeriodRead}
-use Rattle.fields.specs.declared.PeriodRead.TheVariants as period-read
+use Rattle.fields.specs.declared.PeriodRead.TheVariants as period_read
 use Rattle.fields.specs.declared.RightsRead.{RightsRead}
-use Rattle.fields.specs.declared.RightsRead.TheVariants as rights-read
+use Rattle.fields.specs.declared.RightsRead.TheVariants as rights_read
 use Rattle.fields.specs.declared.Retention.{Retention}
 use Rattle.fields.specs.declared.Terms.{Terms}
 
@@ -86,38 +86,38 @@ key_from key_read.Bad = none
 
 -- a version field
 abbrev pub version_from : VersionRead → Option Version
-version_from (version-read.Is v) = some v
-version_from version-read.Bad = none
+version_from (version_read.Is v) = some v
+version_from version_read.Bad = none
 
 -- a mode field
 abbrev pub mode_from : ModeRead → Option Mode
-mode_from (mode-read.Is m) = some m
-mode_from mode-read.Bad = none
+mode_from (mode_read.Is m) = some m
+mode_from mode_read.Bad = none
 
 -- a date field
 abbrev pub until_from : UntilRead → Option Until
-until_from (until-read.Is d) = some d
-until_from until-read.Bad = none
+until_from (until_read.Is d) = some d
+until_from until_read.Bad = none
 
 -- ON or OFF, yes or no
 abbrev pub flag_from : FlagRead → Option Bool
-flag_from (flag-read.Is y) = some y
-flag_from flag-read.Bad = none
+flag_from (flag_read.Is y) = some y
+flag_from flag_read.Bad = none
 
 -- a hold field
 abbrev pub hold_from : HoldRead → Option Hold
-hold_from (hold-read.Is h) = some h
-hold_from hold-read.Bad = none
+hold_from (hold_read.Is h) = some h
+hold_from hold_read.Bad = none
 
 -- a period field
 abbrev pub period_from : PeriodRead → Option Period
-period_from (period-read.Is p) = some p
-period_from period-read.Bad = none
+period_from (period_read.Is p) = some p
+period_from period_read.Bad = none
 
 -- a rights field
 abbrev pub rights_from : RightsRead → Option Rights
-rights_from (rights-read.Is a) = some a
-rights_from rights-read.Bad = none
+rights_from (rights_read.Is a) = some a
+rights_from rights_read.Bad = none
 
 -- ## Places
 

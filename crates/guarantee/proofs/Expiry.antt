@@ -35,8 +35,8 @@ sweeps_by_midnights b g clock e d =
     let w = accepted_of_whole b g z in
     let left_is : bucket_of (step b g) ≡ after (bucket_of b) (asked who Sweep) = accepted_bucket b g _ w r.hears (sym (outcome_number b g) ∙ z) ∙ rw v in
     let t : some r.said.clock ≡ some clock = sym (line_clock r.bytes r.said r.reads) ∙ ap read_date (sym (read_field r 0)) ∙ d in
-    let same-clock : r.said.clock ≡ clock = cc in
-    rw (sym same-clock) (subst⁻¹ (SweptByMidnights who.clock (bucket_of b)) left_is (swept_by_midnights (capacity b.keys) (bucket_of b) who (whole_parts b w).is_sound))
+    let same_clock : r.said.clock ≡ clock = cc in
+    rw (sym same_clock) (subst⁻¹ (SweptByMidnights who.clock (bucket_of b)) left_is (swept_by_midnights (capacity b.keys) (bucket_of b) who (whole_parts b w).is_sound))
 
 pub sweeps_by_midnights_bytes : SweepsByMidnightsBytes
 sweeps_by_midnights_bytes b g clock e d =

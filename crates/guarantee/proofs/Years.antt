@@ -26,7 +26,7 @@ use Rattle.model.specs.Years.{default_of, later_year, MadeForYears}
 use Rattle.model.proofs.Accepted.{meant_ways, accepted_line}
 use Rattle.model.proofs.Invariant.{asked}
 use Rattle.model.proofs.Facts.{first_most}
-use Rattle.model.proofs.Sound.{whole as sound-whole, config_default}
+use Rattle.model.proofs.Sound.{whole as sound_whole, config_default}
 use Rattle.model.proofs.Retries.{current_new}
 use Rattle.model.proofs.Years.{years_mode, ten_by_years, terms_made, made_for_years, meets_ten, late_not_11, late_not_12}
 use Rattle.table.specs.Layout.{capacity}
@@ -106,8 +106,8 @@ module _ (b : Lent) (g : Call) (clock : ℕ) (x : TakesYears (bucket_of b) g.sen
         | inl m ↦
             let is_after : bucket_of (step b g) ≡ after before line = left_is ∙ rw m in
             let made = made_for_years (capacity b.keys) before line.context row.terms (no_mode before g clock x r) x.counts_years (key_sent g.sent) line.verb row.makes (rw m at p) in
-            let at-clock = subst (λ (c : ℕ). MadeForYears c before (key_sent g.sent) (after before line)) (clock_is before g clock x r) made in
-            subst⁻¹ (MadeForYears clock before (key_sent g.sent)) is_after at-clock
+            let at_clock = subst (λ (c : ℕ). MadeForYears c before (key_sent g.sent) (after before line)) (clock_is before g clock x r) made in
+            subst⁻¹ (MadeForYears clock before (key_sent g.sent)) is_after at_clock
         | inr (n, m) ↦
             let is_after : bucket_of (step b g) ≡ after before (asked line.context (Ask (Repeat n))) = left_is ∙ rw m in
             absurd (omega (arith, t, ap (λ (y : Bucket). y.settings.next) is_after))
@@ -133,7 +133,7 @@ shows_years b g get clock x t e =
     let n = name row.key none in
     let verb : r.said.verb ≡ Ask (Get n) = asks_current r.bytes r.said word current r.reads ∙ rw key in
     let found : row_of (bucket_of left).rows n ≡ some row = rw made.is_added (current_new row (bucket_of b).rows) in
-    let p = sound-whole (capacity b.keys) (bucket_of b) (whole_parts b (is_whole b g clock x t)).is_sound in
+    let p = sound_whole (capacity b.keys) (bucket_of b) (whole_parts b (is_whole b g clock x t)).is_sound in
     let has_mode : row.mode ≡ 0 → ⊥ = λ h. years_mode (default_of (bucket_of b)) (config_default (bucket_of b).settings.config p.config_sound) x.counts_years (sym made.mode_is ∙ h) in
     let years = (default_of (bucket_of b)).count in
     let ends : YearsEnd years (max b.settings.time clock) row.until = rw (sym made.created_now) made.ends in
@@ -182,13 +182,13 @@ module _ (b : Lent) (g : Call) (clock : ℕ) (x : TakesYears (bucket_of b) g.sen
   ten_is j =
       let r = j.read in
       let row = asks bucket g clock x r in
-      let same-clock = clock_is bucket g clock x r in
+      let same_clock = clock_is bucket g clock x r in
       let s = bucket.settings.config in
-      let p = sound-whole (capacity b.keys) bucket j.is_sound in
+      let p = sound_whole (capacity b.keys) bucket j.is_sound in
       let now = max bucket.settings.time (said j).context.clock in
-      let by_now : now ≤ latest = omega (arith, same-clock, read_most _ clock x.clock_read, leb-true bucket.settings.time latest p.time_fits) in
+      let by_now : now ≤ latest = omega (arith, same_clock, read_most _ clock x.clock_read, leb-true bucket.settings.time latest p.time_fits) in
       let ten = ten_by_years s now (config_default s p.config_sound) x.counts_years by_now row.terms.retention (no_mode bucket g clock x r) in
-      rw (terms_made (key_sent g.sent) row.terms (said j).verb row.makes) (ten ∙ ap (λ (c : ℕ). ltb 9999 (later_year c bucket)) same-clock)
+      rw (terms_made (key_sent g.sent) row.terms (said j).verb row.makes) (ten ∙ ap (λ (c : ℕ). ltb 9999 (later_year c bucket)) same_clock)
 
   ten_where_late : TenWhereLate (later_year clock bucket) (outcome b g).number (TakesNumber b (step b g))
   ten_where_late =
@@ -243,10 +243,10 @@ kept_for_years_bytes b g clock x t =
 
 pub shows_years_bytes : ShowsYearsBytes
 shows_years_bytes b g get clock x t e =
-    let same-exchanges : byte_exchange (byte_step b g) get ≡ exchange (step (lent_of b) g) get =
+    let same_exchanges : byte_exchange (byte_step b g) get ≡ exchange (step (lent_of b) g) get =
     same_exchange _ (byte_step b g) get (sized_after _ b g (took_sized b g t)) ∙ ap (λ (l : Lent). exchange l get) (left_is b g t) in
-    let shown = shows_years (lent_of b) g get clock x (took_number b g t) (sym (ap (shows_current (key_sent g.sent)) same-exchanges) ∙ e) in
-    subst⁻¹ (λ (y : Exchange). EndIsShown (default_of (bucket_of (lent_of b))).count (max (lent_of b).settings.time clock) y.answer) same-exchanges shown
+    let shown = shows_years (lent_of b) g get clock x (took_number b g t) (sym (ap (shows_current (key_sent g.sent)) same_exchanges) ∙ e) in
+    subst⁻¹ (λ (y : Exchange). EndIsShown (default_of (bucket_of (lent_of b))).count (max (lent_of b).settings.time clock) y.answer) same_exchanges shown
 
 pub years_meet_ten_bytes : TenByYearsBytes
 years_meet_ten_bytes b g clock x =

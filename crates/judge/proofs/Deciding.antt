@@ -93,12 +93,12 @@ pub stay_done : (j : Judged) (s : State) (numbers keys : List ℕ) (rules : List
     → change_means j (rows_in s numbers keys) p.change ≡ rows_after (bucket_by s rules (rows_in s numbers keys)) (both now) v → change_takes p.change ≡ 0
     → text_of p.answer ≡ answer_text (reply (bucket_by s rules (rows_in s numbers keys)) (both now) who v) → Feasible j (capacity keys) (rows_in s numbers keys) (Accepted p)
     → Judges j (capacity keys) (rows_in s numbers keys) (Accepted p) (table_decision (capacity keys) (bucket_by s rules (rows_in s numbers keys)) (both now) who v)
-stay_done j s numbers keys rules now who v p ready o zero-added er et ex f =
+stay_done j s numbers keys rules now who v p ready o zero_added er et ex f =
     let left = rows_left (bucket_by s rules (rows_in s numbers keys)) (both now) v ready.in_order o.there in
     let z = rows_length numbers keys s.used in
     let l = ready.used_fits in
     let m = ready.next_fits in
-    accept j (capacity keys) (bucket_by s rules (rows_in s numbers keys)) (both now) who v o (omega arith) p (omega arith) er (et ∙ sym zero-added) ex f
+    accept j (capacity keys) (bucket_by s rules (rows_in s numbers keys)) (both now) who v o (omega arith) p (omega arith) er (et ∙ sym zero_added) ex f
 
 -- What asks without naming a row meets none of 7 to 10.
 pub asks_open : (b : Bucket) (now : Now) (q : Query) → name_of (Ask q) ≡ none → Open b now (Ask q)

@@ -62,7 +62,7 @@ sound_days us e = all_as model.sound_rule few_days few us (and_r (eqb (length us
         let g = and_r (is_prefix u.prefix) _ f in
         and_i (leb u.current_days 36500) _ (and_l _ _ g) (and_l _ _ (and_r (leb u.current_days 36500) _ g))
 
-module _ (s : State) (numbers keys : List ℕ) (now : ℕ) (entries fs : List ℕ) (v : Verb) (asked : Asked s numbers keys now v) (ready-rules : Sweepable s entries fs) where
+module _ (s : State) (numbers keys : List ℕ) (now : ℕ) (entries fs : List ℕ) (v : Verb) (asked : Asked s numbers keys now v) (ready_rules : Sweepable s entries fs) where
   -- What lifecycle's judgement asks.
   pub sweep_asks : Judgeable numbers keys s.used (rules_of entries)
   sweep_asks =
@@ -81,8 +81,8 @@ module _ (s : State) (numbers keys : List ℕ) (now : ℕ) (entries fs : List �
               in_order = asked.ready.in_order;
               few = omega (arith, asked.ready.used_fits, asked.ready.capacity_fits);
             };
-        prefixes = ready-rules.prefixes;
-        days = sound_days (rules_mean (rules_of entries)) ready-rules.rules_sound;
+        prefixes = ready_rules.prefixes;
+        days = sound_days (rules_mean (rules_of entries)) ready_rules.rules_sound;
       }
     where
       whole : (i : ℕ) → i < length (rows_of numbers keys s.used) → is_block (take 64 (drop (64 * i) keys)) ≡ true

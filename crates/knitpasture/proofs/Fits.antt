@@ -19,7 +19,7 @@ use Rattle.model.specs.Rows.{Row, is_mode, is_data, is_marker, sound_retention, 
 use Rattle.model.specs.Settings as model
 use Rattle.model.specs.Settings.{spent_number, sound_default, is_days, is_set, sound_rule, sound_rules}
 use Rattle.model.proofs.SoundRows.{date_most}
-use Rattle.model.proofs.Sound.{whole as sound-whole, config_default, config_rules}
+use Rattle.model.proofs.Sound.{whole as sound_whole, config_default, config_rules}
 use Rattle.settings.specs.declared.Rule.{Rule}
 use Rattle.settings.specs.Bytes.{is_word, rule_fits, settings_fit}
 use Rattle.settings.specs.Meaning.{rule_means, rules_mean, settings_mean, prefixes_are}
@@ -86,7 +86,7 @@ unfolding settings_fit sound_rules
 whole_fits b w =
     let s = b.settings in
     let p = whole_parts b w in
-    let m = sound-whole (capacity b.keys) (bucket_of b) p.is_sound in
+    let m = sound_whole (capacity b.keys) (bucket_of b) p.is_sound in
     let d = default_most (settings_mean s).config.default (config_default (settings_mean s).config m.config_sound) in
     let r = config_rules (settings_mean s).config m.config_sound in
     let u : s.used ≤ 1024 = omega (arith, p.room, p.most) in
@@ -182,5 +182,5 @@ pub whole_words : (b : Lent) → whole b ≡ true → all is_word b.numbers ≡ 
 whole_words b w =
     let c = capacity b.keys in
     let p = whole_parts b w in
-    let m = sound-whole c (bucket_of b) p.is_sound in
+    let m = sound_whole c (bucket_of b) p.is_sound in
     ap (all is_word) p.holds.numbers_are ∙ rows_words b.settings.next b.settings.time c (used_rows b) m.next_fits (leb-true b.settings.time latest m.time_fits) m.rows_sound

@@ -73,10 +73,10 @@ pick_most false m n h = omega arith
 -- A row more makes each number at most so much larger.
 bounded_more : (c : ℕ) (t r : Totals) (now : ℕ) (x : Row) → Bounded c t → x.size ≤ largest_size → totals_mean r ≡ with_row now x (totals_mean t) → Bounded (c + 1) r
 bounded_more c t r now x b s e =
-    let versions-are : r.versions ≡ t.versions + pick (is_data x) 1 0 = ap (λ (y : model.Totals). y.versions) e in
-    let markers-are : r.markers ≡ t.markers + pick (is_marker x) 1 0 = ap (λ (y : model.Totals). y.markers) e in
+    let versions_are : r.versions ≡ t.versions + pick (is_data x) 1 0 = ap (λ (y : model.Totals). y.versions) e in
+    let markers_are : r.markers ≡ t.markers + pick (is_marker x) 1 0 = ap (λ (y : model.Totals). y.markers) e in
     let size_is : r.size ≡ t.size + pick (is_data x) x.size 0 = ap (λ (y : model.Totals). y.size) e in
-    let locked-are : r.locked ≡ t.locked + pick (is_locked_data now x) 1 0 = ap (λ (y : model.Totals). y.locked) e in
+    let locked_are : r.locked ≡ t.locked + pick (is_locked_data now x) 1 0 = ap (λ (y : model.Totals). y.locked) e in
     record {
       versions = omega (arith, b.versions, pick_most (is_data x) 1 1 (omega arith));
       markers = omega (arith, b.markers, pick_most (is_marker x) 1 1 (omega arith));

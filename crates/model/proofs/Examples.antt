@@ -15,7 +15,7 @@ use Rattle.model.specs.Settings.{Bucket, fresh, days, sound_rules, sound_config,
 use Rattle.model.specs.Requests.{Rights, Version, numbered, name, no_retention, Terms, DefaultRetention, LifecycleRule, Get, Report, Verb, Put, Copy, Retain, AddMarker, DeleteVersion, Set, Sweep, Ask, Heard, says, in_range}
 use Rattle.model.specs.Time.{default_end}
 use Rattle.model.specs.Locks.{locked, admits}
-use Rattle.model.specs.Effects.{added, removed as rowsRemoved, rows_after, set_config, config_after}
+use Rattle.model.specs.Effects.{added, removed as rows_removed, rows_after, set_config, config_after}
 use Rattle.model.specs.Refusals.{half_given, needs, granted, lacks_right, short_for_page, past_date, missing, names_marker, barred, too_late, spends, full, refusal}
 use Rattle.model.specs.Answers.{done, made, repeated, marked, removed, removed_marker, swept_counts, shown, reported, reply}
 use Rattle.model.specs.Run.{Reply, no, ok, replies, run, line_events}
@@ -228,7 +228,7 @@ pub record Examples : Type 0 where
   pub last_number : at_the_end ≡ ok (made (numbered 18446744073709551614)) ∷ no 11 ∷ []
 
 pub examples : Examples
-unfolding is_key_byte is_key is_prefix period_end expires_at sound_row sound_rules sound_config fits sound in_range default_end locked admits added rowsRemoved rows_after set_config config_after half_given needs granted lacks_right short_for_page past_date missing names_marker barred too_late spends full refusal reply
+unfolding is_key_byte is_key is_prefix period_end expires_at sound_row sound_rules sound_config fits sound in_range default_end locked admits added rows_removed rows_after set_config config_after half_given needs granted lacks_right short_for_page past_date missing names_marker barred too_late spends full refusal reply
 examples =
     record {
       whole_run = refl;

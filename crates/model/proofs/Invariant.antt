@@ -207,8 +207,8 @@ one_after b past g w v x ys s (relocked r y e p q n) =
 one_after b past g w v x ys s (reheld on e n) = inr (_, e, known_after b past g w v x (set_hold (hold_number on) x) refl refl s)
 one_after b past g w v x ys s (dropped y e p n) = inl e
 
-pub invariant-after : (c : ℕ) (b : Bucket) (past : History) (g : Context) (w : Verb) → Accepted c b g (now_of b g) w → Invariant b past → Invariant (after b (asked g w)) (with past b g w)
-invariant-after c b past g w p i =
+pub invariant_after : (c : ℕ) (b : Bucket) (past : History) (g : Context) (w : Verb) → Accepted c b g (now_of b g) w → Invariant b past → Invariant (after b (asked g w)) (with past b g w)
+invariant_after c b past g w p i =
     record {
       time = sym (time_snoc past (event_of b g w) ∙ rw (sym i.time));
       unused = λ v l. elim (numbered_after c b past g w p i v (omega arith)) [ inl e ↦ e | inr s ↦ absurd (omega (arith, s.3)) ];

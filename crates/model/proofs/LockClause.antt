@@ -19,7 +19,7 @@ use Rattle.model.specs.Run.{Event, serve, run, line_event, line_events}
 use Rattle.model.specs.LockClause.{History, since, time_after, bypasses, takes_off_hold, distinct, Held, InCompliance, InGovernance, OnHold, none_of, PutUnder, PutOnHold, Kept, LockClause}
 use Rattle.model.proofs.Accepted.{Accepted, accepted_line}
 use Rattle.model.proofs.History.{followed, time_snoc, placed_snoc, all_snoc}
-use Rattle.model.proofs.Invariant.{Invariant, asked, event_of, with, invariant-after}
+use Rattle.model.proofs.Invariant.{Invariant, asked, event_of, with, invariant_after}
 use Rattle.model.proofs.Locks.{Lasts, held_after, compliance_lasts, governance_lasts, hold_lasts}
 use Rattle.model.proofs.Placing.{held_as, puts_held, holds_held}
 use Rattle.model.proofs.Carried.{begun_invariant, begun_kept}
@@ -87,7 +87,7 @@ good_line c b past (says q) k =
       | inl e ↦
           let p = accepted_line c b q (eqb-true (refusal c b (says q)) 0 e) in
           rw e (record {
-            invariant = invariant-after c b past q.context (meant b.rows q.verb) p k.invariant;
+            invariant = invariant_after c b past q.context (meant b.rows q.verb) p k.invariant;
             kept = kept_after c b past q.context (meant b.rows q.verb) p k.invariant k.kept;
           })
       | inr e ↦ rw (e, append-nil) k

@@ -118,11 +118,11 @@ governance_stays now d x l s e =
     ]
 
 pub governance_lasts : (xs : List Row) (now : ℕ) (w : Verb) (v d : ℕ) → now < d → (names_in xs v w && bypass_of w) ≡ false → Lasts xs now w v (InGovernance d)
-governance_lasts xs now w v d l none-bypasses =
+governance_lasts xs now w v d l none_bypasses =
     record {
-      relock = λ x r y s p k n. governance_relocked now d x r l s (rw (n none-bypasses) at p) k;
+      relock = λ x r y s p k n. governance_relocked now d x r l s (rw (n none_bypasses) at p) k;
       rehold = λ x on s n. s;
-      stay = λ x y s e n. governance_stays now d x l s (rw (n none-bypasses) at e);
+      stay = λ x y s e n. governance_stays now d x l s (rw (n none_bypasses) at e);
     }
 
 -- ## Hold
@@ -132,9 +132,9 @@ unfolding locked
 hold_locked now y x h e = true≢false (rw h at e)
 
 pub hold_lasts : (xs : List Row) (now : ℕ) (w : Verb) (v : ℕ) → (names_in xs v w && hold_off w) ≡ false → Lasts xs now w v OnHold
-hold_lasts xs now w v none-off =
+hold_lasts xs now w v none_off =
     record {
       relock = λ x r y s p k n. s;
-      rehold = λ x on s n. rw (n none-off);
+      rehold = λ x on s n. rw (n none_off);
       stay = λ x y s e n. hold_locked now y x s e;
     }

@@ -48,14 +48,14 @@ given_under b g w mode d r (some n) q l e =
 
 -- The row that a line names, changed in place.
 named_held : (b : Bucket) (past : History) (g : Context) (w : Verb) (n : Name) (f : Row → Row) → ((y : Row) → (f y).number ≡ y.number) → ((y : Row) → (f y).kind ≡ y.kind) → ((y : Row) → making_of (f y) ≡ making_of y) → rows_after b (now_of b g) w ≡ change (is_named b.rows n) f b.rows → ((x : Row) × Found b.rows past n x) → (v : ℕ) → then_some (row_of b.rows n) false (λ y. eqb y.number v) ≡ true → (x : Row) × Held (after b (asked g w)) (with past b g w) v (λ y. y ≡ f x)
-named_held b past g w n f same_number same_kind same-making rows (x, s) v e =
+named_held b past g w n f same_number same_kind same_making rows (x, s) v e =
     let is : x.number ≡ v = eqb-true x.number v (rw s.found at e) in (
       x,
       record {
         row = f x;
         once = rw (rows, sym is) (change_version x.number (is_named b.rows n) f same_number b.rows x s.once ∙ rw (found_named b.rows n x s.found));
         is_data = same_kind x ∙ s.is_data_lem;
-        unaltered = rw (sym is, same-making x) (made_before b past g w x.number (making_of x) s.made);
+        unaltered = rw (sym is, same_making x) (made_before b past g w x.number (making_of x) s.made);
         lock = refl;
       },
     )
@@ -114,8 +114,8 @@ holds_held c b past g (Copy n k t) p i v e =
 holds_held c b past g (Retain n r y) p i v e = absurd (false≢true e)
 holds_held c b past g (Hold n on) p i v e =
     let named : then_some (row_of b.rows n) false (λ x. eqb x.number v) ≡ true = and_l _ _ e in
-    let is-on : on ≡ true = and_r (then_some (row_of b.rows n) false (λ x. eqb x.number v)) _ e in
-    held_as (hold_held c b past g n on p i v named) (λ x q. q ∙ rw is-on)
+    let turned_on : on ≡ true = and_r (then_some (row_of b.rows n) false (λ x. eqb x.number v)) _ e in
+    held_as (hold_held c b past g n on p i v named) (λ x q. q ∙ rw turned_on)
 holds_held c b past g (AddMarker k y) p i v e = absurd (false≢true e)
 holds_held c b past g (DeleteVersion k u y) p i v e = absurd (false≢true e)
 holds_held c b past g (Set s) p i v e = absurd (false≢true e)

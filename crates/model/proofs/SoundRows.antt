@@ -175,12 +175,12 @@ default_sound s now d o =
     elim (either (eqb s.default.mode 0)) [
       | inl z ↦ simp z
       | inr z ↦
-          let some-default : (is_mode s.default.mode && is_period s.default.count s.default.unit) ≡ true = rw z at d in
-          let counted : 1 ≤ s.default.count = leb-true 1 s.default.count (and_l _ _ (and_r (is_mode s.default.mode) _ some-default)) in
+          let some_default : (is_mode s.default.mode && is_period s.default.count s.default.unit) ≡ true = rw z at d in
+          let counted : 1 ≤ s.default.count = leb-true 1 s.default.count (and_l _ _ (and_r (is_mode s.default.mode) _ some_default)) in
           let end : 1 ≤ default_end s now = period_positive now s.default.count s.default.unit counted in
           let over : ltb latest (default_end s now) ≡ false = rw z at o in
           let fits : leb (default_end s now) latest ≡ true = le-leb (default_end s now) latest (ltb-false latest (default_end s now) over) in
-          rw z (and_i (is_mode s.default.mode) _ (and_l _ _ some-default) (and_i (leb 1 (default_end s now)) _ (le-leb 1 (default_end s now) end) fits))
+          rw z (and_i (is_mode s.default.mode) _ (and_l _ _ some_default) (and_i (leb 1 (default_end s now)) _ (le-leb 1 (default_end s now) end) fits))
     ]
 
 new_retention : (s : Config) (now : ℕ) (r : Retention) (o : Option ℕ) → r.mode ≡ o → sound_default s.default ≡ true → is_retention r ≡ true → retention_half r ≡ false → then_some r.date false (λ t. leb t now) ≡ false → default_too_late s now r ≡ false → sound_retention (new_mode s r) (new_until s now r) ≡ true

@@ -10,7 +10,7 @@ use Rattle.model.specs.Time.{now_of}
 use Rattle.model.specs.Pages.{page_rows}
 use Rattle.model.specs.Reports.{Totals, totals_of}
 use Rattle.model.specs.Effects.{row_of, added}
-use Rattle.model.specs.Effects.{removed as rowsRemoved}
+use Rattle.model.specs.Effects.{removed as rows_removed}
 
 pub data Answer : Type 0 where
   -- nothing after `ok`
@@ -45,7 +45,7 @@ reply b now who (Hold n on) = done
 reply b now who (AddMarker k y) = marked (new_version b)
 reply b now who (DeleteVersion k v y) = pick (then_some (row_of b.rows (name k (some v))) false is_marker) (removed_marker v) (removed v)
 reply b now who (Set s) = done
-reply b now who Sweep = swept_counts (rowsRemoved b now Sweep) (added b now Sweep)
+reply b now who Sweep = swept_counts (rows_removed b now Sweep) (added b now Sweep)
 reply b now who (Ask (Get n)) = then_some (row_of b.rows n) done (λ x. shown x)
 reply b now who (Ask (ListVersions p)) = listed (page_rows p b.rows)
 reply b now who (Ask (Report prefix)) = reported (totals_of prefix now.judge b.rows)

@@ -20,7 +20,7 @@ use Rattle.model.specs.Requests.{Request, Heard, unreadable, says}
 use Rattle.model.specs.Effects.{after}
 use Rattle.model.specs.Retries.{meaning}
 use Rattle.model.specs.Refusals.{refusal}
-use Rattle.model.proofs.Sound.{whole as sound-whole, config_rules, sound_after}
+use Rattle.model.proofs.Sound.{whole as sound_whole, config_rules, sound_after}
 use Rattle.settings.specs.Meaning.{rules_mean, settings_mean, rules_from, settings_from, prefixes_are}
 use Rattle.table.specs.Layout.{keys_of, capacity}
 use Rattle.bucket.specs.Whole.{Lent, bucket_of, whole}
@@ -68,7 +68,7 @@ module _ (b : Lent) (g : Call) where
       let x = after (bucket_of b) (meaning (bucket_of b) q) in
       let p = whole_parts b w in
       let m = sound_after c (bucket_of b) q (model_accepts q w e z) in
-      let f = (sound-whole c x m).config_sound in
+      let f = (sound_whole c x m).config_sound in
       whole_of _ c x.rows _ _ p.some p.most refl refl refl
       (prefixes_are_lem x.settings.config.rules (rules_of_lem _ (config_rules x.settings.config f)))
       (rw (settings_mean_lem x.settings (length x.rows) f) m)
@@ -79,7 +79,7 @@ module _ (b : Lent) (g : Call) where
       let c = capacity b.keys in
       let x = after (bucket_of b) (meaning (bucket_of b) q) in
       let m = sound_after c (bucket_of b) q (model_accepts q w e z) in
-      let f = (sound-whole c x m).config_sound in
+      let f = (sound_whole c x m).config_sound in
       let p = sound_parts c x m in
       rw (accepted_request b g q e z, settings_mean_lem x.settings (length x.rows) f, read_back c x.rows p.room p.keys_fit_lem)
 

@@ -17,39 +17,39 @@ use Rattle.request.specs.declared.Action.TheVariants.{AddMarker, DeleteVersion}
 use Rattle.request.specs.declared.Verb.{Verb}
 use Rattle.request.specs.declared.Verb.TheVariants.{Act}
 use Rattle.request.specs.declared.NameRead.{NameRead}
-use Rattle.request.specs.declared.NameRead.TheVariants as name-read
+use Rattle.request.specs.declared.NameRead.TheVariants as name_read
 use Rattle.request.specs.declared.RetentionRead.{RetentionRead}
-use Rattle.request.specs.declared.RetentionRead.TheVariants as retention-read
+use Rattle.request.specs.declared.RetentionRead.TheVariants as retention_read
 use Rattle.request.specs.declared.TermsRead.{TermsRead}
-use Rattle.request.specs.declared.TermsRead.TheVariants as terms-read
+use Rattle.request.specs.declared.TermsRead.TheVariants as terms_read
 use Rattle.request.specs.declared.VerbRead.{VerbRead}
-use Rattle.request.specs.declared.VerbRead.TheVariants as verb-read
+use Rattle.request.specs.declared.VerbRead.TheVariants as verb_read
 use Rattle.request.specs.Meaning.{name_from, retention_from, terms_from, verb_from}
 use Rattle.request.specs.Grammar.{deletes, verb_by_word}
 
 module _ (A : Type 0) (v y : A) where
-  pub name_is : (r : NameRead) (w : Option Name) (x : Name) (f : Name → A) → name_from r ≡ w → r ≡ name-read.Is x → v ≡ f x → v ≡ then_some w y f
+  pub name_is : (r : NameRead) (w : Option Name) (x : Name) (f : Name → A) → name_from r ≡ w → r ≡ name_read.Is x → v ≡ f x → v ≡ then_some w y f
   name_is r w x f e h q = cc
 
-  pub name_bad : (r : NameRead) (w : Option Name) (f : Name → A) → name_from r ≡ w → r ≡ name-read.Bad → v ≡ y → v ≡ then_some w y f
+  pub name_bad : (r : NameRead) (w : Option Name) (f : Name → A) → name_from r ≡ w → r ≡ name_read.Bad → v ≡ y → v ≡ then_some w y f
   name_bad r w f e h q = cc
 
-  pub retention_is : (r : RetentionRead) (w : Option Retention) (x : Retention) (f : Retention → A) → retention_from r ≡ w → r ≡ retention-read.Is x → v ≡ f x → v ≡ then_some w y f
+  pub retention_is : (r : RetentionRead) (w : Option Retention) (x : Retention) (f : Retention → A) → retention_from r ≡ w → r ≡ retention_read.Is x → v ≡ f x → v ≡ then_some w y f
   retention_is r w x f e h q = cc
 
-  pub retention_bad : (r : RetentionRead) (w : Option Retention) (f : Retention → A) → retention_from r ≡ w → r ≡ retention-read.Bad → v ≡ y → v ≡ then_some w y f
+  pub retention_bad : (r : RetentionRead) (w : Option Retention) (f : Retention → A) → retention_from r ≡ w → r ≡ retention_read.Bad → v ≡ y → v ≡ then_some w y f
   retention_bad r w f e h q = cc
 
-  pub terms_is : (r : TermsRead) (w : Option Terms) (x : Terms) (f : Terms → A) → terms_from r ≡ w → r ≡ terms-read.Is x → v ≡ f x → v ≡ then_some w y f
+  pub terms_is : (r : TermsRead) (w : Option Terms) (x : Terms) (f : Terms → A) → terms_from r ≡ w → r ≡ terms_read.Is x → v ≡ f x → v ≡ then_some w y f
   terms_is r w x f e h q = cc
 
-  pub terms_bad : (r : TermsRead) (w : Option Terms) (f : Terms → A) → terms_from r ≡ w → r ≡ terms-read.Bad → v ≡ y → v ≡ then_some w y f
+  pub terms_bad : (r : TermsRead) (w : Option Terms) (f : Terms → A) → terms_from r ≡ w → r ≡ terms_read.Bad → v ≡ y → v ≡ then_some w y f
   terms_bad r w f e h q = cc
 
-  pub verb_is : (r : VerbRead) (x : Verb) (s t u : List ℕ) (f : Verb → A) → verb_from r ≡ verb_by_word t s → t ≡ u → r ≡ verb-read.Is x → v ≡ f x → v ≡ then_some (verb_by_word u s) y f
+  pub verb_is : (r : VerbRead) (x : Verb) (s t u : List ℕ) (f : Verb → A) → verb_from r ≡ verb_by_word t s → t ≡ u → r ≡ verb_read.Is x → v ≡ f x → v ≡ then_some (verb_by_word u s) y f
   verb_is r x s t u f e i h q = cc
 
-  pub verb_bad : (r : VerbRead) (s t u : List ℕ) (f : Verb → A) → verb_from r ≡ verb_by_word t s → t ≡ u → r ≡ verb-read.Bad → v ≡ y → v ≡ then_some (verb_by_word u s) y f
+  pub verb_bad : (r : VerbRead) (s t u : List ℕ) (f : Verb → A) → verb_from r ≡ verb_by_word t s → t ≡ u → r ≡ verb_read.Bad → v ≡ y → v ≡ then_some (verb_by_word u s) y f
   verb_bad r s t u f e i h q = cc
 
 -- A number is read from its field's bytes.

@@ -11,16 +11,16 @@ use Rattle.request.specs.declared.Setting.TheVariants.{Default, Rule}
 use Rattle.request.specs.declared.Verb.{Verb}
 use Rattle.request.specs.declared.Verb.TheVariants.{Act, Set, Sweep, Ask}
 use Rattle.request.specs.declared.NameRead.{NameRead}
-use Rattle.request.specs.declared.NameRead.TheVariants as name-read
+use Rattle.request.specs.declared.NameRead.TheVariants as name_read
 use Rattle.request.specs.declared.RetentionRead.{RetentionRead}
-use Rattle.request.specs.declared.RetentionRead.TheVariants as retention-read
+use Rattle.request.specs.declared.RetentionRead.TheVariants as retention_read
 use Rattle.request.specs.declared.TermsRead.{TermsRead}
-use Rattle.request.specs.declared.TermsRead.TheVariants as terms-read
+use Rattle.request.specs.declared.TermsRead.TheVariants as terms_read
 use Rattle.request.specs.declared.VerbRead.{VerbRead}
-use Rattle.request.specs.declared.VerbRead.TheVariants as verb-read
+use Rattle.request.specs.declared.VerbRead.TheVariants as verb_read
 use Rattle.request.specs.declared.Request.{Request}
 use Rattle.request.specs.declared.LineRead.{LineRead}
-use Rattle.request.specs.declared.LineRead.TheVariants as Line-read
+use Rattle.request.specs.declared.LineRead.TheVariants as line_read
 use Rattle.request.specs.declared.Page.{Page}
 use Rattle.request.specs.declared.Query.{Query}
 use Rattle.request.specs.declared.Query.TheVariants.{Get, ListVersions, Report}
@@ -69,28 +69,28 @@ verb_means s (Ask a) = model.Ask (query_means s a)
 
 -- the fields key and version
 abbrev pub name_from : NameRead → Option Name
-name_from (name-read.Is n) = some n
-name_from name-read.Bad = none
+name_from (name_read.Is n) = some n
+name_from name_read.Bad = none
 
 -- the fields mode and date
 abbrev pub retention_from : RetentionRead → Option Retention
-retention_from (retention-read.Is r) = some r
-retention_from retention-read.Bad = none
+retention_from (retention_read.Is r) = some r
+retention_from retention_read.Bad = none
 
 -- the fields mode, date and hold
 abbrev pub terms_from : TermsRead → Option Terms
-terms_from (terms-read.Is t) = some t
-terms_from terms-read.Bad = none
+terms_from (terms_read.Is t) = some t
+terms_from terms_read.Bad = none
 
 -- a verb's fields
 abbrev pub verb_from : VerbRead → Option Verb
-verb_from (verb-read.Is v) = some v
-verb_from verb-read.Bad = none
+verb_from (verb_read.Is v) = some v
+verb_from verb_read.Bad = none
 
 -- a whole line
 abbrev pub request_from : LineRead → Option Request
-request_from (Line-read.Reads q) = some q
-request_from Line-read.Unreadable = none
+request_from (line_read.Reads q) = some q
+request_from line_read.Unreadable = none
 
 -- ## Places
 

@@ -38,13 +38,13 @@ found_next p x xs i =
 
 -- Behind the rows that pass q stands the first that passes p, if any does: a row that passes q does not pass p,
 -- and behind one that passes neither there is none.
-module _ (p q : Row → Bool) (not-both : (x : Row) → q x ≡ true → p x ≡ false)
+module _ (p q : Row → Bool) (not_both : (x : Row) → q x ≡ true → p x ≡ false)
     (none_behind : (x y : Row) → ahead x y ≡ true → q x ≡ false → p x ≡ false → p y ≡ false) where
   found_first : (xs : List Row) → ordered xs ≡ true → row_found xs (found_if p xs (leading q xs)) ≡ first p xs
   found_first [] o = refl
   found_first (x ∷ xs) o =
       elim (either (q x)) [
-        | inl t ↦ rw (t, not-both x t) (found_next p x xs (leading q xs) ∙ found_first xs (and_r (all (ahead x) xs) _ o))
+        | inl t ↦ rw (t, not_both x t) (found_next p x xs (leading q xs) ∙ found_first xs (and_r (all (ahead x) xs) _ o))
         | inr t ↦ elim (either (p x)) [
           | inl u ↦ simp (t, u)
           | inr u ↦ simp (t, u) (sym (first_none p xs (all_as (ahead x) (λ y. not (p y)) (λ y d. rw (none_behind x y d t u)) xs (and_l _ _ o))))

@@ -62,15 +62,15 @@ begins_high (suc w) (x ∷ p) (y ∷ k) h e =
 -- Between the two a short prefix begins each key that is long enough.
 pub within_begins : (w : ℕ) (p k : List ℕ) → AllBytes p → AllBytes k → length p ≤ w → length p ≤ length k → rank w p ≤ rank w k → rank w k < rank w p + 256 ^ (w - length p) → begins p k ≡ true
 unfolding rank
-within_begins w [] k p-bytes k-bytes l m low high = refl
-within_begins w (x ∷ p) [] p-bytes k-bytes l m low high = absurd (omega arith)
-within_begins zero (x ∷ p) (y ∷ k) p-bytes k-bytes l m low high = absurd (omega arith)
-within_begins (suc w) (x ∷ p) (y ∷ k) p-bytes k-bytes l m low high =
+within_begins w [] k p_bytes k_bytes l m low high = refl
+within_begins w (x ∷ p) [] p_bytes k_bytes l m low high = absurd (omega arith)
+within_begins zero (x ∷ p) (y ∷ k) p_bytes k_bytes l m low high = absurd (omega arith)
+within_begins (suc w) (x ∷ p) (y ∷ k) p_bytes k_bytes l m low high =
     let z : suc w - suc (length p) ≡ w - length p = omega arith in
     let top : y * 256 ^ w + rank w k < x * 256 ^ w + rank w p + 256 ^ (w - length p) = rw z at high in
-    let room = prefix_room w p (λ j. p-bytes (suc j)) in
+    let room = prefix_room w p (λ j. p_bytes (suc j)) in
     elim (either (ltb y x)) [
-      | inl t ↦ absurd (omega (arith, greater y x (rank w k) (rank w p) (256 ^ w) (rank_bound w k (λ j. k-bytes (suc j))) (ltb-true y x t)))
+      | inl t ↦ absurd (omega (arith, greater y x (rank w k) (rank w p) (256 ^ w) (rank_bound w k (λ j. k_bytes (suc j))) (ltb-true y x t)))
       | inr t ↦ elim (either (ltb x y)) [
         | inl u ↦
             let v : suc x * 256 ^ w ≤ y * 256 ^ w = mul-le-mul_right (256 ^ w) (ltb-true x y u) in
@@ -78,16 +78,16 @@ within_begins (suc w) (x ∷ p) (y ∷ k) p-bytes k-bytes l m low high =
         | inr u ↦
             let q : x ≡ y = omega (arith, ltb-false y x t, ltb-false x y u) in
             let v : x * 256 ^ w ≡ y * 256 ^ w = ap (λ (a : ℕ). a * 256 ^ w) q in
-            rw (eq-eqb x y q) (within_begins w p k (λ j. p-bytes (suc j)) (λ j. k-bytes (suc j)) (omega arith) (omega arith) (omega (arith, v, low)) (omega (arith, v, top)))
+            rw (eq-eqb x y q) (within_begins w p k (λ j. p_bytes (suc j)) (λ j. k_bytes (suc j)) (omega arith) (omega arith) (omega (arith, v, low)) (omega (arith, v, top)))
       ]
     ]
 
 -- A longer prefix and a key between its bounds have the same first bytes.
 pub within_alike : (w : ℕ) (p k : List ℕ) → AllBytes p → AllBytes k → w ≤ length p → w ≤ length k → rank w p ≤ rank w k → rank w k < rank w p + 256 ^ (w - length p) → take w p ≡ take w k
-within_alike w p k p-bytes k-bytes l m low high =
+within_alike w p k p_bytes k_bytes l m low high =
     let z : w - length p ≡ 0 = omega arith in
     let top : rank w k < rank w p + 256 ^ 0 = rw z at high in
-    rank_same w p k p-bytes k-bytes l m (omega (arith, low, top))
+    rank_same w p k p_bytes k_bytes l m (omega (arith, low, top))
 
 -- Behind the same first bytes the rest decides.
 pub begins_rest : (n : ℕ) (p k : List ℕ) → n ≤ length p → n ≤ length k → take n p ≡ take n k → begins p k ≡ begins (drop n p) (drop n k)
