@@ -304,6 +304,7 @@ fn read_digits(text: &[u8], most: u64) -> Value
 }
 
 // A zero with something behind it.
+#[tactic(auto, using(buffers::proofs::Choices::picks), unfolding(crate::specs::Numbers::leading_zero))]
 fn leading_zero(text: &[u8]) -> bool
     ensures { result ≡ leading_zero text.now }
 {
@@ -340,6 +341,7 @@ pub fn read_positive(text: &[u8], most: u64) -> Value
 }
 
 // The prefix begins the key.
+#[tactic(auto, using(crate::proofs::Scans::begins_cases))]
 pub fn begins_with(key: &[u8], prefix: &[u8]) -> bool
     ensures { result ≡ begins prefix.now key.now }
 {
@@ -441,6 +443,7 @@ fn key_bytes(text: &[u8]) -> bool
 }
 
 // A prefix has 0 to 63 such bytes.
+#[tactic(auto, using(buffers::proofs::Choices::picks), unfolding(crate::specs::Keys::is_prefix))]
 pub fn is_prefix(text: &[u8]) -> bool
     ensures { result ≡ is_prefix text.now }
 {
