@@ -89,6 +89,7 @@ fn month_length(leap_year: bool, month: u64) -> u64
 }
 
 // The calendar has this date, in the years 1970 to 9999.
+#[tactic(auto, using(buffers::proofs::Choices::picks, crate::proofs::Days::valid_last), unfolding(crate::specs::Calendar::valid_day))]
 pub fn valid_day(date: Civil) -> bool
     ensures { result ≡ valid_day date }
 {
@@ -176,6 +177,7 @@ pub fn civil_from_days(days: u64) -> Civil
 }
 
 // The year from whose first day a date is as far as some years later: its own before 29 February, else the next.
+#[tactic(auto, using(crate::proofs::Days::civils, crate::proofs::Later::turns))]
 fn turning_year(days: u64) -> u64
     requires { days ≤ 2932896 }
     ensures { Within result (turning_year days) 10000 }
