@@ -271,7 +271,7 @@ unfolding missing names_marker barred too_late
 marker_open s rules xs now k y = record { there = refl; no_marker = refl; unbarred = refl; in_time = refl }
 
 module _ (s : State) (numbers keys line : List ℕ) (now : ℕ) (p : Place) (y : Bool)
-    (ready : Ready s numbers keys) (is_key : is_key (part_of line p) ≡ true) (who : Rights) (rules : List Rule) (fates : List ℕ)
+    (ready : Ready s numbers keys) (key_is : is_key (part_of line p) ≡ true) (who : Rights) (rules : List Rule) (fates : List ℕ)
     (k : ℕ) (refusal : k ≡ row_refusal (capacity keys) s.used s.next) where
   pub marker_refused : (k ≡ 0 → ⊥) → JudgesBy s numbers keys line now who rules fates (AddMarker (part_of line p) y) (Refused k)
   unfolding added rows_after
@@ -295,6 +295,6 @@ module _ (s : State) (numbers keys line : List ℕ) (now : ℕ) (p : Place) (y :
       f.unspent (omega arith)
       (rw (w.is, ek, new (part_of line p)) (sym (insert_place row (rows_in s numbers keys))))
       refl refl
-      ((omega (arith, w.most), omega arith, key_short (part_of line p) is_key, inside.end, f.unspent), tt)
+      ((omega (arith, w.most), omega arith, key_short (part_of line p) key_is, inside.end, f.unspent), tt)
 
 pub ruleset marker_ways = (ready_searchable, marker_refused, marker_done)

@@ -249,7 +249,7 @@ pub fn state_of(s: Settings) -> State
 // Sets the rule at a place of the entries; one without an action is stored as zeros.
 pub fn set_rule(e: &mut [u8], place: usize, prefix: &[u8], current: u64, noncurrent: u64)
     requires { (length e.old ≡ entries_length) × (place < 8) × (length prefix.now ≤ 63) }
-    ensures { rules_of e.new ≡ set (rules_of e.old) place (rule_from (stored (record { prefix = prefix.entry.now; current_days = current; noncurrent_days = noncurrent }))) }
+    ensures { rules_of e.new ≡ set (rules_of e.old) place (rule_from (stored (record { prefix = prefix.now; current_days = current; noncurrent_days = noncurrent }))) }
 {
     let at = 80 * place;
     if (current == 0) & (noncurrent == 0) {
