@@ -9,8 +9,7 @@ use Rattle.model.specs.Requests.{Rights, Version, numbered, name, Get, ListVersi
 use Rattle.model.specs.Time.{now_of}
 use Rattle.model.specs.Pages.{page_rows}
 use Rattle.model.specs.Reports.{Totals, totals_of}
-use Rattle.model.specs.Effects.{row_of, added}
-use Rattle.model.specs.Effects.{removed as rows_removed}
+use Rattle.model.specs.Effects.{row_of, added, removed as rows_removed}
 
 pub data Answer : Type 0 where
   -- nothing after `ok`

@@ -2,7 +2,7 @@
 use Rattle.fields.proofs.Readers.{part_yes, part_no}
 use Rattle.fields.specs.Fields.{read_key}
 use Rattle.text.proofs.Fields.{found}
-use Rattle.text.specs.Keys.{is_key, is_key}
+use Rattle.text.specs.Keys.{is_key}
 use borrow.Author.Rules.{rules}
 use Rattle.fields.proofs.read_key.Goals as goal
 

@@ -2,7 +2,7 @@
 use Rattle.fields.proofs.Readers.{part_yes, part_no}
 use Rattle.fields.specs.Fields.{read_prefix}
 use Rattle.text.proofs.Fields.{found}
-use Rattle.text.specs.Keys.{is_prefix, is_prefix}
+use Rattle.text.specs.Keys.{is_prefix}
 use borrow.Author.Rules.{rules}
 use Rattle.fields.proofs.read_prefix.Goals as goal
 

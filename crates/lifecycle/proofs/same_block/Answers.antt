@@ -1,7 +1,6 @@
 -- `same_block` meets its contract.
 use Rattle.blocks.proofs.Blocks.{block_long}
-use Rattle.lifecycle.proofs.Words.{word_cases}
-use Rattle.lifecycle.proofs.Words.{word_again}
+use Rattle.lifecycle.proofs.Words.{word_cases, word_again}
 use borrow.Author.Rules.{rules}
 use Rattle.lifecycle.proofs.same_block.Goals as goal
 

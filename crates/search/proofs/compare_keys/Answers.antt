@@ -1,6 +1,5 @@
 -- `compare_keys` meets its contract.
-use Rattle.search.proofs.Comparing.{word_cases}
-use Rattle.search.proofs.Comparing.{words_again}
+use Rattle.search.proofs.Comparing.{word_cases, words_again}
 use borrow.Author.Rules.{rules}
 use Rattle.search.proofs.compare_keys.Goals as goal
 

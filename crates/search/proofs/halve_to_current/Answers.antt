@@ -1,10 +1,5 @@
 -- `halve_to_current` meets its contract.
-use Rattle.search.proofs.Halving.{key_cases, middle_length}
-use Rattle.search.proofs.Halving.{key_passed, head_before}
-use Rattle.search.proofs.Halving.{key_stopped, head_after, key_other, head_after}
-use Rattle.search.proofs.Halving.{told_before}
-use Rattle.search.proofs.Halving.{key_met, told_same, key_there, told_same}
-use Rattle.search.proofs.Halving.{told_after, told_after}
+use Rattle.search.proofs.Halving.{key_cases, middle_length, key_passed, head_before, key_stopped, head_after, key_other, told_before, key_met, told_same, key_there, told_after}
 use borrow.Author.Rules.{rules}
 use Rattle.search.proofs.halve_to_current.Goals as goal
 

@@ -1,11 +1,5 @@
 -- `halve_to_version` meets its contract.
-use Rattle.search.proofs.Halving.{version_cases, middle_length}
-use Rattle.search.proofs.Halving.{version_passed, head_before}
-use Rattle.search.proofs.Halving.{version_stopped, head_after, version_behind, head_after}
-use Rattle.search.proofs.Halving.{told_before}
-use Rattle.search.proofs.Halving.{version_higher, told_same}
-use Rattle.search.proofs.Halving.{version_lower, version_other}
-use Rattle.search.proofs.Halving.{told_after, told_after}
+use Rattle.search.proofs.Halving.{version_cases, middle_length, version_passed, head_before, version_stopped, head_after, version_behind, told_before, version_higher, told_same, version_lower, version_other, told_after}
 use borrow.Author.Rules.{rules}
 use Rattle.search.proofs.halve_to_version.Goals as goal
 
