@@ -239,6 +239,21 @@ module _ (s : List ℕ) (i seen : ℕ) (q : Once s i seen) where
 
 pub ruleset once_cases = (is_letter, once_start, once_end, once_other, once_twice, once_step)
 
+-- Where each letter of a text stands once, the bit of the byte in front of place i is none of those from i on.
+-- The first part of the conclusion says nothing: it shows `grind` the call to match.
+pub bit_before : (s : List ℕ) (i : ℕ) → letters_once s ≡ true → 0 < i → i ≤ length s
+    → (drop i s ≡ drop i s) × (bit_and (letter_bits (drop i s)) (2 ^ (get_or s (i - 1) 0 - 98)) ≡ 0)
+bit_before s i o h w =
+    let e : i - 1 + 1 ≡ i = omega arith in
+    let here : drop (i - 1) s ≡ get_or s (i - 1) 0 ∷ drop i s = rw e at (next s (i - 1) (omega arith)) in
+    let f = go (contains (bytes "rwdthbc") (get_or s (i - 1) 0)) (contains (drop i s) (get_or s (i - 1) 0)) (letters_once (drop i s)) (rw here at (once_drop s (i - 1) o)) in
+    (refl, (letter (drop i s) (get_or s (i - 1) 0) f.0).bit ∙ rw f.1 (omega arith))
+  where
+    go : (p q r : Bool) → pick p (pick q false r) false ≡ true → (p ≡ true) × (q ≡ false)
+    go true true r f = absurd (false≢true f)
+    go true false r f = (refl, refl)
+    go false q r f = absurd (false≢true f)
+
 -- What the bits of letters say of the text.
 module _ (s : List ℕ) (v : Value) (e : value_of v ≡ letters_in s) where
   pub letters_are : (n : ℕ) → v ≡ Is n → n ≡ letter_bits s

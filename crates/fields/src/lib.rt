@@ -136,6 +136,7 @@ fn letter_bit(b: u8) -> u64
 }
 
 // Letters of rights, each at most once, as bits. From the last one on, since a letter may not stand behind itself.
+#[tactic(auto, using(crate::proofs::Readers::bit_before))]
 fn read_letters(text: &[u8]) -> Value
     ensures { value_of result ≡ letters_in text.now }
 {

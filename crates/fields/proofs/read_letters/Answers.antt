@@ -6,9 +6,6 @@ use Rattle.fields.proofs.read_letters.Goals as goal
 pub loop-i-init : goal.loop-i-init
 loop-i-init c = search (rules, once_cases)
 
-pub returns-then-seen-bit-ne0 : goal.returns-then-seen-bit-ne0
-returns-then-seen-bit-ne0 c = search (rules, once_cases)
-
 pub loop-i-preserved : goal.loop-i-preserved
 loop-i-preserved c = search (rules, once_cases)
 
