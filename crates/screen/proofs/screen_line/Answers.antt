@@ -3,9 +3,6 @@ use Rattle.screen.proofs.Lines.{lines}
 use borrow.Author.Rules.{rules}
 use Rattle.screen.proofs.screen_line.Goals as goal
 
-pub returns-then-room-lt-LEAST_ROOM : goal.returns-then-room-lt-LEAST_ROOM
-returns-then-room-lt-LEAST_ROOM c = search (rules, lines)
-
 pub returns-in_default : goal.returns-in_default
 returns-in_default c = search (rules, lines)
 
