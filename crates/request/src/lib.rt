@@ -132,6 +132,7 @@ fn read_fields(line: &[u8], marks: &[usize]) -> LineRead
 }
 
 // A request line, without its line feed.
+#[tactic(auto, using(buffers::proofs::Choices::picks), unfolding(crate::specs::Grammar::request_in))]
 pub fn read_line(line: &[u8]) -> LineRead
     ensures { request_from result ≡ request_in line.now }
 {
