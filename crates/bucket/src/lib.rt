@@ -289,6 +289,7 @@ pub fn is_whole(s: State, entries: &[u8], rows: &[u64], keys: &[u8]) -> bool
 }
 
 // The key of a used row of a whole bucket, as a part of the key bytes; else the empty part.
+#[tactic(auto, using(crate::proofs::Passing::key_cases))]
 pub fn key_with<'a>(s: State, entries: &[u8], rows: &[u64], keys: &'a [u8], at: usize) -> &'a [u8]
     requires { length entries.now ≡ entries_length }
     ensures { result.now ≡ key_of (lent_with s entries.now rows.now keys.now) at }

@@ -7,9 +7,6 @@ use Rattle.bucket.proofs.key_with.Goals as goal
 pub returns-then-not-is_whole : goal.returns-then-not-is_whole
 returns-then-not-is_whole c = search (rules, key_cases, not-true, not-false)
 
-pub returns-then-s-at : goal.returns-then-s-at
-returns-then-s-at c = search (rules, key_cases, not-true, not-false)
-
 pub key_at-requires : goal.key_at-requires
 key_at-requires c = search (rules, key_cases, not-true, not-false)
 
