@@ -36,6 +36,7 @@ fn place_after(rows: &[u64], keys: &[u8], used: usize, key: &[u8], version: u64)
 }
 
 // A page's start: the later of the prefix's place and the place after the key and the version.
+#[tactic(auto, unfolding(crate::specs::Places::page_start))]
 fn page_start(
     rows: &[u64],
     keys: &[u8],

@@ -3,8 +3,5 @@ use Rattle.listing.proofs.Places.{start_cases}
 use borrow.Author.Rules.{rules}
 use Rattle.listing.proofs.page_start.Goals as goal
 
-pub returns-then-first-after : goal.returns-then-first-after
-returns-then-first-after c = search (rules, start_cases)
-
 pub returns : goal.returns
 returns c = search (rules, start_cases)
