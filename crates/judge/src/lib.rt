@@ -183,6 +183,7 @@ fn judge_new(
 }
 
 // PUT: a retry answers its row's number and changes no row; one search finds that row or the place of a new one.
+#[tactic(auto, using(crate::proofs::Adding::put_ways))]
 fn judge_put(
     rows: &[u64],
     keys: &[u8],

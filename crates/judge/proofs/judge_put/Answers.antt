@@ -3,9 +3,6 @@ use Rattle.judge.proofs.Adding.{put_ways}
 use borrow.Author.Rules.{rules}
 use Rattle.judge.proofs.judge_put.Goals as goal
 
-pub find_current-found-requires : goal.find_current-found-requires
-find_current-found-requires c = search (rules, put_ways)
-
 pub numbers_at-n-requires : goal.numbers_at-n-requires
 numbers_at-n-requires c = search (rules, put_ways)
 
