@@ -52,6 +52,7 @@ fn serve_entries(
 }
 
 // Serves a line on settings as bytes and rows as numbers; only an accepted line alters them.
+#[tactic(auto, using(outcome::proofs::Demands::outcome_refused), unfolding(crate::specs::Bytes::words_served, crate::specs::Bytes::words_comparisons))]
 fn serve_words(
     settings: &mut [u8],
     rows: &mut [u64],

@@ -9,12 +9,6 @@ returns-then-settings-ne-SETTINGS_BYTES-clause-answer_after c = search (rules, w
 pub returns-then-settings-ne-SETTINGS_BYTES-clause-comparisons_value : goal.returns-then-settings-ne-SETTINGS_BYTES-clause-comparisons_value
 returns-then-settings-ne-SETTINGS_BYTES-clause-comparisons_value c = search (rules, words_counts)
 
-pub returns-then-done-ne0-clause-answer_after : goal.returns-then-done-ne0-clause-answer_after
-returns-then-done-ne0-clause-answer_after c = search (rules, words_cases)
-
-pub returns-then-done-ne0-clause-comparisons_value : goal.returns-then-done-ne0-clause-comparisons_value
-returns-then-done-ne0-clause-comparisons_value c = search (rules, words_counts)
-
 pub returns-clause-answer_after : goal.returns-clause-answer_after
 returns-clause-answer_after c = search (rules, words_cases)
 
