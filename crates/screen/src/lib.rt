@@ -226,7 +226,7 @@ fn now_at(time: u64, clock: u64) -> Now
 }
 
 // Refusals 2 to 6 and 13 of a line, by the settings and the length of the answer buffer.
-#[tactic(auto, using(crate::proofs::Lines::lines))]
+#[tactic(auto, unfolding(crate::specs::Screen::screened_line))]
 pub fn screen_line(s: State, line: &[u8], room: usize) -> Screened
     ensures { Screens s line.now room result }
 {
