@@ -77,7 +77,7 @@ fn main(rt: HostRuntime) {
     let mut rows = table::fresh_rows();
     let mut keys = table::fresh_keys();
     let mut answer = no_answer();
-    let n = streams::read_full(&mut rt.stdin(), &mut text);
+    let n = streams::read_full(&mut rt.stdin(), &mut text).count;
     print_lines(
         &mut rt.stdout(),
         settings::fresh(),

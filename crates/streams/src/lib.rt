@@ -25,6 +25,7 @@ pub fn read_some<R: Read>(reader: &mut R, buf: &mut [u8]) -> Brought
     ensures within { result.count ≤ length buf.new }
     ensures reads { Consumes (R.remaining reader.old) (R.remaining reader.new) (take result.count buf.new) }
     ensures ends { result.count ≡ 0 → result.failed ≡ false → 0 < length buf.new → IsAtEnd (R.remaining reader.new) }
+    ensures failed { result.failed ≡ true → result.count ≡ 0 }
 {
     match reader.read(buf) {
         Ok(count) => Brought {
@@ -38,20 +39,27 @@ pub fn read_some<R: Read>(reader: &mut R, buf: &mut [u8]) -> Brought
     }
 }
 
-// Reads until the buffer is full, the input ends or reading fails, and returns how many bytes came.
-pub fn read_full<R: Read>(reader: &mut R, buf: &mut [u8]) -> usize
-    ensures within { result ≤ length buf.new }
-    ensures reads { Consumes (R.remaining reader.old) (R.remaining reader.new) (take result buf.new) }
+// Reads until the buffer is full, the input ends or reading fails, and returns how many bytes came, and whether reading failed.
+pub fn read_full<R: Read>(reader: &mut R, buf: &mut [u8]) -> Brought
+    ensures within { result.count ≤ length buf.new }
+    ensures reads { Consumes (R.remaining reader.old) (R.remaining reader.new) (take result.count buf.new) }
+    ensures ends { result.failed ≡ false → result.count < length buf.new → IsAtEnd (R.remaining reader.new) }
 {
     let mut done = 0;
     while done < buf.len() {
-        let count = read_some(reader, &mut buf[done..]).count;
-        if count == 0 {
-            break;
+        let brought = read_some(reader, &mut buf[done..]);
+        if brought.count == 0 {
+            return Brought {
+                count: done,
+                failed: brought.failed,
+            };
         }
-        done += count;
+        done += brought.count;
     }
-    done
+    Brought {
+        count: done,
+        failed: false,
+    }
 }
 
 #[cfg(test)]
@@ -96,7 +104,9 @@ mod tests {
     fn reads_to_the_end(rt: HostRuntime) -> Result<(), Fail> {
         let mut reader: &[u8] = b"abc";
         let mut buf = [0u8; 5];
-        assert_eq!(rt; read_full(&mut reader, &mut buf), 3);
+        let brought = read_full(&mut reader, &mut buf);
+        assert_eq!(rt; brought.count, 3);
+        assert!(rt; !brought.failed);
         assert_eq!(rt; &buf[..], b"abc\0\0".as_slice());
         assert_eq!(rt; read_some(&mut reader, &mut buf).count, 0);
         Ok(())
@@ -106,7 +116,9 @@ mod tests {
     fn a_read_that_fails_brings_nothing(rt: HostRuntime) -> Result<(), Fail> {
         let mut reader = Failing { left: 2 };
         let mut buf = [0u8; 5];
-        assert_eq!(rt; read_full(&mut reader, &mut buf), 2);
+        let brought = read_full(&mut reader, &mut buf);
+        assert_eq!(rt; brought.count, 2);
+        assert!(rt; brought.failed);
         assert_eq!(rt; &buf[..], b"xx\0\0\0".as_slice());
         assert!(rt; read_some(&mut reader, &mut buf).failed);
         Ok(())
