@@ -4,7 +4,7 @@ use mathlib.Core.Path.{◌≡◌, refl, sym, ◌∙◌, ap}
 use mathlib.Core.Logic.{inl, inr}
 use mathlib.Core.Bool.{Bool, true, false, ◌&&◌}
 use mathlib.Core.List.{List, [], ◌∷◌, ◌++◌, map, append_assoc}
-use mathlib.Core.Option.{some}
+use Rattle.std.specs.Prelude.{Some}
 use lib.Dec.{eqb}
 use lib.ListN.{length, length-map}
 use lib.Seq.{take_at}
@@ -55,7 +55,7 @@ module _ (x : Row) (k : is_key x.key ≡ true) where
   line_version = rw line_fields_lem
 
   -- Both dates read back as the row's instants.
-  pub line_created : x.created ≤ latest → read_date (field_of (row_line x) 3) ≡ some x.created
+  pub line_created : x.created ≤ latest → read_date (field_of (row_line x) 3) ≡ Some x.created
   unfolding field_of kind_fields
   line_created h =
       elim (either (is_data x)) [
@@ -63,7 +63,7 @@ module _ (x : Row) (k : is_key x.key ≡ true) where
         | inr d ↦ rw (line_fields_lem, d) (round_trip x.created h)
       ]
 
-  pub line_until : is_data x ≡ true → (x.mode ≡ 0 → ⊥) → x.until ≤ latest → read_date (field_of (row_line x) 7) ≡ some x.until
+  pub line_until : is_data x ≡ true → (x.mode ≡ 0 → ⊥) → x.until ≤ latest → read_date (field_of (row_line x) 7) ≡ Some x.until
   unfolding field_of kind_fields
   line_until d m h = rw (line_fields_lem, d) (until_reads x.mode x.until m h)
 

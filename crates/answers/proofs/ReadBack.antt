@@ -3,7 +3,7 @@ use Prim.Native.Nat.{ℕ, ◌≤◌}
 use mathlib.Core.Path.{◌≡◌, refl, ◌∙◌, ap}
 use mathlib.Core.Bool.{true}
 use mathlib.Core.List.{List, [], ◌∷◌, ◌++◌, append_assoc}
-use mathlib.Core.Option.{some}
+use Rattle.std.specs.Prelude.{Some}
 use lib.Dec.{eqb}
 use borrow.Author.Tests.{ne_eqb}
 use Rattle.buffers.specs.Texts.{bytes}
@@ -39,7 +39,7 @@ unfolding hold_text
 hold_visible h = pick_ways (λ t. visible t ≡ true) (eqb h 0) (λ _. refl) (λ _. refl)
 
 -- The date of a row with a mode reads back.
-pub until_reads : (m d : ℕ) → (m ≡ 0 → ⊥) → d ≤ latest → read_date (until_text m d) ≡ some d
+pub until_reads : (m d : ℕ) → (m ≡ 0 → ⊥) → d ≤ latest → read_date (until_text m d) ≡ Some d
 unfolding until_text
 until_reads m d h l = rw (ne_eqb m 0 h) (round_trip d l)
 

@@ -1,28 +1,21 @@
 -- Laws of writing an answer: a field behind its tab, and the line field by field.
 use Prim.Native.Nat.{ℕ, ◌+◌, ◌*◌, ◌≤◌}
-use mathlib.Core.Path.{◌≡◌}
+use mathlib.Core.Path.{◌≡◌, sym, ◌∙◌}
+use mathlib.Core.Bool.{Bool, true, false}
+use Rattle.model.specs.Rows.{is_data}
 use mathlib.Core.List.{List, [], ◌∷◌, append_assoc}
 use native.Mathlib.Omega.{arith}
 use lib.ListN.{length}
-use borrow.Author.Tests.{eq-eqb, ne_eqb}
 use Rattle.buffers.specs.Texts.{bytes}
 use Rattle.buffers.specs.Writes.{Wrote}
 use Rattle.buffers.proofs.Writes.{wrote_both, wrote_wider}
-use Rattle.calendar.specs.Calendar.{latest}
 use Rattle.text.specs.Printing.{digits}
 use Rattle.model.specs.Refusals.{row_room}
 use Rattle.table.specs.Places.{row_from}
 use Rattle.table.specs.declared.Numbers.{Numbers}
-use Rattle.answers.specs.declared.Answer.{Answer}
-use Rattle.answers.specs.declared.Answer.TheVariants.{Got}
 use Rattle.answers.specs.Text.{longest_answer, fields_text, ok_text, data_fields, marker_fields, kind_fields, fields_behind_key, row_text}
-use Rattle.answers.specs.Meaning.{text_of, Printable}
 
 -- ## A field: with its tab at most 25 bytes
-
-pub tab_then : (out : List ℕ) (a : ℕ) (m : List ℕ) (r : ℕ) (f : List ℕ) (j : ℕ) (exit : List ℕ) (q : ℕ)
-    → Wrote out a (9 ∷ []) 1 m r → Wrote m r f j exit q → a + 25 ≤ length out → j ≤ 24 → Wrote out a (9 ∷ f) 25 exit q
-tab_then out a m r f j exit q x y h n = wrote_wider (wrote_both out a (9 ∷ []) 1 m r f j exit q (omega arith) x y) (omega arith)
 
 pub field_as : (out : List ℕ) (a : ℕ) (f g : List ℕ) (exit : List ℕ) (r : ℕ) → Wrote out a (9 ∷ f) 25 exit r → f ≡ g → Wrote out a (9 ∷ g) 25 exit r
 field_as out a f g exit r w e = rw e at w
@@ -64,18 +57,17 @@ module _ (out m₁ : List ℕ) (r₁ : ℕ) (exit : List ℕ) (r : ℕ) (room : 
   all_fields fs y n = ok_then ok (record { wrote = λ h. y }) room n
 
   module _ (f m₂ : List ℕ) (r₂ : ℕ) (x : Wrote m₁ r₁ (9 ∷ f) 25 m₂ r₂) where
-    pub one_field : Wrote m₂ r₂ (10 ∷ []) 1 exit r → Wrote out 0 (ok_text (f ∷ [])) longest_answer exit r
-    one_field y = ok_then ok (field_then x (feed_last y)) room (omega arith)
-
-    pub two_fields : (g m₃ : List ℕ) (r₃ : ℕ) → Wrote m₂ r₂ (9 ∷ g) 25 m₃ r₃ → Wrote m₃ r₃ (10 ∷ []) 1 exit r → Wrote out 0 (ok_text (f ∷ g ∷ [])) longest_answer exit r
-    two_fields g m₃ r₃ y z = ok_then ok (field_then x (field_then y (feed_last z))) room (omega arith)
-
     pub two_then : (g m₃ : List ℕ) (r₃ : ℕ) (fs : List (List ℕ)) → Wrote m₂ r₂ (9 ∷ g) 25 m₃ r₃ → Wrote m₃ r₃ (fields_text fs) (length fs * 25 + 1) exit r → length fs ≤ 4
         → Wrote out 0 (ok_text (f ∷ g ∷ fs)) longest_answer exit r
     two_then g m₃ r₃ fs y z n = ok_then ok (field_then x (field_then y (record { wrote = λ h. z }))) room (omega arith)
 
-    pub more_fields : (fs : List (List ℕ)) → Wrote m₂ r₂ (fields_text fs) (length fs * 25 + 1) exit r → length fs ≤ 5 → Wrote out 0 (ok_text (f ∷ fs)) longest_answer exit r
-    more_fields fs y n = ok_then ok (field_then x (record { wrote = λ h. y })) room (omega arith)
+module _ (out : List ℕ) (a : ℕ) (f m : List ℕ) (r : ℕ) (exit : List ℕ) (q : ℕ) (x : Wrote out a (9 ∷ f) 25 m r) where
+  pub one_last : a + 26 ≤ length out → Wrote m r (10 ∷ []) 1 exit q → Wrote out a (fields_text (f ∷ [])) 26 exit q
+  one_last room y = (field_then x (feed_last y)).wrote room
+
+  pub one_more : (fs : List (List ℕ)) (n : ℕ) → a + n ≤ length out → Wrote m r (fields_text fs) (length fs * 25 + 1) exit q → length fs * 25 + 26 ≤ n
+      → Wrote out a (fields_text (f ∷ fs)) n exit q
+  one_more fs n room y l = wrote_wider ((field_then x (record { wrote = λ h. y })).wrote (omega arith)) (omega arith)
 
 module _ (out : List ℕ) (a : ℕ) (f m₁ : List ℕ) (r₁ : ℕ) (g m₂ : List ℕ) (r₂ : ℕ) (exit : List ℕ) (r : ℕ)
     (x : Wrote out a (9 ∷ f) 25 m₁ r₁) (y : Wrote m₁ r₁ (9 ∷ g) 25 m₂ r₂) where
@@ -105,13 +97,13 @@ module _ (out : List ℕ) (a : ℕ) (m₁ : List ℕ) (r₁ : ℕ) (f m₂ : Lis
       wrote_wider (field_more (f ∷ fs) (omega arith) w (field_more fs (omega (arith, w.long, w.most)) x y)) (omega arith)
 
 module _ (out : List ℕ) (a : ℕ) (n : Numbers) (m : List ℕ) (r : ℕ) (exit : List ℕ) (q : ℕ) (room : a + 181 ≤ length out) (x : Wrote out a (9 ∷ digits n.number) 25 m r) where
-  pub fields_data : n.kind ≡ 1 → Wrote m r (fields_text (data_fields (row_from n []))) 156 exit q → Wrote out a (fields_text (fields_behind_key (row_from n []))) 181 exit q
+  pub fields_data : (k : Bool) → ((key : List ℕ) → k ≡ is_data (row_from n key)) → k ≡ true → Wrote m r (fields_text (data_fields (row_from n []))) 156 exit q → Wrote out a (fields_text (fields_behind_key (row_from n []))) 181 exit q
   unfolding kind_fields
-  fields_data k y = field_more {k = 156} (kind_fields (row_from n [])) (omega arith) x (rw (eq-eqb n.kind 1 k) y)
+  fields_data k e t y = field_more {k = 156} (kind_fields (row_from n [])) (omega arith) x (rw (sym (e []) ∙ t) y)
 
-  pub fields_marker : (n.kind ≡ 1 → ⊥) → Wrote m r (fields_text (marker_fields n.created)) 156 exit q → Wrote out a (fields_text (fields_behind_key (row_from n []))) 181 exit q
+  pub fields_marker : (k : Bool) → ((key : List ℕ) → k ≡ is_data (row_from n key)) → k ≡ false → Wrote m r (fields_text (marker_fields n.created)) 156 exit q → Wrote out a (fields_text (fields_behind_key (row_from n []))) 181 exit q
   unfolding kind_fields
-  fields_marker k y = field_more {k = 156} (kind_fields (row_from n [])) (omega arith) x (rw (ne_eqb n.kind 1 k) y)
+  fields_marker k e t y = field_more {k = 156} (kind_fields (row_from n [])) (omega arith) x (rw (sym (e []) ∙ t) y)
 
 pub ruleset fields_cases = (fields_data, fields_marker)
 
@@ -123,13 +115,3 @@ module _ (out : List ℕ) (a : ℕ) (key m : List ℕ) (r : ℕ) (h : a + row_ro
       → Wrote out a (row_text (row_from n key)) row_room exit q
   unfolding fields_text kind_fields
   line_wrote n exit q y = rw append_assoc (wrote_wider (wrote_both out a key (length key) m r (fields_text (fields_behind_key (row_from n []))) 181 exit q (omega arith) x y) (omega arith))
-
--- ## An answer
-
-pub answer_as : (out : List ℕ) (k : ℕ) (exit : List ℕ) (r : ℕ) (a b : Answer) → a ≡ b → Wrote out 0 (text_of b) k exit r → Wrote out 0 (text_of a) k exit r
-answer_as out k exit r a b e w = rw e w
-
-pub answer_date : (a : Answer) (n : Numbers) → a ≡ Got n → Printable a → n.until ≤ latest
-answer_date a n e h = rw e at h
-
-pub ruleset answer_cases = (answer_as, answer_date)

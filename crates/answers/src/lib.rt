@@ -12,6 +12,7 @@ ghost use Rattle.table.specs.Places.{row_from};
 ghost use Rattle.answers.specs.Text.{longest_answer, fields_text, ok_text, mode_text, until_text, hold_text, row_fields, data_fields, marker_fields, fields_behind_key, row_text, answer_text};
 ghost use Rattle.answers.specs.Meaning.{totals_mean, text_of, Printable};
 
+use model::Mode;
 use table::Numbers;
 
 // What REPORT answers: how many rows are data, how many are markers, the sum of the data lengths, and how many data rows are locked.
@@ -44,13 +45,13 @@ fn put_number(out: &mut [u8], at: usize, n: u64) -> usize
     text::print_number(out, after_tab, n)
 }
 
-// A tab and a word.
-fn put_word(out: &mut [u8], at: usize, word: &[u8]) -> usize
-    requires { (at + 25 ≤ length out.old) × (length word.now ≤ 24) }
-    ensures { Wrote out.old at (9 ∷ word.now) 25 out.new result }
+// A tab and a word. By value, since a copy from a slice tests whether the two overlap: four instructions a field.
+fn put_word<const N: usize>(out: &mut [u8], at: usize, word: [u8; N]) -> usize
+    requires { (at + 25 ≤ length out.old) × (length word ≤ 24) }
+    ensures { Wrote out.old at (9 ∷ word.entry) 25 out.new result }
 {
     let after_tab = buffers::copy_in(out, at, b"\t");
-    buffers::copy_in(out, after_tab, word)
+    buffers::copy_in(out, after_tab, &word)
 }
 
 // A tab and a date.
@@ -63,39 +64,45 @@ fn put_date(out: &mut [u8], at: usize, instant: u64) -> usize
 }
 
 // A tab and a row's mode.
+#[tactic(auto, using(buffers::proofs::Choices::picks, crate::proofs::Writing::field_as), unfolding(crate::specs::Text::mode_text))]
 fn put_mode(out: &mut [u8], at: usize, mode: u64) -> usize
     requires { at + 25 ≤ length out.old }
     ensures { Wrote out.old at (9 ∷ mode_text mode) 25 out.new result }
 {
+    // A row's words are numbers here and below: C lends tables of any contents, so that a mode may be any number.
     if mode == 0 {
-        return put_word(out, at, b"-");
+        put_word(out, at, *b"-")
+    } else if mode == Mode::Governance.number() {
+        put_word(out, at, *b"GOVERNANCE")
+    } else {
+        put_word(out, at, *b"COMPLIANCE")
     }
-    if mode == model::GOVERNANCE {
-        return put_word(out, at, b"GOVERNANCE");
-    }
-    put_word(out, at, b"COMPLIANCE")
 }
 
 // A tab and a row's retain-until date.
+#[tactic(auto, using(buffers::proofs::Choices::picks, crate::proofs::Writing::field_as), unfolding(crate::specs::Text::until_text))]
 fn put_until(out: &mut [u8], at: usize, mode: u64, until: u64) -> usize
     requires { (at + 25 ≤ length out.old) × (until ≤ latest) }
     ensures { Wrote out.old at (9 ∷ until_text mode until) 25 out.new result }
 {
     if mode == 0 {
-        return put_word(out, at, b"-");
+        put_word(out, at, *b"-")
+    } else {
+        put_date(out, at, until)
     }
-    put_date(out, at, until)
 }
 
 // A tab and a row's hold.
+#[tactic(auto, using(buffers::proofs::Choices::picks, crate::proofs::Writing::field_as), unfolding(crate::specs::Text::hold_text))]
 fn put_hold(out: &mut [u8], at: usize, hold: u64) -> usize
     requires { at + 25 ≤ length out.old }
     ensures { Wrote out.old at (9 ∷ hold_text hold) 25 out.new result }
 {
     if hold == 0 {
-        return put_word(out, at, b"OFF");
+        put_word(out, at, *b"OFF")
+    } else {
+        put_word(out, at, *b"ON")
     }
-    put_word(out, at, b"ON")
 }
 
 // The fields of a row's lock, and the line feed.
@@ -145,10 +152,11 @@ fn put_fields(out: &mut [u8], at: usize, n: Numbers) -> usize
     ensures { Wrote out.old at (fields_text (fields_behind_key (row_from n []))) 181 out.new result }
 {
     let after_number = put_number(out, at, n.number);
-    if n.kind == model::DATA {
-        return put_data(out, after_number, n);
+    if n.is_data() {
+        put_data(out, after_number, n)
+    } else {
+        put_marker(out, after_number, n.created)
     }
-    put_marker(out, after_number, n.created)
 }
 
 // The line of a row in a page, and its line feed.
@@ -160,32 +168,21 @@ pub fn write_line(out: &mut [u8], at: usize, key: &[u8], n: Numbers) -> usize
     put_fields(out, after_key, n)
 }
 
-// `ok` alone.
-fn write_done(out: &mut [u8]) -> usize
-    requires { longest_answer ≤ length out.old }
-    ensures { Wrote out.old 0 (ok_text []) longest_answer out.new result }
+// A number, and the line feed.
+fn put_one(out: &mut [u8], at: usize, n: u64) -> usize
+    requires { at + 26 ≤ length out.old }
+    ensures { Wrote out.old at (fields_text (digits n ∷ [])) 26 out.new result }
 {
-    let after_ok = buffers::copy_in(out, 0, b"ok");
-    buffers::copy_in(out, after_ok, b"\n")
-}
-
-// `ok` and a number: also a page's first line.
-pub fn write_number(out: &mut [u8], n: u64) -> usize
-    requires { longest_answer ≤ length out.old }
-    ensures { Wrote out.old 0 (ok_text (digits n ∷ [])) longest_answer out.new result }
-{
-    let after_ok = buffers::copy_in(out, 0, b"ok");
-    let after_number = put_number(out, after_ok, n);
+    let after_number = put_number(out, at, n);
     buffers::copy_in(out, after_number, b"\n")
 }
 
-// `ok`, a number and a word.
-fn write_word(out: &mut [u8], n: u64, word: &[u8]) -> usize
-    requires { (longest_answer ≤ length out.old) × (length word.now ≤ 24) }
-    ensures { Wrote out.old 0 (ok_text (digits n ∷ word.now ∷ [])) longest_answer out.new result }
+// A number and a word, and the line feed.
+fn put_named<const N: usize>(out: &mut [u8], at: usize, n: u64, word: [u8; N]) -> usize
+    requires { (at + 51 ≤ length out.old) × (length word ≤ 24) }
+    ensures { Wrote out.old at (fields_text (digits n ∷ word.entry ∷ [])) 51 out.new result }
 {
-    let after_ok = buffers::copy_in(out, 0, b"ok");
-    let after_number = put_number(out, after_ok, n);
+    let after_number = put_number(out, at, n);
     let after_word = put_word(out, after_number, word);
     buffers::copy_in(out, after_word, b"\n")
 }
@@ -200,13 +197,22 @@ fn put_two(out: &mut [u8], at: usize, m: u64, n: u64) -> usize
     buffers::copy_in(out, after_second, b"\n")
 }
 
-// `ok` and two numbers.
-fn write_counts(out: &mut [u8], gone: u64, new: u64) -> usize
+// The fields of a row that GET shows, and the line feed.
+fn put_row(out: &mut [u8], at: usize, n: Numbers) -> usize
+    requires { (at + 151 ≤ length out.old) × (n.until ≤ latest) }
+    ensures { Wrote out.old at (fields_text (row_fields (row_from n []))) 151 out.new result }
+{
+    let after_number = put_number(out, at, n.number);
+    put_contents(out, after_number, n)
+}
+
+// `ok` and a number: also a page's first line.
+pub fn write_number(out: &mut [u8], n: u64) -> usize
     requires { longest_answer ≤ length out.old }
-    ensures { Wrote out.old 0 (ok_text (digits gone ∷ digits new ∷ [])) longest_answer out.new result }
+    ensures { Wrote out.old 0 (ok_text (digits n ∷ [])) longest_answer out.new result }
 {
     let after_ok = buffers::copy_in(out, 0, b"ok");
-    put_two(out, after_ok, gone, new)
+    put_one(out, after_ok, n)
 }
 
 // `ok` and REPORT's four numbers.
@@ -220,28 +226,19 @@ pub fn write_totals(out: &mut [u8], t: Totals) -> usize
     put_two(out, after_markers, t.size, t.locked)
 }
 
-// `ok` and the fields of a row.
-fn write_row(out: &mut [u8], n: Numbers) -> usize
-    requires { (longest_answer ≤ length out.old) × (n.until ≤ latest) }
-    ensures { Wrote out.old 0 (ok_text (row_fields (row_from n []))) longest_answer out.new result }
-{
-    let after_ok = buffers::copy_in(out, 0, b"ok");
-    let after_number = put_number(out, after_ok, n.number);
-    put_contents(out, after_number, n)
-}
-
 // Writes the text of an accepted line's answer at the buffer's start, and returns its length.
 pub fn write_answer(out: &mut [u8], answer: Answer) -> usize
     requires { (longest_answer ≤ length out.old) × Printable answer }
     ensures { Wrote out.old 0 (text_of answer) longest_answer out.new result }
 {
+    let after_ok = buffers::copy_in(out, 0, b"ok");
     match answer {
-        Answer::Done => write_done(out),
-        Answer::Made(n) => write_number(out, n),
-        Answer::Marked(n) => write_word(out, n, b"marker"),
-        Answer::Removed(n) => write_word(out, n, b"removed"),
-        Answer::RemovedMarker(n) => write_word(out, n, b"removed-marker"),
-        Answer::Swept(gone, new) => write_counts(out, gone, new),
-        Answer::Got(n) => write_row(out, n),
+        Answer::Done => buffers::copy_in(out, after_ok, b"\n"),
+        Answer::Made(n) => put_one(out, after_ok, n),
+        Answer::Marked(n) => put_named(out, after_ok, n, *b"marker"),
+        Answer::Removed(n) => put_named(out, after_ok, n, *b"removed"),
+        Answer::RemovedMarker(n) => put_named(out, after_ok, n, *b"removed-marker"),
+        Answer::Swept(gone, new) => put_two(out, after_ok, gone, new),
+        Answer::Got(n) => put_row(out, after_ok, n),
     }
 }

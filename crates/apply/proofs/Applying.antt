@@ -2,12 +2,13 @@
 use Prim.Native.Nat.{ℕ, ◌+◌, ◌-◌, ◌≤◌, ◌<◌}
 use mathlib.Core.Path.{◌≡◌, refl, sym, ◌∙◌, ap}
 use mathlib.Core.List.{List}
-use mathlib.Core.Option.{some}
+use Rattle.std.specs.Prelude.{Some}
 use native.Mathlib.Omega.{arith}
 use lib.ListN.{length, get_or, set, length-set}
 use lib.Seq.{drop-cons}
 use Rattle.text.specs.declared.Place.{Place}
 use Rattle.text.specs.Fields.{part_of}
+use Rattle.model.specs.declared.Fate.{Fate}
 use Rattle.model.specs.Rows.{Row}
 use Rattle.table.specs.declared.Numbers.{Numbers}
 use Rattle.table.specs.Layout.{row_at, rows_of, capacity, Holds}
@@ -24,7 +25,7 @@ use mir.Val.{Fits}
 use mir.Syntax.{w64}
 
 -- The key of a used row, read from the list of the rows.
-head_at : (xs : List Row) (i : ℕ) (d : Row) → i < length xs → places.nth_row xs i ≡ some (get_or xs i d)
+head_at : (xs : List Row) (i : ℕ) (d : Row) → i < length xs → places.nth_row xs i ≡ Some (get_or xs i d)
 head_at xs i d h = rw (drop-cons xs i d h)
 
 key_here_lem : (n b : List ℕ) (u i : ℕ) → i < u → key_here (rows_of n b u) i ≡ key_at b i
@@ -33,7 +34,7 @@ key_here_lem n b u i h =
     rw (head_at (rows_of n b u) i d (omega (arith, rows_length n b u))) (ap (λ (x : Row). x.key) (sym (row_at_lem n b u i d h)))
 
 -- A change that can be carried out, at the case that the code found.
-module _ (line : List ℕ) (next instant : ℕ) (fates n b : List ℕ) (u : ℕ) (v : Change) (h : Applicable (judged line next instant fates) n b u v) where
+module _ (line : List ℕ) (next instant : ℕ) (fates : List Fate) (n b : List ℕ) (u : ℕ) (v : Change) (h : Applicable (judged line next instant fates) n b u v) where
   abbrev j : Judged
   j = judged line next instant fates
 

@@ -129,7 +129,7 @@ holds_lay c xs n b h =
 
 pub lay_holds : (c : ℕ) (xs : List Row) (n b : List ℕ) → length xs ≤ c → keys_fit xs ≡ true → Lay (padded c xs) n b → Holds c xs n b
 lay_holds c xs n b r k h =
-    record { numbers_are = h.numbers_are ∙ sym (numbers_padded c xs r); keys_are = h.keys_are ∙ sym (keys_padded c xs r); room = r; keys_fit_lem = k }
+    record { numbers_are = h.numbers_are ∙ sym (numbers_padded c xs r); keys_are = h.keys_are ∙ sym (keys_padded c xs r); room = r; keys_have_room = k }
 
 pub padded_length : (c : ℕ) (xs : List Row) → length xs ≤ c → length (padded c xs) ≡ c
 padded_length c xs h = simp (length-append, length-replicate) (omega arith)

@@ -11,45 +11,43 @@ use Rattle.buffers.specs.Lists.{total}
 use Rattle.buffers.proofs.Lists.{total_append}
 use Rattle.model.specs.Rows.{Row}
 use Rattle.model.specs.Settings.{spent_number}
-use Rattle.model.specs.Sweep.{Fate, stays, goes, gains, in_place, marker, marks, carried_out}
+use Rattle.model.specs.declared.Fate.{Fate}
+use Rattle.model.specs.declared.Fate.TheVariants.{Stays, Goes, Gains}
+use Rattle.model.specs.Sweep.{in_place, marker, marks, carried_out}
 use Rattle.table.specs.Layout.{Holds, numbers_of_row, rows_of, keys_fit, capacity}
 use Rattle.table.proofs.Held.{rows_length}
-use Rattle.lifecycle.specs.Fates.{fate_of, fates_in}
-use Rattle.lifecycle.proofs.Fates.{fates_append, fates_length}
 use Rattle.model.proofs.Sweeping.{carried_append}
 use Rattle.apply.specs.Passes.{kept, unless_gone, InBuffers, Put, Thinned}
 use Rattle.apply.proofs.Flat.{free, padded, padded_length, Lay, lay_numbers, lay_keys, lay_put, lay_set, lay_row, lay_block, holds_lay, lay_holds}
 use Rattle.apply.proofs.Passes.{marks_few, kept_append, kept_marks, carried_length, carried_fit}
-use Rattle.apply.proofs.Removing.{fate_goes, fate_gains, fate_stays, still_there}
 
 -- the fates of the first so many rows, and those of them that are left
-abbrev firsts : List ℕ → ℕ → List Fate
-firsts m j = fates_in (take j m)
+abbrev firsts : List Fate → ℕ → List Fate
+firsts m j = take j m
 
-abbrev stayers : List ℕ → ℕ → List Fate
+abbrev stayers : List Fate → ℕ → List Fate
 stayers m j = kept (firsts m j) (firsts m j)
 
 -- ## The last of the fates
 
-record Last (m : List ℕ) (j : ℕ) (f : Fate) : Type 0 where
+record Last (m : List Fate) (j : ℕ) (f : Fate) : Type 0 where
   stayers_are : stayers m j ≡ stayers m (j - 1) ++ unless_gone f f
   marks_are : total marks (firsts m j) ≡ total marks (firsts m (j - 1)) + marks f
 
-last_fate : (m : List ℕ) (j : ℕ) (f : Fate) → 0 < j → j ≤ length m → fate_of (get_or m (j - 1) 0) ≡ f → Last m j f
+last_fate : (m : List Fate) (j : ℕ) (f : Fate) → 0 < j → j ≤ length m → get_or m (j - 1) Stays ≡ f → Last m j f
 last_fate m j f h g e =
     let q : j ≡ suc (j - 1) = omega arith in
     let a : firsts m j ≡ firsts m (j - 1) ++ (f ∷ []) =
-    ap (firsts m) q ∙ ap fates_in (take-suc m (j - 1) 0 (omega arith)) ∙ fates_append (take (j - 1) m) (get_or m (j - 1) 0 ∷ [])
+    ap (firsts m) q ∙ take-suc m (j - 1) Stays (omega arith)
     ∙ ap (λ (x : Fate). firsts m (j - 1) ++ (x ∷ [])) e in
     record {
       stayers_are = rw (a, kept_append (firsts m (j - 1)) (f ∷ []) (firsts m (j - 1)) (f ∷ []) refl, append-nil);
       marks_are = rw (a, total_append, add-zero);
     }
 
-few_markers : (m : List ℕ) (j k : ℕ) → j ≤ length m → k ≡ total marks (firsts m j) → k ≤ j
+few_markers : (m : List Fate) (j k : ℕ) → j ≤ length m → k ≡ total marks (firsts m j) → k ≤ j
 few_markers m j k h e =
     let a = marks_few (firsts m j) in
-    let b = fates_length (take j m) in
     let d = length-take-le j m h in
     omega arith
 
@@ -58,10 +56,10 @@ few_markers m j k h e =
 carried_none : (t n : ℕ) (fs : List Fate) (xs : List Row) → total marks fs ≡ 0 → length xs ≡ length (kept fs fs) → carried_out t n (kept fs fs) xs ≡ xs
 carried_none t n [] [] e l = refl
 carried_none t n [] (x ∷ xs) e l = absurd (omega arith)
-carried_none t n (goes ∷ fs) xs e l = carried_none t n fs xs (omega arith) l
-carried_none t n (stays ∷ fs) [] e l = absurd (omega arith)
-carried_none t n (stays ∷ fs) (x ∷ xs) e l = ap (λ (q : List Row). x ∷ q) (carried_none t (n + 0) fs xs (omega arith) (omega arith))
-carried_none t n (gains ∷ fs) xs e l = absurd (omega arith)
+carried_none t n (Goes ∷ fs) xs e l = carried_none t n fs xs (omega arith) l
+carried_none t n (Stays ∷ fs) [] e l = absurd (omega arith)
+carried_none t n (Stays ∷ fs) (x ∷ xs) e l = ap (λ (q : List Row). x ∷ q) (carried_none t (n + 0) fs xs (omega arith) (omega arith))
+carried_none t n (Gains ∷ fs) xs e l = absurd (omega arith)
 
 carried_last : (t n : ℕ) (R : List Fate) (f : Fate) (T : List Row) (a b : ℕ) → b ≡ suc a → a < length T → length R ≡ a
     → carried_out t n (R ++ (f ∷ [])) (take b T) ≡ carried_out t n R (take a T) ++ in_place f t (n + total marks R) (get_or T a free)
@@ -74,7 +72,7 @@ drop_set T a x h = rw (set_split T a x h) (drop_at (take a T) (x ∷ drop (suc a
 
 -- ## Where the pass stands: of the first j fates i rows and k markers are to come
 
-pub record Marking (t next u : ℕ) (m : List ℕ) (c : ℕ) (xs : List Row) (n b : List ℕ) (j i k : ℕ) : Type 0 where
+pub record Marking (t next u : ℕ) (m : List Fate) (c : ℕ) (xs : List Row) (n b : List ℕ) (j i k : ℕ) : Type 0 where
   pub table : List Row
   pub lay : Lay table n b
   pub size : length table ≡ c
@@ -90,7 +88,7 @@ pub record Marking (t next u : ℕ) (m : List ℕ) (c : ℕ) (xs : List Row) (n 
   pub numbers : length n ≡ 8 * c
   pub keys : length b ≡ 64 * c
 
-module _ (t next u : ℕ) (m : List ℕ) (c : ℕ) (xs : List Row) where
+module _ (t next u : ℕ) (m : List Fate) (c : ℕ) (xs : List Row) where
   marking_start : (n b : List ℕ) (left added : ℕ) → length xs ≡ left → Holds c xs n b → u ≤ length m → left ≡ length (stayers m u) → added ≡ total marks (firsts m u)
       → left + added ≤ c → next + added ≤ spent_number → Marking t next u m c xs n b u left added
   marking_start n b left added l h g e f r w =
@@ -108,7 +106,7 @@ module _ (t next u : ℕ) (m : List ℕ) (c : ℕ) (xs : List Row) where
         rows = e;
         markers = f;
         behind = few_markers m u added g f;
-        fit = h.keys_fit_lem;
+        fit = h.keys_have_room;
         whole = omega arith;
         most = g;
         room = r;
@@ -140,12 +138,12 @@ module _ (t next u : ℕ) (m : List ℕ) (c : ℕ) (xs : List Row) where
         lay_holds c (carried_out t next (stayers m u) xs) n b p.whole (carried_fit t next (stayers m u) xs p.fit) (rw y at p.lay)
 
     module _ (h : 0 < k) where
-      last : Last m j (fate_of (get_or m (j - 1) 0))
-      last = let q = p.behind in last_fate m j (fate_of (get_or m (j - 1) 0)) (omega arith) p.most refl
+      last : Last m j (get_or m (j - 1) Stays)
+      last = let q = p.behind in last_fate m j (get_or m (j - 1) Stays) (omega arith) p.most refl
 
-      pub mark_goes : get_or m (j - 1) 0 ≡ 1 → Marking t next u m c xs n b (j - 1) i k
+      pub mark_goes : get_or m (j - 1) Stays ≡ Goes → Marking t next u m c xs n b (j - 1) i k
       mark_goes e =
-          let l : Last m j goes = rw (fate_goes (get_or m (j - 1) 0) e) at last in
+          let l : Last m j Goes = rw e at last in
           let a : stayers m j ≡ stayers m (j - 1) = l.stayers_are ∙ append-nil (stayers m (j - 1)) in
           let d = l.marks_are in
           let v = p.markers in
@@ -167,11 +165,11 @@ module _ (t next u : ℕ) (m : List ℕ) (c : ℕ) (xs : List Row) where
             keys = p.keys;
           }
 
-      module _ (e : get_or m (j - 1) 0 ≡ 1 → ⊥) where
+      module _ (f : Fate) (e : get_or m (j - 1) Stays ≡ f) (left : unless_gone f f ≡ f ∷ []) where
         one_less : i ≡ suc (length (stayers m (j - 1)))
         one_less =
-            let l = length-append (stayers m (j - 1)) (fate_of (get_or m (j - 1) 0) ∷ []) in
-            let q = ap length (rw (still_there (get_or m (j - 1) 0) (fate_of (get_or m (j - 1) 0)) e) at last.stayers_are) in
+            let l = length-append (stayers m (j - 1)) (f ∷ []) in
+            let q = ap length (rw (e, left) at last.stayers_are) in
             let r = p.rows in
             omega arith
 
@@ -185,99 +183,98 @@ module _ (t next u : ℕ) (m : List ℕ) (c : ℕ) (xs : List Row) where
         mark_behind = let q : i - 1 + (k - 1) + 1 ≡ i - 1 + k = omega arith in rw q mark_place
 
         -- what is to come, with the last row's part in front of what is done
-        opened : (f : Fate) → fate_of (get_or m (j - 1) 0) ≡ f
-            → carried_out t next (stayers m (j - 1)) (take (i - 1) p.table) ++ in_place f t (next + total marks (firsts m (j - 1))) (get_or p.table (i - 1) free)
+        opened : carried_out t next (stayers m (j - 1)) (take (i - 1) p.table) ++ in_place f t (next + total marks (firsts m (j - 1))) (get_or p.table (i - 1) free)
             ++ drop (suc (i - 1 + k)) p.table
             ≡ padded c (carried_out t next (stayers m u) xs)
-        opened f q =
+        opened =
             let l = one_less in
             let s = p.size in
             let r = p.room in
             let o : i + k ≡ suc (i - 1 + k) = omega arith in
             let a : stayers m j ≡ stayers m (j - 1) ++ (f ∷ []) =
-            rw (still_there (get_or m (j - 1) 0) (fate_of (get_or m (j - 1) 0)) e, q) at last.stayers_are in
+            rw (e, left) at last.stayers_are in
             let d = carried_last t next (stayers m (j - 1)) f p.table (i - 1) i (omega arith) (omega arith) (omega arith) in
             rw (a, d, kept_marks, o) at p.rest
 
-        pub mark_stays : (n' b' : List ℕ) → (get_or m (j - 1) 0 ≡ 2 → ⊥)
-            → Put (i - 1 + k) (take 8 (drop (8 * (i - 1)) n)) (take 64 (drop (64 * (i - 1)) b)) n b n' b' → Marking t next u m c xs n' b' (j - 1) (i - 1) k
-        mark_stays n' b' g w =
-            let x : Row = get_or p.table (i - 1) free in
-            let l = one_less in
-            let s = p.size in
-            let r = p.room in
-            let q = fate_stays (get_or m (j - 1) 0) e g in
-            let d = rw q at last.marks_are in
-            let v = p.markers in
-            let y = p.most in
-            let z = length-set p.table (i - 1 + k) x in
-            let o = rw append_snoc at (opened stays q) in
-            let lay' = lay_set p.lay (i - 1 + k) x (take 8 (drop (8 * (i - 1)) n)) (take 64 (drop (64 * (i - 1)) b)) n' b' (omega arith)
-            (lay_row p.lay (i - 1) (omega arith)) (lay_block p.lay (i - 1) (omega arith)) w in
-            record {
-              table = set p.table (i - 1 + k) x;
-              lay = lay';
-              size = z ∙ s;
-              rest = rw (take-set-le (i - 1) p.table (i - 1 + k) x (omega arith), drop_set p.table (i - 1 + k) x (omega arith)) o;
-              rows = omega arith;
-              markers = omega arith;
-              behind = few_markers m (j - 1) k (omega arith) (omega arith);
-              fit = p.fit;
-              whole = p.whole;
-              most = omega arith;
-              room = omega arith;
-              few = p.few;
-              numbers = let a = lay_numbers lay' in omega arith;
-              keys = let a = lay_keys lay' in omega arith;
-            }
+      pub mark_stays : (n' b' : List ℕ) → get_or m (j - 1) Stays ≡ Stays
+          → Put (i - 1 + k) (take 8 (drop (8 * (i - 1)) n)) (take 64 (drop (64 * (i - 1)) b)) n b n' b' → Marking t next u m c xs n' b' (j - 1) (i - 1) k
+      mark_stays n' b' g w =
+          let x : Row = get_or p.table (i - 1) free in
+          let l = one_less Stays g refl in
+          let s = p.size in
+          let r = p.room in
+          let q = g in
+          let d = rw q at last.marks_are in
+          let v = p.markers in
+          let y = p.most in
+          let z = length-set p.table (i - 1 + k) x in
+          let o = rw append_snoc at (opened Stays g refl) in
+          let lay' = lay_set p.lay (i - 1 + k) x (take 8 (drop (8 * (i - 1)) n)) (take 64 (drop (64 * (i - 1)) b)) n' b' (omega arith)
+          (lay_row p.lay (i - 1) (omega arith)) (lay_block p.lay (i - 1) (omega arith)) w in
+          record {
+            table = set p.table (i - 1 + k) x;
+            lay = lay';
+            size = z ∙ s;
+            rest = rw (take-set-le (i - 1) p.table (i - 1 + k) x (omega arith), drop_set p.table (i - 1 + k) x (omega arith)) o;
+            rows = omega arith;
+            markers = omega arith;
+            behind = few_markers m (j - 1) k (omega arith) (omega arith);
+            fit = p.fit;
+            whole = p.whole;
+            most = omega arith;
+            room = omega arith;
+            few = p.few;
+            numbers = let a = lay_numbers lay' in omega arith;
+            keys = let a = lay_keys lay' in omega arith;
+          }
 
-        pub mark_gains : (n' b' : List ℕ) → get_or m (j - 1) 0 ≡ 2
-            → Put (i - 1 + (k - 1)) (numbers_of_row (marker t (next + (k - 1)) []) ++ take 8 (drop (8 * (i - 1)) n)) (take 64 (drop (64 * (i - 1)) b) ++ take 64 (drop (64 * (i - 1)) b)) n b n' b'
-            → Marking t next u m c xs n' b' (j - 1) (i - 1) (k - 1)
-        mark_gains n' b' g w =
-            let x : Row = get_or p.table (i - 1) free in
-            let mk : Row = marker t (next + (k - 1)) x.key in
-            let two : List Row = mk ∷ x ∷ [] in
-            let T : List Row = take (i - 1 + (k - 1)) p.table ++ two ++ drop (i - 1 + (k - 1) + 2) p.table in
-            let l = one_less in
-            let s = p.size in
-            let r = p.room in
-            let q = fate_gains (get_or m (j - 1) 0) g in
-            let d = rw q at last.marks_are in
-            let v = p.markers in
-            let y = p.most in
-            let up : suc (i - 1 + k) ≡ i - 1 + (k - 1) + 2 = omega arith in
-            let now : next + total marks (firsts m (j - 1)) ≡ next + (k - 1) = omega arith in
-            let o = rw (now, up, append_assoc) at (opened gains q) in
-            let lay' = lay_put p.lay (i - 1 + (k - 1)) two _ _ n' b' (omega arith)
-            (rw (lay_row p.lay (i - 1) (omega arith)) refl)
-            (rw (lay_block p.lay (i - 1) (omega arith), append-nil) refl) w in
-            let h₁ = length-take-le (i - 1 + (k - 1)) p.table (omega arith) in
-            let f : take (i - 1) T ≡ take (i - 1) p.table =
-            rw (append_assoc, take-append-le (i - 1) (take (i - 1 + (k - 1)) p.table) (two ++ drop (i - 1 + (k - 1) + 2) p.table) (omega arith)) (take-take (i - 1) (i - 1 + (k - 1)) p.table (omega arith)) in
-            let f₂ : drop (i - 1 + (k - 1)) T ≡ two ++ drop (i - 1 + (k - 1) + 2) p.table =
-            rw append_assoc (drop_at (take (i - 1 + (k - 1)) p.table) (two ++ drop (i - 1 + (k - 1) + 2) p.table) (i - 1 + (k - 1)) h₁) in
-            let z : length T ≡ c = simp (length-append, length-take-le (i - 1 + (k - 1)) p.table (omega arith), length-drop) (omega arith) in
-            record {
-              table = T;
-              lay = lay';
-              size = z;
-              rest = rw (f, f₂) o;
-              rows = omega arith;
-              markers = omega arith;
-              behind = few_markers m (j - 1) (k - 1) (omega arith) (omega arith);
-              fit = p.fit;
-              whole = p.whole;
-              most = omega arith;
-              room = omega arith;
-              few = let a = p.few in omega arith;
-              numbers = let a = lay_numbers lay' in omega arith;
-              keys = let a = lay_keys lay' in omega arith;
-            }
+      pub mark_gains : (n' b' : List ℕ) → get_or m (j - 1) Stays ≡ Gains
+          → Put (i - 1 + (k - 1)) (numbers_of_row (marker t (next + (k - 1)) []) ++ take 8 (drop (8 * (i - 1)) n)) (take 64 (drop (64 * (i - 1)) b) ++ take 64 (drop (64 * (i - 1)) b)) n b n' b'
+          → Marking t next u m c xs n' b' (j - 1) (i - 1) (k - 1)
+      mark_gains n' b' g w =
+          let x : Row = get_or p.table (i - 1) free in
+          let mk : Row = marker t (next + (k - 1)) x.key in
+          let two : List Row = mk ∷ x ∷ [] in
+          let T : List Row = take (i - 1 + (k - 1)) p.table ++ two ++ drop (i - 1 + (k - 1) + 2) p.table in
+          let l = one_less Gains g refl in
+          let s = p.size in
+          let r = p.room in
+          let q = g in
+          let d = rw q at last.marks_are in
+          let v = p.markers in
+          let y = p.most in
+          let up : suc (i - 1 + k) ≡ i - 1 + (k - 1) + 2 = omega arith in
+          let now : next + total marks (firsts m (j - 1)) ≡ next + (k - 1) = omega arith in
+          let o = rw (now, up, append_assoc) at (opened Gains g refl) in
+          let lay' = lay_put p.lay (i - 1 + (k - 1)) two _ _ n' b' (omega arith)
+          (rw (lay_row p.lay (i - 1) (omega arith)) refl)
+          (rw (lay_block p.lay (i - 1) (omega arith), append-nil) refl) w in
+          let h₁ = length-take-le (i - 1 + (k - 1)) p.table (omega arith) in
+          let f : take (i - 1) T ≡ take (i - 1) p.table =
+          rw (append_assoc, take-append-le (i - 1) (take (i - 1 + (k - 1)) p.table) (two ++ drop (i - 1 + (k - 1) + 2) p.table) (omega arith)) (take-take (i - 1) (i - 1 + (k - 1)) p.table (omega arith)) in
+          let f₂ : drop (i - 1 + (k - 1)) T ≡ two ++ drop (i - 1 + (k - 1) + 2) p.table =
+          rw append_assoc (drop_at (take (i - 1 + (k - 1)) p.table) (two ++ drop (i - 1 + (k - 1) + 2) p.table) (i - 1 + (k - 1)) h₁) in
+          let z : length T ≡ c = simp (length-append, length-take-le (i - 1 + (k - 1)) p.table (omega arith), length-drop) (omega arith) in
+          record {
+            table = T;
+            lay = lay';
+            size = z;
+            rest = rw (f, f₂) o;
+            rows = omega arith;
+            markers = omega arith;
+            behind = few_markers m (j - 1) (k - 1) (omega arith) (omega arith);
+            fit = p.fit;
+            whole = p.whole;
+            most = omega arith;
+            room = omega arith;
+            few = let a = p.few in omega arith;
+            numbers = let a = lay_numbers lay' in omega arith;
+            keys = let a = lay_keys lay' in omega arith;
+          }
 
-pub mark_start : (t next u : ℕ) (m : List ℕ) (n b : List ℕ) (left added : ℕ) → Thinned n b left u m added next
+pub mark_start : (t next u : ℕ) (m : List Fate) (n b : List ℕ) (left added : ℕ) → Thinned n b left u m added next
     → Marking t next u m (capacity b) (rows_of n b left) n b u left added
 mark_start t next u m n b left added h =
     marking_start t next u m (capacity b) (rows_of n b left) n b left added (rows_length n b left) h.holds h.each h.rest h.markers h.room h.numbers
 
-pub ruleset mark_cases = (mark_start, mark_goes, mark_row, mark_place, mark_behind, mark_stays, mark_gains, mark_end)
+pub ruleset mark_cases = (refl, mark_start, mark_goes, mark_row, mark_place, mark_behind, mark_stays, mark_gains, mark_end)

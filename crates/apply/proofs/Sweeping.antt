@@ -5,12 +5,11 @@ use mathlib.Core.List.{List}
 use native.Mathlib.Omega.{arith}
 use lib.ListN.{length, take, length-take}
 use Rattle.buffers.specs.Lists.{total}
+use Rattle.model.specs.declared.Fate.{Fate}
 use Rattle.model.specs.Sweep.{marks, removes, carried_out}
 use Rattle.model.proofs.Room.{length_carried}
 use Rattle.table.specs.Layout.{rows_of, capacity, Holds}
 use Rattle.table.proofs.Held.{rows_length}
-use Rattle.lifecycle.specs.Fates.{fates_in}
-use Rattle.lifecycle.proofs.Fates.{fates_length}
 use Rattle.apply.specs.Passes as passes
 use Rattle.judge.specs.declared.Change.{Change}
 use Rattle.judge.specs.declared.Change.TheVariants.{Sweep}
@@ -19,7 +18,7 @@ use Rattle.apply.specs.Applied.{judged, Applicable, Applied}
 use mir.Val.{Fits}
 use mir.Syntax.{w64}
 
-module _ (line : List ℕ) (next instant : ℕ) (fates n b : List ℕ) (u : ℕ) (v : Change) (h : Applicable (judged line next instant fates) n b u v) (gone new : ℕ) (q : v ≡ Sweep gone new) where
+module _ (line : List ℕ) (next instant : ℕ) (fates : List Fate) (n b : List ℕ) (u : ℕ) (v : Change) (h : Applicable (judged line next instant fates) n b u v) (gone new : ℕ) (q : v ≡ Sweep gone new) where
   abbrev j : Judged
   j = judged line next instant fates
 
@@ -33,12 +32,12 @@ module _ (line : List ℕ) (next instant : ℕ) (fates n b : List ℕ) (u : ℕ)
   fates_fit = omega (arith, long, can.5)
 
   -- The fates, counted by the used rows or by the list of them.
-  fates_are : fates_in (take (length (rows_of n b u)) j.fates) ≡ fates_in (take u j.fates)
-  fates_are = ap (λ (k : ℕ). fates_in (take k j.fates)) long
+  fates_are : take (length (rows_of n b u)) j.fates ≡ take u j.fates
+  fates_are = ap (λ (k : ℕ). take k j.fates) long
 
   pub sweep_ready : passes.Carriable n b u fates gone new next
   sweep_ready =
-      let g : gone ≡ total removes (fates_in (take u fates)) = can.0 ∙ ap (total removes) fates_are in
+      let g : gone ≡ total removes (take u fates) = can.0 ∙ ap (total removes) fates_are in
       record {
         holds = h.held;
         each = fates_fit;
@@ -57,10 +56,10 @@ module _ (line : List ℕ) (next instant : ℕ) (fates n b : List ℕ) (u : ℕ)
   pub sweep_gone : gone ≤ u
   sweep_gone = omega (arith, long, can.3)
 
-  pub swept : (n' b' : List ℕ) → Holds (capacity b) (carried_out instant next (passes.fates_of u fates) (rows_of n b u)) n' b' → Applied j (capacity b) (rows_of n b u) v n' b' (record { used = u - gone + new; next = next + new })
+  pub swept : (n' b' : List ℕ) → Holds (capacity b) (carried_out instant next (take u fates) (rows_of n b u)) n' b' → Applied j (capacity b) (rows_of n b u) v n' b' (record { used = u - gone + new; next = next + new })
   swept n' b' d =
-      let fl : length (fates_in (take (length (rows_of n b u)) j.fates)) ≡ length (rows_of n b u) = fates_length (take (length (rows_of n b u)) j.fates) ∙ simp length-take (omega (arith, can.5)) in
-      let l = length_carried j.now j.next (fates_in (take (length (rows_of n b u)) j.fates)) (rows_of n b u) fl in
+      let fl : length (take (length (rows_of n b u)) j.fates) ≡ length (rows_of n b u) = simp length-take (omega (arith, can.5)) in
+      let l = length_carried j.now j.next (take (length (rows_of n b u)) j.fates) (rows_of n b u) fl in
       rw q (record {
         held = rw fates_are d;
         used_is = omega (arith, long, can.0, can.1, can.3);

@@ -6,34 +6,33 @@ use native.Mathlib.Omega.{arith}
 use lib.ListN.{length, take}
 use lib.Seq.{length-take-le}
 use Rattle.buffers.specs.Lists.{total}
+use Rattle.model.specs.declared.Fate.{Fate}
 use Rattle.model.specs.Sweep.{removes, carried_out}
 use Rattle.table.specs.Layout.{Holds, rows_of, capacity}
 use Rattle.table.proofs.Held.{rows_length, held_capacity, held_rows, held_again}
-use Rattle.lifecycle.proofs.Fates.{fates_length}
-use Rattle.apply.specs.Passes.{kept, fates_of, Carriable, Thinned, Remaining}
+use Rattle.apply.specs.Passes.{kept, Carriable, Thinned, Remaining}
 use Rattle.apply.proofs.Passes.{kept_length, kept_all, two_passes}
 
 -- No row goes.
-pub none_goes : (n b : List ℕ) (used : ℕ) (m : List ℕ) (gone : ℕ) → Holds (capacity b) (rows_of n b used) n b → used ≤ length m
-    → gone ≡ total removes (fates_of used m) → gone ≡ 0 → Remaining (capacity b) (kept (fates_of used m) (rows_of n b used)) n b used
+pub none_goes : (n b : List ℕ) (used : ℕ) (m : List Fate) (gone : ℕ) → Holds (capacity b) (rows_of n b used) n b → used ≤ length m
+    → gone ≡ total removes (take used m) → gone ≡ 0 → Remaining (capacity b) (kept (take used m) (rows_of n b used)) n b used
 none_goes n b used m gone h g e z =
     let l = rows_length n b used in
-    let f = fates_length (take used m) in
     let t = length-take-le used m g in
-    let k : kept (fates_of used m) (rows_of n b used) ≡ rows_of n b used = kept_all (fates_of used m) (rows_of n b used) (omega arith) (sym e ∙ z) in
+    let k : kept (take used m) (rows_of n b used) ≡ rows_of n b used = kept_all (take used m) (rows_of n b used) (omega arith) (sym e ∙ z) in
     rw k (record { holds = h; many = sym l })
 
-module _ (n b : List ℕ) (used : ℕ) (m : List ℕ) (gone added next : ℕ) (h : Carriable n b used m gone added next) (n₁ b₁ : List ℕ) (left : ℕ)
-    (d : Remaining (capacity b) (kept (fates_of used m) (rows_of n b used)) n₁ b₁ left) where
-  fates_many : length (fates_of used m) ≡ used
-  fates_many = fates_length (take used m) ∙ length-take-le used m h.each
+module _ (n b : List ℕ) (used : ℕ) (m : List Fate) (gone added next : ℕ) (h : Carriable n b used m gone added next) (n₁ b₁ : List ℕ) (left : ℕ)
+    (d : Remaining (capacity b) (kept (take used m) (rows_of n b used)) n₁ b₁ left) where
+  fates_many : length (take used m) ≡ used
+  fates_many = length-take-le used m h.each
 
   pub thinned : Thinned n₁ b₁ left used m added next
   thinned =
       let f = fates_many in
       let l = rows_length n b used in
-      let a = kept_length (fates_of used m) (rows_of n b used) (l ∙ sym f) in
-      let o = kept_length (fates_of used m) (fates_of used m) refl in
+      let a = kept_length (take used m) (rows_of n b used) (l ∙ sym f) in
+      let o = kept_length (take used m) (take used m) refl in
       let e = d.many in
       let r = h.room in
       let q = held_capacity d.holds in
@@ -46,10 +45,10 @@ module _ (n b : List ℕ) (used : ℕ) (m : List ℕ) (gone added next : ℕ) (h
         numbers = h.numbers;
       }
 
-  pub carried : (t : ℕ) (n₂ b₂ : List ℕ) → Holds (capacity b₁) (carried_out t next (kept (fates_of used m) (fates_of used m)) (rows_of n₁ b₁ left)) n₂ b₂
-      → Holds (capacity b) (carried_out t next (fates_of used m) (rows_of n b used)) n₂ b₂
+  pub carried : (t : ℕ) (n₂ b₂ : List ℕ) → Holds (capacity b₁) (carried_out t next (kept (take used m) (take used m)) (rows_of n₁ b₁ left)) n₂ b₂
+      → Holds (capacity b) (carried_out t next (take used m) (rows_of n b used)) n₂ b₂
   carried t n₂ b₂ p =
-      let r : rows_of n₁ b₁ left ≡ kept (fates_of used m) (rows_of n b used) = ap (rows_of n₁ b₁) d.many ∙ held_rows d.holds in
+      let r : rows_of n₁ b₁ left ≡ kept (take used m) (rows_of n b used) = ap (rows_of n₁ b₁) d.many ∙ held_rows d.holds in
       rw (held_capacity d.holds, r, two_passes) at p
 
 pub ruleset whole_cases = (thinned, carried)

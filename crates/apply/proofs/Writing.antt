@@ -1,30 +1,16 @@
 -- Laws of a row read into arrays and written again.
-use Prim.Native.Nat.{ℕ, ◌+◌, ◌-◌, ◌*◌, ◌≤◌}
+use Prim.Native.Nat.{ℕ, ◌+◌, ◌*◌}
 use mathlib.Core.Path.{◌≡◌, refl, ap, ◌∙◌}
-use mathlib.Core.List.{List, [], ◌++◌, append-nil}
+use mathlib.Core.List.{List, ◌++◌}
 use native.Mathlib.Omega.{arith}
-use lib.ListN.{length, take, drop, length-take, length-drop, drop_of_length-le}
-use Rattle.buffers.specs.Writes.{Wrote}
+use lib.ListN.{length, take, drop}
 use Rattle.buffers.proofs.Writes.{placed_twice}
 use Rattle.buffers.proofs.Parts.{placed_same}
 use Rattle.apply.specs.Passes.{InBuffers, Put}
 
--- An array that is written whole holds what was written.
-pub read_whole : (zeros l : List ℕ) (a k m r : ℕ) (out : List ℕ) → Wrote zeros 0 (take (a + k - a) (drop a l)) m out r → length zeros ≡ k → a + k ≤ length l
-    → out ≡ take k (drop a l)
-read_whole zeros l a k m r out w e h =
-    let q : a + k - a ≡ k = omega arith in
-    let s : length (take k (drop a l)) ≡ k = simp (length-take, length-drop) (omega arith) in
-    let d : drop (0 + length (take k (drop a l))) zeros ≡ [] = drop_of_length-le zeros {i = 0 + length (take k (drop a l))} (omega arith) in
-    rw q at w.holds ∙ ap (λ (t : List ℕ). take k (drop a l) ++ t) d ∙ append-nil (take k (drop a l))
-
 -- What is written is what was read.
 pub put_as : (at : ℕ) (x y xs ys n b n' b' : List ℕ) → Put at x y n b n' b' → x ≡ xs → y ≡ ys → Put at xs ys n b n' b'
 put_as at x y xs ys n b n' b' p e f = record { numbers_are = p.numbers_are ∙ rw e; keys_are = p.keys_are ∙ rw f }
-
--- The same in both halves.
-pub put_as_both : (at : ℕ) (f x y xs ys n b n' b' : List ℕ) → Put at (f ++ x) (y ++ y) n b n' b' → x ≡ xs → y ≡ ys → Put at (f ++ xs) (ys ++ ys) n b n' b'
-put_as_both at f x y xs ys n b n' b' p e h = record { numbers_are = p.numbers_are ∙ rw e; keys_are = p.keys_are ∙ rw h }
 
 pub put_same : (from to : ℕ) (n b : List ℕ) → from ≡ to → InBuffers from n b → Put to (take 8 (drop (8 * from) n)) (take 64 (drop (64 * from) b)) n b n b
 put_same from to n b e p =

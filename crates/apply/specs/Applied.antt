@@ -1,5 +1,6 @@
 -- A change of the table: when it can be carried out, and what it then leaves.
 use Rattle.std.specs.Prelude.{ℕ, ◌+◌, ◌≤◌, ◌≡◌, List, length}
+use Rattle.model.specs.declared.Fate.{Fate}
 use Rattle.model.specs.Rows.{Row}
 use Rattle.table.specs.Layout.{rows_of, capacity, Holds}
 use Rattle.judge.specs.declared.Change.{Change}
@@ -7,7 +8,7 @@ use Rattle.judge.specs.Meaning.{Judged, change_means, change_takes, Changeable}
 use Rattle.apply.specs.declared.Progress.{Progress}
 
 -- what is judged, beside the change
-abbrev pub judged : List ℕ → ℕ → ℕ → List ℕ → Judged
+abbrev pub judged : List ℕ → ℕ → ℕ → List Fate → Judged
 judged line next now fates = record { line = line; next = next; now = now; fates = fates }
 
 -- The buffers hold their rows, and these can be changed so.

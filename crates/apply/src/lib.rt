@@ -7,6 +7,7 @@ ghost use Rattle.table.specs.Layout.{rows_of, capacity};
 ghost use Rattle.apply.specs.Applied.{judged, Applicable, Applied};
 
 use judge::Change;
+use model::Fate;
 
 // The counts of a table after a change: the used rows and the next version number.
 #[derive(Clone, Copy)]
@@ -24,7 +25,7 @@ pub fn apply_change(
     next: u64,
     change: Change,
     instant: u64,
-    fates: &[u8],
+    fates: &[Fate],
 ) -> Progress
     requires { Applicable (judged line.now next instant fates.now) rows.old keys.old used change }
     ensures { Applied (judged line.now next instant fates.now) (capacity keys.old) (rows_of rows.old keys.old used) change rows.new keys.new result }

@@ -3,28 +3,18 @@ ghost use Rattle.std.specs.Prelude.{◌≡◌, [], ◌++◌, ◌+◌, ◌-◌, �
 ghost use Rattle.buffers.specs.Lists.{total};
 ghost use Rattle.model.specs.Sweep.{marker, removes, carried_out};
 ghost use Rattle.table.specs.Layout.{Holds, numbers_of_row, rows_of, capacity};
-ghost use Rattle.apply.specs.Passes.{kept, fates_of, Carriable, Thinned, Remaining, InBuffers, Put};
+ghost use Rattle.apply.specs.Passes.{kept, Carriable, Thinned, Remaining, InBuffers, Put};
 
-// The numbers of the row at a place.
-fn numbers_in(rows: &[u64], at: usize) -> [u64; 8]
-    requires { 8 * at + 8 ≤ length rows.now }
-    ensures { result ≡ take 8 (drop (8 * at) rows.now) }
-{
-    let start = 8 * at;
-    let mut numbers = [0u64; 8];
-    buffers::copy_in_numbers(&mut numbers, 0, &rows[start..start + 8]);
-    numbers
-}
+use model::{Fate, Kind};
 
-// The key bytes of the row at a place.
-fn block_in(keys: &[u8], at: usize) -> [u8; 64]
-    requires { 64 * at + 64 ≤ length keys.now }
-    ensures { result ≡ take 64 (drop (64 * at) keys.now) }
+// The N elements of the row at a place: its eight numbers, or its 64 key bytes.
+#[tactic(auto, using(buffers::proofs::Parts::part_cut))]
+fn part_at<T: Copy, const N: usize>(items: &[T], at: usize) -> [T; N]
+    requires { N * at + N ≤ length items.now }
+    ensures { result ≡ take N (drop (N * at) items.now) }
 {
-    let start = 64 * at;
-    let mut block = [0u8; 64];
-    buffers::copy_in(&mut block, 0, &keys[start..start + 64]);
-    block
+    let start = N * at;
+    items[start..start + N].try_into().unwrap()
 }
 
 // Writes a row at a place.
@@ -32,7 +22,7 @@ fn put_row(rows: &mut [u64], keys: &mut [u8], at: usize, numbers: [u64; 8], bloc
     requires { InBuffers at rows.old keys.old }
     ensures { Put at numbers block rows.old keys.old rows.new keys.new }
 {
-    buffers::copy_in_numbers(rows, 8 * at, &numbers);
+    buffers::copy_in(rows, 8 * at, &numbers);
     buffers::copy_in(keys, 64 * at, &block);
 }
 
@@ -44,8 +34,8 @@ fn copy_row(rows: &mut [u64], keys: &mut [u8], from: usize, to: usize)
     if from == to {
         return;
     }
-    let numbers = numbers_in(rows, from);
-    let block = block_in(keys, from);
+    let numbers: [u64; 8] = part_at(rows, from);
+    let block: [u8; 64] = part_at(keys, from);
     put_row(rows, keys, to, numbers, block);
 }
 
@@ -77,9 +67,9 @@ fn copy_row_with_marker(
     requires { InBuffers from rows.old keys.old × InBuffers (to + 1) rows.old keys.old }
     ensures { Put to (numbers_of_row (marker stamp number []) ++ take 8 (drop (8 * from) rows.old)) (take 64 (drop (64 * from) keys.old) ++ take 64 (drop (64 * from) keys.old)) rows.old keys.old rows.new keys.new }
 {
-    let numbers = numbers_in(rows, from);
-    let block = block_in(keys, from);
-    let marker = [number, model::MARKER, stamp, 0, 0, 0, 0, 0];
+    let numbers: [u64; 8] = part_at(rows, from);
+    let block: [u8; 64] = part_at(keys, from);
+    let marker = [number, Kind::Marker.number(), stamp, 0, 0, 0, 0, 0];
     put_two_rows(rows, keys, to, marker, numbers, block);
 }
 
@@ -88,21 +78,18 @@ fn free_rows(rows: &mut [u64], keys: &mut [u8], at: usize, count: usize)
     requires { (8 * at + 8 * count ≤ length rows.old) × (64 * at + 64 * count ≤ length keys.old) }
     ensures { Put at (replicate (8 * count) 0) (replicate (64 * count) 0) rows.old keys.old rows.new keys.new }
 {
-    buffers::put_zero_numbers(rows, 8 * at, 8 * count);
-    buffers::put_zero_bytes(keys, 64 * at, 64 * count);
+    buffers::fill_in(rows, 8 * at, 8 * count, 0);
+    buffers::fill_in(keys, 64 * at, 64 * count, 0);
 }
 
 // Leaves out the rows that go, and returns how many are left. Each row is copied at most once.
-fn remove_rows(rows: &mut [u64], keys: &mut [u8], used: usize, fates: &[u8]) -> usize
+fn remove_rows(rows: &mut [u64], keys: &mut [u8], used: usize, fates: &[Fate]) -> usize
     requires { Holds (capacity keys.old) (rows_of rows.old keys.old used) rows.old keys.old × (used ≤ length fates.now) }
-    ensures { Remaining (capacity keys.old) (kept (fates_of used fates.now) (rows_of rows.old keys.old used)) rows.new keys.new result }
+    ensures { Remaining (capacity keys.old) (kept (take used fates.now) (rows_of rows.old keys.old used)) rows.new keys.new result }
 {
     let mut left = 0;
-    let mut i = 0;
-    while i < used {
-        let at = i;
-        i += 1;
-        if fates[at] != model::GOES {
+    for at in 0..used {
+        if fates[at] != Fate::Goes {
             copy_row(rows, keys, at, left);
             left += 1;
         }
@@ -112,10 +99,10 @@ fn remove_rows(rows: &mut [u64], keys: &mut [u8], used: usize, fates: &[u8]) -> 
 }
 
 // Leaves out the rows that go, if any, and returns how many are left.
-fn thin(rows: &mut [u64], keys: &mut [u8], used: usize, fates: &[u8], gone: usize) -> usize
+fn thin(rows: &mut [u64], keys: &mut [u8], used: usize, fates: &[Fate], gone: usize) -> usize
     requires holds { Holds (capacity keys.old) (rows_of rows.old keys.old used) rows.old keys.old × (used ≤ length fates.now) }
-    requires gone_value { gone ≡ total removes (fates_of used fates.now) }
-    ensures { Remaining (capacity keys.old) (kept (fates_of used fates.now) (rows_of rows.old keys.old used)) rows.new keys.new result }
+    requires gone_value { gone ≡ total removes (take used fates.now) }
+    ensures { Remaining (capacity keys.old) (kept (take used fates.now) (rows_of rows.old keys.old used)) rows.new keys.new result }
 {
     if gone == 0 {
         return used;
@@ -129,27 +116,30 @@ fn insert_markers(
     keys: &mut [u8],
     left: usize,
     used: usize,
-    fates: &[u8],
+    fates: &[Fate],
     added: usize,
     next: u64,
     stamp: u64,
 )
     requires { Thinned rows.old keys.old left used fates.now added next }
-    ensures { Holds (capacity keys.old) (carried_out stamp next (kept (fates_of used fates.now) (fates_of used fates.now)) (rows_of rows.old keys.old left)) rows.new keys.new }
+    ensures { Holds (capacity keys.old) (carried_out stamp next (kept (take used fates.now) (take used fates.now)) (rows_of rows.old keys.old left)) rows.new keys.new }
 {
     let mut j = used;
     let mut i = left;
     let mut k = added;
+    // Three places go back, each at a pace of its own, so that no range counts them.
     while 0 < k {
         j -= 1;
-        let fate = fates[j];
-        if fate != model::GOES {
-            i -= 1;
-            if fate == model::GAINS {
+        match fates[j] {
+            Fate::Goes => {}
+            Fate::Stays => {
+                i -= 1;
+                copy_row(rows, keys, i, i + k);
+            }
+            Fate::Gains => {
+                i -= 1;
                 k -= 1;
                 copy_row_with_marker(rows, keys, i, i + k, next + k as u64, stamp);
-            } else {
-                copy_row(rows, keys, i, i + k);
             }
         }
     }
@@ -160,14 +150,14 @@ pub fn carry_out(
     rows: &mut [u64],
     keys: &mut [u8],
     used: usize,
-    fates: &[u8],
+    fates: &[Fate],
     gone: usize,
     added: usize,
     next: u64,
     stamp: u64,
 )
     requires { Carriable rows.old keys.old used fates.now gone added next }
-    ensures { Holds (capacity keys.old) (carried_out stamp next (fates_of used fates.now) (rows_of rows.old keys.old used)) rows.new keys.new }
+    ensures { Holds (capacity keys.old) (carried_out stamp next (take used fates.now) (rows_of rows.old keys.old used)) rows.new keys.new }
 {
     let left = thin(rows, keys, used, fates, gone);
     insert_markers(rows, keys, left, used, fates, added, next, stamp);

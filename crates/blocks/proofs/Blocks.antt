@@ -55,9 +55,6 @@ block_short b e =
 
 -- ## A key cut out, and written
 
-pub key_cut : (b : List ℕ) (n : ℕ) → take (n + 1 - 1) (drop 1 b) ≡ take n (drop 1 b)
-key_cut b n = let q : n + 1 - 1 ≡ n = omega arith in rw q
-
 -- The length, the key, zeros.
 pub block_written : (out : List ℕ) (a : ℕ) (k : List ℕ) (m n exit : List ℕ) (r s q : ℕ) → a + 64 ≤ length out → length k ≤ 63
     → Wrote out a (length k ∷ []) 1 m r → Wrote m r k (length k) n s → Wrote n s (replicate (63 - length k) 0) (63 - length k) exit q → Wrote out a (block_of k) 64 exit q

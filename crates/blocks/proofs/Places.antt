@@ -13,7 +13,6 @@ use Rattle.buffers.specs.Choices.{pick}
 use Rattle.buffers.specs.Lists.{all, same}
 use Rattle.buffers.proofs.Tests.{either}
 use Rattle.text.specs.Keys.{is_key_byte, is_prefix, is_key}
-use Rattle.text.proofs.Scans.{next}
 use Rattle.blocks.specs.Blocks.{block_of, key_in, is_block}
 use Rattle.blocks.specs.Places.{place_fits, places_fit, is_zero}
 
@@ -97,28 +96,6 @@ all_places x l h k =
     rw (fits_block x l h k, prefix_here (take x l) g)
     (key_then_zeros x 1 x l (omega arith) (omega arith) ∙ and_comm (all is_key_byte (take x l)) (all is_zero (drop x l)))
 
--- ## The loops
-
-module _ (b : List ℕ) (n : ℕ) (ok : Bool) (i to : ℕ) (p : places_fit n 0 b ≡ ok && places_fit n i (drop i b)) where
-  pub places_step : (r : Bool) (j : ℕ) → i < to → to ≤ 64 → length b ≡ 64 → j ≡ i → r ≡ place_fits n j (get_or b i 0) → places_fit n 0 b ≡ (ok && r) && places_fit n (i + 1) (drop (i + 1) b)
-  places_step r j h m d q e =
-      let g : i < length b = omega arith in
-      p ∙ rw (next b i g, e, q) (sym (and_assoc ok (place_fits n i (get_or b i 0)) (places_fit n (i + 1) (drop (i + 1) b))))
-
-  pub places_end : i ≤ to → to ≤ i → places_fit n 0 b ≡ ok && places_fit n to (drop to b)
-  places_end h k = let q : to ≡ i = omega arith in rw q p
-
-module _ (b : List ℕ) (w ok : Bool) (i : ℕ) (p : w ≡ ok && all is_zero (drop i b)) where
-  pub zeros_step : i < 64 → length b ≡ 64 → w ≡ (ok && eqb (get_or b i 0) 0) && all is_zero (drop (i + 1) b)
-  zeros_step h d =
-      let g : i < length b = omega arith in
-      p ∙ rw (next b i g) (sym (and_assoc ok (eqb (get_or b i 0) 0) (all is_zero (drop (i + 1) b))))
-
-  pub zeros_end : 64 ≤ i → length b ≡ 64 → ok ≡ w
-  zeros_end h d = let g : length b ≤ i = omega arith in sym (p ∙ rw (drop_of_length-le b g) (and-true ok))
-
-pub ruleset loop_cases = (places_step, places_end, zeros_step, zeros_end)
-
 -- ## The ways of the whole test
 
 module _ (b : List ℕ) (d : length b ≡ 64) where
@@ -133,9 +110,12 @@ module _ (b : List ℕ) (d : length b ≡ 64) where
   pub places_whole : (r : Bool) → get_or b 0 0 < 64 → places_fit (get_or b 0 0) 0 b ≡ r && places_fit (get_or b 0 0) 64 (drop 64 b) → r ≡ is_block b && is_prefix (key_in b)
   places_whole r h e = sym (e ∙ rw (drop_of_length-le b {i = 64} (omega arith)) (and-true r)) ∙ every_place b refl (omega arith)
 
-pub places_long : (b : List ℕ) → length b ≡ 64 → 64 ≤ get_or b 0 0 → false ≡ is_block b && is_prefix (key_in b)
-places_long [] d h = absurd (omega arith)
-places_long (x ∷ l) d h = rw (long_block x l h)
+not_long : (b : List ℕ) → length b ≡ 64 → 64 ≤ get_or b 0 0 → false ≡ is_block b && is_prefix (key_in b)
+not_long [] d h = absurd (omega arith)
+not_long (x ∷ l) d h = rw (long_block x l h)
+
+pub places_long : (b : List ℕ) → length b ≡ 64 → 64 ≤ get_or b 0 0 → ltb (get_or b 0 0) 64 ≡ is_block b && is_prefix (key_in b)
+places_long b d h = le-ltb (get_or b 0 0) 64 h ∙ not_long b d h
 
 pub ruleset places_cases = (places_short, places_whole, places_long)
 

@@ -19,8 +19,8 @@ use Rattle.blocks.specs.Blocks.{block_of, key_in, is_block}
 use Rattle.blocks.proofs.Blocks.{block_is}
 use Rattle.model.specs.Rows.{before}
 use Rattle.model.proofs.Order.{before_irrefl}
-use Rattle.search.specs.declared.Order.{Order}
-use Rattle.search.specs.declared.Order.TheVariants.{Before, Same, After}
+use Rattle.std.specs.declared.cmp.Ordering.{Ordering}
+use Rattle.std.specs.declared.cmp.Ordering.TheVariants.{Less, Equal, Greater}
 use Rattle.bucket.specs.Steps.{all_below, is_key_block, block_at, keyed_at, ahead_of, ahead_at, sound_keys}
 use Rattle.bucket.specs.Ordering.{is_block_order}
 use Rattle.bucket.proofs.Steps.{below_at, below_more, pick_and}
@@ -113,17 +113,17 @@ module _ (a b : List ℕ) (f : is_key_block a ≡ true) where
         | inr g ↦ rw g
       ]
 
-  module _ (x y : ℕ) (o : Order) (w : is_block_order o a b ≡ true) where
-    pub follows_before : (t : Bool) → o ≡ Before → t ≡ is_block b && is_key (key_in b) → t ≡ is_key_block b && ahead_of (key_in a) x (key_in b) y
+  module _ (x y : ℕ) (o : Ordering) (w : is_block_order o a b ≡ true) where
+    pub follows_before : (t : Bool) → o ≡ Less → t ≡ is_block b && is_key (key_in b) → t ≡ is_key_block b && ahead_of (key_in a) x (key_in b) y
     unfolding is_key_block
     follows_before t q e =
         let d : before (drop 1 a) (drop 1 b) ≡ true = rw q at w in
         e ∙ sym (and-true (is_block b && is_key (key_in b))) ∙ stand_apart x y true (apart_before a b d) d
 
-    pub follows_same : o ≡ Same → ltb y x ≡ is_key_block b && ahead_of (key_in a) x (key_in b) y
+    pub follows_same : o ≡ Equal → ltb y x ≡ is_key_block b && ahead_of (key_in a) x (key_in b) y
     follows_same q = rw (← same_path a b (rw q at w), f, before_irrefl (key_in a), same_refl (key_in a))
 
-    pub follows_after : o ≡ After → false ≡ is_key_block b && ahead_of (key_in a) x (key_in b) y
+    pub follows_after : o ≡ Greater → false ≡ is_key_block b && ahead_of (key_in a) x (key_in b) y
     follows_after q =
         let d : (not (before (drop 1 a) (drop 1 b)) && not (same a b)) ≡ true = rw q at w in
         sym (and-false (is_key_block b))
@@ -132,9 +132,6 @@ module _ (a b : List ℕ) (f : is_key_block a ≡ true) where
 pub ruleset follows_cases = (follows_before, follows_same, follows_after)
 
 -- ## The rows one after the other
-
-pub part_keyed : (b : List ℕ) (i : ℕ) → keyed_at b i ≡ true → is_key_block (take (64 * i + 64 - 64 * i) (drop (64 * i) b)) ≡ true
-part_keyed b i e = rw (part_cut b (64 * i) 64) e
 
 module _ (n b : List ℕ) (i : ℕ) where
   pub next_is : (r : Bool)

@@ -15,15 +15,12 @@ use Rattle.blocks.proofs.Blocks.{block_block}
 use Rattle.model.specs.Rows.{sound_row}
 use Rattle.model.specs.Settings.{sound, fits}
 use Rattle.settings.specs.declared.Settings.{Settings}
-use Rattle.settings.specs.declared.State.{State}
-use Rattle.settings.specs.Bytes.{rules_of}
-use Rattle.settings.specs.State.{state_of}
 use Rattle.settings.specs.Meaning.{prefixes_are, settings_sound}
 use Rattle.table.specs.Layout.{row_at, rows_of, capacity}
 use Rattle.table.specs.Places.{key_at}
 use Rattle.table.proofs.Held.{numbers_laying, keys_laying, rows_length, held_block, held_fit, held_first}
 use Rattle.bucket.specs.Steps.{all_below, zeros, numbers_at, is_key_block, block_at, keyed_at, ahead_at, sound_keys, sound_table}
-use Rattle.bucket.specs.Whole.{lent, lent_with, bucket_of, whole, key_of}
+use Rattle.bucket.specs.Whole.{lent, bucket_of, whole, key_of}
 use Rattle.bucket.proofs.Steps.{below_at, below_all, pick_and, row_parts}
 use Rattle.bucket.proofs.Laying.{rest_free, rows_all, all_rows, next_ordered, ordered_next, numbers_back, keys_back}
 use Rattle.bucket.proofs.Whole.{WholeParts, sound_parts, whole_parts, whole_of}
@@ -146,8 +143,3 @@ module _ (s : Settings) (n b : List ℕ) (i : ℕ) (r : Bool) (e : r ≡ whole (
   key_short t h = held_first (whole_parts (lent s n b) (sym e ∙ t)).holds i (row_at n b 0) (rw (rows_length n b s.used) h)
 
 pub ruleset key_cases = (key_unsound, key_past, key_used, key_there, key_short)
-
--- ## The settings by value
-
-pub key_by_value : (s : Settings) (st : State) (e n k key : List ℕ) (i : ℕ) → key ≡ key_of (lent_with st e n k) i → st ≡ state_of s → rules_of e ≡ s.rules → key ≡ key_of (lent s n k) i
-key_by_value s st e n k key i h f g = rw (f, g) at h

@@ -1,25 +1,22 @@
 -- Laws of the tests in `specs/Steps.antt`, for the ways through the code.
-use Prim.Native.Nat.{ℕ, zero, suc, ◌+◌, ◌*◌, ◌-◌, ◌≤◌, ◌<◌}
+use Prim.Native.Nat.{ℕ, zero, suc, ◌+◌, ◌≤◌, ◌<◌}
 use mathlib.Core.Path.{◌≡◌, refl, sym, ap, ◌∙◌}
 use mathlib.Core.Logic.{inl, inr}
 use mathlib.Core.Bool.{Bool, true, false, ◌&&◌, and-true, and-false, and_assoc}
-use mathlib.Core.List.{List, []}
+use mathlib.Core.List.{List}
 use native.Mathlib.Omega.{arith}
 use native.Mathlib.Numerals.{add-one}
-use mir.Val.{Fits}
-use mir.Syntax.{w64}
 use lib.Dec.{eqb, leb, ltb}
 use lib.Bits.{bit_or, or_add_and, and_le_r, or_zero_l}
-use lib.ListN.{length, get_or, take, drop, drop_of_length-le}
+use lib.ListN.{length, get_or, drop, drop_of_length-le}
 use lib.Seq.{drop-cons}
-use borrow.Author.Tests.{eqb-true, eqb-false, lt-ltb, ne_eqb}
+use borrow.Author.Tests.{eqb-true, eqb-false, ne_eqb}
 use Rattle.buffers.specs.Choices.{pick}
 use Rattle.buffers.proofs.Tests.{either, and_i, and_l, and_r, clash}
-use Rattle.buffers.proofs.Parts.{part_cut}
 use Rattle.text.specs.Keys.{is_key}
 use Rattle.blocks.specs.Blocks.{key_in}
-use Rattle.model.specs.Rows.{Row, is_data, is_marker, sound_retention, sound_data, sound_marker, sound_row, largest_size, bodies}
-use Rattle.table.specs.Layout.{row_in, row_at}
+use Rattle.model.specs.Rows.{Row, is_data, is_marker, sound_data, sound_marker, sound_row}
+use Rattle.table.specs.Layout.{row_at}
 use Rattle.bucket.specs.Steps.{all_below, zeros, made_here, sound_numbers, numbers_at, block_at}
 
 -- ## A test of every number below a bound
@@ -76,13 +73,6 @@ pub ruleset zeros_cases = (zeros_more, zeros_end)
 
 pub with_same : (h r t : Bool) → r ≡ t → h && r ≡ h && t
 with_same h r t e = rw e
-
-pub data_is : (r : Bool) (ns : List ℕ) → r ≡ sound_retention (get_or ns 5 0) (get_or ns 6 0) → ((j : ℕ) → Fits w64 (get_or ns j 0))
-    → leb (get_or ns 4 0) largest_size && (r && leb (get_or ns 7 0) 1) ≡ sound_data (row_in ns [])
-data_is r ns e h = rw (e, lt-ltb (get_or ns 3 0) bodies (omega (arith, h 3)))
-
-pub row_is : (next time : ℕ) (n : List ℕ) (i : ℕ) (r : Bool) → r ≡ sound_numbers next time (row_in (take (8 * i + 8 - 8 * i) (drop (8 * i) n)) []) → r ≡ numbers_at next time n i
-row_is next time n i r e = e ∙ rw (part_cut n (8 * i) 8)
 
 -- ## A sound row
 

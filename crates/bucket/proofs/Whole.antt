@@ -33,7 +33,7 @@ pub record SoundParts (c : ℕ) (b : Bucket) : Type 0 where
   pub settings_sound_lem : sound_settings b.settings ≡ true
   pub in_order : ordered b.rows ≡ true
   pub rows_sound : all (sound_row b.settings.next b.settings.time) b.rows ≡ true
-  pub keys_fit_lem : keys_fit b.rows ≡ true
+  pub keys_have_room : keys_fit b.rows ≡ true
 
 pub sound_parts : (c : ℕ) (b : Bucket) → sound c b ≡ true → SoundParts c b
 unfolding sound fits
@@ -46,7 +46,7 @@ sound_parts c b e =
       settings_sound_lem = and_l _ _ f;
       in_order = and_l _ _ g;
       rows_sound = h;
-      keys_fit_lem = sound_fit b.settings.next b.settings.time b.rows h;
+      keys_have_room = sound_fit b.settings.next b.settings.time b.rows h;
     }
 
 -- What a bucket that is whole has.
@@ -73,7 +73,7 @@ whole_parts b e =
     let e6 = and_r (prefixes_are b.settings.rules) _ e5 in
     let p = sound_parts c (bucket_of b) e6 in
     let h : Holds c xs b.numbers b.keys =
-    record { numbers_are = same_path b.numbers (numbers_of c xs) (and_l _ _ e3); keys_are = same_path b.keys (keys_of c xs) (and_l _ _ e4); room = p.room; keys_fit_lem = p.keys_fit_lem } in
+    record { numbers_are = same_path b.numbers (numbers_of c xs) (and_l _ _ e3); keys_are = same_path b.keys (keys_of c xs) (and_l _ _ e4); room = p.room; keys_have_room = p.keys_have_room } in
     record {
       some = leb-true 1 c (and_l _ _ e);
       most = leb-true c 1024 (and_l _ _ e1);
@@ -91,7 +91,7 @@ pub whole_of : (s : Settings) (c : ℕ) (xs : List Row) (n b : List ℕ) → 1 �
 unfolding whole
 whole_of s c xs n b some most p q u f e =
     let w = sound_parts c (record { settings = settings_mean s; rows = xs }) e in
-    let h : Holds c xs n b = record { numbers_are = p; keys_are = q; room = w.room; keys_fit_lem = w.keys_fit_lem } in
+    let h : Holds c xs n b = record { numbers_are = p; keys_are = q; room = w.room; keys_have_room = w.keys_have_room } in
     rw (held_capacity h, u, held_rows h)
     (and_i _ _ (le-leb 1 c some)
     (and_i _ _ (le-leb c 1024 most)

@@ -11,17 +11,19 @@ ghost use Rattle.bucket.specs.Ordering.{is_order_to, is_block_order};
 ghost use Rattle.settings.specs.Bytes.{entries_length};
 ghost use Rattle.bucket.specs.Whole.{lent, lent_with, whole, key_of};
 
-use search::Order;
+use model::{Kind, Mode};
 use settings::{Settings, State};
+use std::cmp::Ordering;
 
 // Whether the retention's mode and date belong together.
 fn retention_is_sound(mode: u64, until: u64) -> bool
     ensures { result ≡ sound_retention mode until }
 {
+    // Words of any contents: whether they are modes is what is tested.
     if mode == 0 {
         return until == 0;
     }
-    let is_mode = (mode == model::GOVERNANCE) | (mode == model::COMPLIANCE);
+    let is_mode = (mode == Mode::Governance.number()) | (mode == Mode::Compliance.number());
     is_mode & ((1 <= until) & (until <= calendar::LATEST))
 }
 
@@ -48,10 +50,10 @@ fn numbers_are_sound(ns: &[u64], next: u64, time: u64) -> bool
 {
     let made_here = (1 <= ns[0]) & ((ns[0] < next) & (ns[2] <= time));
     let kind = ns[1];
-    if kind == model::DATA {
+    if kind == Kind::Data.number() {
         return made_here & data_is_sound(ns);
     }
-    if kind == model::MARKER {
+    if kind == Kind::Marker.number() {
         return made_here & marker_is_sound(ns);
     }
     false
@@ -72,12 +74,10 @@ fn rows_are_sound(rows: &[u64], used: usize, next: u64, time: u64) -> bool
     requires { 8 * used ≤ length rows.now }
     ensures { result ≡ all_below (numbers_at next time rows.now) used }
 {
-    let mut at = 0;
-    while at < used {
+    for at in 0..used {
         if !row_is_sound(rows, at, next, time) {
             return false;
         }
-        at += 1;
     }
     true
 }
@@ -88,37 +88,36 @@ fn is_same(a: &[u8], b: &[u8]) -> bool
     ensures { result ≡ same a.now b.now }
 {
     let mut ok = true;
-    let mut i = 0;
-    while i < 64 {
-        ok = ok & (a[i] == b[i]);
-        i += 1;
+    for i in 0..64 {
+        ok &= a[i] == b[i];
     }
     ok
 }
 
 // The bytes behind the first, of which n are known to be the same, compared by eights up to `to`.
-fn order_to(a: &[u8], b: &[u8], n: usize, to: usize) -> Order
+fn order_to(a: &[u8], b: &[u8], n: usize, to: usize) -> Ordering
     requires a_len { (length a.now ≡ 64) × (length b.now ≡ 64) × (to ≤ 56) }
     requires a_value { take n (drop 1 a.now) ≡ take n (drop 1 b.now) }
     ensures { is_order_to to result (drop 1 a.now) (drop 1 b.now) ≡ true }
 {
     let mut i = n;
+    // Eight bytes a step: by `step_by` the proof didn't close (`returns-else-y-x`).
     while i < to {
         let x = search::rank_at(a, i + 1);
         let y = search::rank_at(b, i + 1);
         if x < y {
-            return Order::Before;
+            return Ordering::Less;
         }
         if y < x {
-            return Order::After;
+            return Ordering::Greater;
         }
         i += 8;
     }
-    Order::Same
+    Ordering::Equal
 }
 
 // Two blocks that are not the same, by their last eight bytes.
-fn order_last(a: &[u8], b: &[u8]) -> Order
+fn order_last(a: &[u8], b: &[u8]) -> Ordering
     requires a_len { (length a.now ≡ 64) × (length b.now ≡ 64) × (same a.now b.now ≡ false) }
     requires a_value { take 56 (drop 1 a.now) ≡ take 56 (drop 1 b.now) }
     ensures { is_block_order result a.now b.now ≡ true }
@@ -126,38 +125,37 @@ fn order_last(a: &[u8], b: &[u8]) -> Order
     let x = search::rank_at(a, 56);
     let y = search::rank_at(b, 56);
     if x < y {
-        return Order::Before;
+        Ordering::Less
+    } else {
+        Ordering::Greater
     }
-    Order::After
 }
 
 // Two blocks whose first bytes are known to be the same.
-fn order_on(a: &[u8], b: &[u8]) -> Order
+fn order_on(a: &[u8], b: &[u8]) -> Ordering
     requires a_len { (length a.now ≡ 64) × (length b.now ≡ 64) }
     requires a_value { take 24 (drop 1 a.now) ≡ take 24 (drop 1 b.now) }
     ensures { is_block_order result a.now b.now ≡ true }
 {
     if is_same(a, b) {
-        return Order::Same;
+        return Ordering::Equal;
     }
-    let o = order_to(a, b, 24, 56);
-    match o {
-        Order::Before => Order::Before,
-        Order::Same => order_last(a, b),
-        Order::After => Order::After,
+    match order_to(a, b, 24, 56) {
+        Ordering::Less => Ordering::Less,
+        Ordering::Equal => order_last(a, b),
+        Ordering::Greater => Ordering::Greater,
     }
 }
 
 // Two blocks, by the bytes behind the first.
-fn order_of(a: &[u8], b: &[u8]) -> Order
+fn order_of(a: &[u8], b: &[u8]) -> Ordering
     requires { (length a.now ≡ 64) × (length b.now ≡ 64) }
     ensures { is_block_order result a.now b.now ≡ true }
 {
-    let o = order_to(a, b, 0, 24);
-    match o {
-        Order::Before => Order::Before,
-        Order::Same => order_on(a, b),
-        Order::After => Order::After,
+    match order_to(a, b, 0, 24) {
+        Ordering::Less => Ordering::Less,
+        Ordering::Equal => order_on(a, b),
+        Ordering::Greater => Ordering::Greater,
     }
 }
 
@@ -167,11 +165,10 @@ fn follows(a: &[u8], x: u64, b: &[u8], y: u64) -> bool
     ensures { result ≡ is_key_block b.now && ahead_of (key_in a.now) x (key_in b.now) y }
 {
     // zeros stand before every byte of a key, so that all bytes behind the first are in the order of the keys
-    let o = order_of(a, b);
-    match o {
-        Order::Before => blocks::is_key_block(b),
-        Order::Same => y < x,
-        Order::After => false,
+    match order_of(a, b) {
+        Ordering::Less => blocks::is_key_block(b),
+        Ordering::Equal => y < x,
+        Ordering::Greater => false,
     }
 }
 
@@ -205,12 +202,10 @@ fn keys_are_sound(rows: &[u64], keys: &[u8], used: usize) -> bool
     if !blocks::is_key_block(&keys[0..64]) {
         return false;
     }
-    let mut i = 0;
-    while i + 1 < used {
+    for i in 0..used - 1 {
         if !next_follows(rows, keys, i) {
             return false;
         }
-        i += 1;
     }
     true
 }
@@ -221,24 +216,20 @@ fn numbers_are_zero(rows: &[u64], at: usize) -> bool
     ensures { result ≡ zeros (drop at rows.now) }
 {
     let mut bits = 0;
-    let mut i = at;
-    while i < rows.len() {
-        bits = bits | rows[i];
-        i += 1;
+    for i in at..rows.len() {
+        bits |= rows[i];
     }
     bits == 0
 }
 
-// Whether the bytes from `at` on are zero.
+// Whether the bytes from `at` on are zero. At a type parameter nothing is known of `|`, so that numbers and bytes have a function each.
 fn bytes_are_zero(keys: &[u8], at: usize) -> bool
     requires { at ≤ length keys.now }
     ensures { result ≡ zeros (drop at keys.now) }
 {
     let mut bits = 0;
-    let mut i = at;
-    while i < keys.len() {
-        bits = bits | keys[i];
-        i += 1;
+    for i in at..keys.len() {
+        bits |= keys[i];
     }
     bits == 0
 }
@@ -294,22 +285,20 @@ pub fn key_with<'a>(s: State, entries: &[u8], rows: &[u64], keys: &'a [u8], at: 
     requires { length entries.now ≡ entries_length }
     ensures { result.now ≡ key_of (lent_with s entries.now rows.now keys.now) at }
 {
-    if !is_whole(s, entries, rows, keys) {
-        return &keys[0..0];
+    if is_whole(s, entries, rows, keys) && at < s.used {
+        table::key_at(keys, at)
+    } else {
+        &[]
     }
-    if s.used <= at {
-        return &keys[0..0];
-    }
-    table::key_at(keys, at)
 }
 
 // The same with the settings by value.
 pub fn key_of<'a>(s: Settings, rows: &[u64], keys: &'a [u8], at: usize) -> &'a [u8]
     ensures { result.now ≡ key_of (lent s rows.now keys.now) at }
 {
-    let state = settings::state_of(s);
+    let state = State::from(s);
     let rules = s.rules;
-    let mut entries = settings::no_entries();
+    let mut entries = [0; 640];
     settings::put_rules(&mut entries, rules);
     key_with(state, &entries, rows, keys, at)
 }

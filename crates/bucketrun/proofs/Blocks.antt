@@ -1,21 +1,20 @@
 -- Laws of reading: what stands in the input before, between and after blocks.
-use Prim.Native.Nat.{ℕ, ◌+◌, ◌-◌, ◌<◌, min}
-use mathlib.Core.Path.{◌≡◌, refl, sym, ◌∙◌, ap, ap₂}
+use Prim.Native.Nat.{ℕ, ◌+◌, ◌-◌, ◌≤◌, min}
+use mathlib.Core.Path.{◌≡◌, refl, sym, ◌∙◌, ap}
 use mathlib.Core.Bool.{Bool, true, false}
 use mathlib.Core.List.{List, [], ◌∷◌, ◌++◌, append-nil}
 use native.Mathlib.Omega.{arith}
-use lib.ListN.{length, take, drop, replicate, length-take, length-drop, length-replicate}
-use lib.Seq.{length-take-le, take-add}
-use borrow.Rule.Slice.PartMut.{mid_of}
+use lib.ListN.{length, take, drop, replicate, length-append, length-drop, length-replicate}
+use lib.Seq.{paste, length-take-le, take-add}
 use Rattle.std.proofs.Common.{Option, subst}
+use Rattle.std.specs.Prelude.{Some, None, Result, Ok, Err, IfOk, is_some, is_ok, is_err}
 use Rattle.std.specs.Io.KnownBytes.{Appends, Consumes}
-use Rattle.std.proofs.KnownBytes.{Appends-nil, Appends-trans, Consumes-nil, Consumes-trans, Consumes-whole}
-use Rattle.buffers.specs.Ranges.{Within, Span}
-use Rattle.buffers.specs.Writes.{Wrote}
+use Rattle.bucketrun.specs.declared.Rest.{Rest}
+use Rattle.std.proofs.KnownBytes.{Appends-trans, Consumes-trans, Consumes-whole}
+use Rattle.buffers.specs.Ranges.{Span}
+use Rattle.buffers.specs.Writes.{placed, Wrote}
 use Rattle.buffers.proofs.Tests.{clash}
 use Rattle.buffers.proofs.Lists.{drop_take, take_least}
-use Rattle.buffers.proofs.Parts.{part_cut}
-use Rattle.buffers.proofs.Writes.{wrote_as}
 use Rattle.text.specs.Lines.{lines_of}
 use Rattle.text.specs.Keys.{contains}
 use Rattle.buffers.specs.Words.{number}
@@ -29,39 +28,24 @@ use Rattle.model.proofs.Runs.{left_append}
 use Rattle.bucket.specs.Whole.{Lent, lent_with}
 use Rattle.bucket.proofs.Whole.{fresh_whole}
 use Rattle.bucketrun.specs.Program.{left_by, printed_by, ended_length, ended_lines, Waiting, waiting, after_block, written_by, joined}
-use Rattle.bucketrun.specs.Course.{ServedAll, CameBehind, TookBlock, Startable, BetweenBlocks, Ran}
+use Rattle.bucketrun.specs.Course.{failed_in, CameBehind, TookBlock, Startable, BetweenBlocks, Ran}
 use Rattle.bucketrun.proofs.Lines.{rest_none, none_take, closed_lines}
 use Rattle.bucketrun.proofs.Cutting.{blocks_left, all_written, written_more, joined_more}
-use Rattle.bucketrun.proofs.Printing.{wrote_front}
 
 -- ## Reading and keeping
 
--- The start of a line goes to the front by way of another buffer.
-pub kept_start : (input : List ℕ) (from to len : ℕ) (line line' : List ℕ) (k a : ℕ) (exit : List ℕ) (m r : ℕ) → Span from to (length input) → Within len (min (to - from) 513) 513
-    → Wrote line 0 (take (from + len - from) (drop from input)) k line' a → Wrote input 0 (take (len - 0) line') m exit r → Wrote input 0 (take 513 (drop from (take to input))) 513 exit r
-kept_start input from to len line line' k a exit m r h c v w =
+-- The start of a line goes to the front.
+pub kept_start : (input : List ℕ) (from to len : ℕ) (exit : List ℕ) → Span from to (length input) → len ≡ min (to - from) 513 → exit ≡ paste input 0 (drop from input) (from + len - from)
+    → Wrote input 0 (take 513 (drop from (take to input))) 513 exit len
+kept_start input from to len exit h c e =
     let n = length-drop from input in
-    let t : length (take (from + len - from) (drop from input)) ≡ len = ap length (part_cut input from len) ∙ length-take-le len (drop from input) (omega (arith, h.from, h.to, c.is)) in
-    let z : len - 0 ≡ a = omega (arith, v.next) in
-    let q : len ≡ min 513 (to - from) = omega (arith, c.is) in
-    wrote_as input 0 (take (len - 0) line') (take 513 (drop from (take to input))) m 513 exit r w
-    (rw z (wrote_front line 0 _ k line' a (omega arith) v) ∙ part_cut input from len ∙ ap (λ (n : ℕ). take n (drop from input)) q ∙ take_least 513 (to - from) (drop from input) ∙ ap (take 513) (sym (drop_take from to input)))
-    (rw length-take (omega arith))
-
--- ## A block
-
-module _ (h : Lent) (input : List ℕ) (end : ℕ) (v : Option (List ℕ)) (b : Lent) (v' : Option (List ℕ)) (i : ℕ) (told : Bool) (d : ServedAll h (mid_of 0 (end - 0) input) v b v' i told) where
-  pub took_block : (input' : List ℕ) (k : ℕ) → Wrote input 0 (take 513 (drop i (take end input))) 513 input' k → TookBlock h (take end input) v b input' v' k told
-  took_block input' k w =
-      let z : end - 0 ≡ end = omega arith in
-      let x : ServedAll h (take end input) v b v' i told = rw z at d in
-      let f = wrote_front input 0 _ 513 input' k (omega arith) w in
-      record {
-        is_whole = x.through.is_whole;
-        few = omega (arith, w.most);
-        takes = λ t. ap₂ waiting (x.through.leads ∙ ap (λ (j : ℕ). left_by h (lines_of (take j (take end input)))) (x.all t)) (f ∙ ap (λ (j : ℕ). take 513 (drop j (take end input))) (x.all t));
-        writes = λ t. subst (λ (j : ℕ). Appends v v' (printed_by h (lines_of (take j (take end input))))) (x.all t) (x.writes t);
-      }
+    let z : from + len - from ≡ len = omega arith in
+    let m : len ≤ length (drop from input) = omega (arith, n, h.from, h.to, c) in
+    let l : length (take len (drop from input)) ≡ len = length-take-le len (drop from input) m in
+    let q : len ≡ min 513 (to - from) = omega (arith, c) in
+    let t : take len (drop from input) ≡ take 513 (drop from (take to input)) = ap (λ (k : ℕ). take k (drop from input)) q ∙ take_least 513 (to - from) (drop from input) ∙ ap (take 513) (sym (drop_take from to input)) in
+    let x : exit ≡ placed input 0 (take len (drop from input)) = rw z at e ∙ ap (λ (k : ℕ). take len (drop from input) ++ drop (0 + k) input) (sym l) in
+    rw (← t) (record { next = omega (arith, l); holds = x; long = ap length x ∙ simp (length-append, l, length-drop) (omega (arith, h.from, h.to, c)); most = omega (arith, c) })
 
 -- ## The run
 
@@ -76,33 +60,12 @@ may_start x s e input n k out fx f ee ei en ek eo =
       input_long = zeros_long input 66560 ei;
     }
 
-pub first_block : (b : Lent) (e input out : List ℕ) (u v : Option (List ℕ)) → Startable b e input out → BetweenBlocks b e input out u v b e input out u v 0
-first_block b e input out u v a =
-    record {
-      blocks = [];
-      leads = refl;
-      reads = Consumes-nil u;
-      writes = Appends-nil v;
-      servable = a.servable;
-      entries_same = refl;
-      few = omega arith;
-      no_feed = refl;
-      input_long = a.input_long;
-      input_same = refl;
-      numbers_same = refl;
-      keys_same = refl;
-      out_same = refl;
-    }
-
 -- Output was not taken.
-pub run_stopped : (h : Lent) (u v : Option (List ℕ)) (n k : List ℕ) (u' v' : Option (List ℕ)) → Ran false false h u v n k u' v'
-run_stopped h u v n k u' v' =
+pub run_stopped : (failed : Bool) (h : Lent) (u v : Option (List ℕ)) (n k : List ℕ) (u' v' : Option (List ℕ)) → Ran false failed h u v n k u' v'
+run_stopped failed h u v n k u' v' =
     record { blocks = []; settings = h.settings; is = λ x. absurd (clash false x refl); reads = λ x. absurd (clash false x refl); writes = λ x. absurd (clash false x refl); at_end = λ x. absurd (clash false x refl); whole = λ x. absurd (clash false x refl) }
 
 module _ (h : Lent) (e₀ input₀ out₀ : List ℕ) (u₀ v₀ : Option (List ℕ)) (b : Lent) (e input out : List ℕ) (u v : Option (List ℕ)) (kept : ℕ) (g : BetweenBlocks h e₀ input₀ out₀ u₀ v₀ b e input out u v kept) where
-  pub read_room : kept < length input
-  read_room = omega (arith, g.few, g.input_long)
-
   module _ (filled : List ℕ) (u' : Option (List ℕ)) (end : ℕ) (over failed : Bool) (c : CameBehind input kept u filled u' end over failed) where
     -- What the last block prints stands behind what is written.
     last_written : over ≡ true → written_by (waiting h []) g.blocks ++ printed_by b (ended_lines (take end filled)) ≡ printed_by h (lines_of (joined g.blocks))
@@ -115,27 +78,33 @@ module _ (h : Lent) (e₀ input₀ out₀ : List ℕ) (u₀ v₀ : Option (List 
     all_read : over ≡ true → Consumes u₀ u' (joined g.blocks)
     all_read o = subst (Consumes u₀ u') (append-nil (joined g.blocks)) (Consumes-trans u₀ u u' _ _ g.reads (c.rests o))
 
-    run_written : (v' : Option (List ℕ)) (b' : Lent) (input' : List ℕ) (kept' : ℕ) (told : Bool) → TookBlock b (take end filled) v b' input' v' kept' told → over ≡ true → told ≡ true
+    run_written : (v' : Option (List ℕ)) (b' : Lent) (input' : List ℕ) (kept' : ℕ) → TookBlock b (take end filled) v b' input' v' kept' → over ≡ true
         → Appends v₀ v' (printed_by h (lines_of (joined g.blocks)))
-    run_written v' b' input' kept' told d o t = subst (Appends v₀ v') (last_written o) (Appends-trans v₀ v v' _ _ g.writes (d.writes t))
+    run_written v' b' input' kept' d o = subst (Appends v₀ v') (last_written o) (Appends-trans v₀ v v' _ _ g.writes d.writes)
 
-    pub run_ends : (s : State) (e' n k input' : List ℕ) (v' : Option (List ℕ)) (kept' : ℕ) (told : Bool) → TookBlock b (take end filled) v (lent_with s e' n k) input' v' kept' told → over ≡ true → Ran told failed h u₀ v₀ n k u' v'
-    run_ends s e' n k input' v' kept' told d o =
+    run_ends : (s : State) (e' n k input' : List ℕ) (v' : Option (List ℕ)) (kept' : ℕ) → TookBlock b (take end filled) v (lent_with s e' n k) input' v' kept' → over ≡ true → Ran true failed h u₀ v₀ n k u' v'
+    run_ends s e' n k input' v' kept' d o =
         record {
           blocks = g.blocks;
           settings = settings_with s e';
           is =
-              λ t. ap (λ (w : Waiting). w.bucket) (d.takes t)
+              λ t. ap (λ (w : Waiting). w.bucket) d.takes
               ∙ ap (left_by b) (ap ended_lines (c.ends o) ∙ closed_lines (take kept input) g.no_feed)
               ∙ ap (λ (w : Waiting). left_by w.bucket (lines_of w.begun)) g.leads
               ∙ blocks_left h [] g.blocks;
           reads = λ t. all_read o;
-          writes = λ t. run_written v' (lent_with s e' n k) input' kept' told d o t;
+          writes = λ t. run_written v' (lent_with s e' n k) input' kept' d o;
           at_end = λ t. c.at_end o;
           whole =
               λ t f. Consumes-whole u₀ u' (joined g.blocks) (λ (xs : List ℕ). Appends v₀ v' (printed_by h (lines_of xs))) (all_read o) (c.at_end o f)
-              (run_written v' (lent_with s e' n k) input' kept' told d o t);
+              (run_written v' (lent_with s e' n k) input' kept' d o);
         }
+
+    -- The last block is written, or nobody takes it.
+    run_tells : {E : Type 0} (r : Result Rest E) (e' n k input' : List ℕ) (v' : Option (List ℕ)) → IfOk r (λ (rest : Rest). TookBlock b (take end filled) v (lent_with rest.state e' n k) input' v' rest.kept) → over ≡ true
+        → Ran (is_ok r) failed h u₀ v₀ n k u' v'
+    run_tells (Ok rest) e' n k input' v' d o = run_ends rest.state e' n k input' v' rest.kept d o
+    run_tells (Err x) e' n k input' v' d o = run_stopped failed h u₀ v₀ n k u' v'
 
     -- The text up to its end is what was kept, and what came.
     came : take end filled ≡ take kept input ++ take (end - kept) (drop kept filled)
@@ -151,15 +120,15 @@ module _ (h : Lent) (e₀ input₀ out₀ : List ℕ) (u₀ v₀ : Option (List 
         (λ (t : List ℕ). written_by (waiting h []) g.blocks ++ t)
         (ap (λ (w : Waiting). printed_by w.bucket (ended_lines (w.begun ++ x))) (sym g.leads) ∙ ap (λ (t : List ℕ). printed_by b (ended_lines t)) (sym came))
 
-    pub next_block : (b' : Lent) (input' : List ℕ) (v' : Option (List ℕ)) (kept' : ℕ) (told : Bool) → TookBlock b (take end filled) v b' input' v' kept' told → (e' out' : List ℕ) → over ≡ false → told ≡ true → length filled ≡ length input
+    next_block : (b' : Lent) (input' : List ℕ) (v' : Option (List ℕ)) (kept' : ℕ) → TookBlock b (take end filled) v b' input' v' kept' → (e' out' : List ℕ) → over ≡ false → length filled ≡ length input
         → length input' ≡ length filled → length e' ≡ length e → length b'.numbers ≡ length b.numbers → length b'.keys ≡ length b.keys → length out' ≡ length out → BetweenBlocks h e₀ input₀ out₀ u₀ v₀ b' e' input' out' u' v' kept'
-    next_block b' input' v' kept' told d e' out' o t lf li le ln lk lo =
+    next_block b' input' v' kept' d e' out' o lf li le ln lk lo =
         let x = take (end - kept) (drop kept filled) in
-        let q : waiting b' (take kept' input') ≡ after_block (waiting b []) (take end filled) = d.takes t in
+        let q : waiting b' (take kept' input') ≡ after_block (waiting b []) (take end filled) = d.takes in
         record {
           blocks = g.blocks ++ x ∷ [];
           reads = subst (Consumes u₀ u') (sym (joined_more g.blocks x)) (Consumes-trans u₀ u u' _ _ g.reads (c.reads o));
-          writes = subst (Appends v₀ v') (sym (next_written)) (Appends-trans v₀ v v' _ _ g.writes (d.writes t));
+          writes = subst (Appends v₀ v') (sym (next_written)) (Appends-trans v₀ v v' _ _ g.writes d.writes);
           leads = q ∙ ap (after_block (waiting b [])) came ∙ ap (λ (w : Waiting). after_block w x) g.leads ∙ sym (left_append after_block (waiting h []) g.blocks (x ∷ []));
           servable = record { is_whole = d.is_whole; entries_long = le ∙ g.servable.entries_long; long = lo ∙ g.servable.long };
           entries_same = le ∙ g.entries_same;
@@ -171,3 +140,15 @@ module _ (h : Lent) (e₀ input₀ out₀ : List ℕ) (u₀ v₀ : Option (List 
           keys_same = lk ∙ g.keys_same;
           out_same = lo ∙ g.out_same;
         }
+
+  -- By what was read.
+  module _ {A E : Type 0} (filled : List ℕ) (u' : Option (List ℕ)) (end : ℕ) (over : Option (Result A E)) (c : CameBehind input kept u filled u' end (is_some over) (failed_in over)) where
+    pub run_over : {F : Type 0} (read : Result A E) → over ≡ Some read → (r : Result Rest F) (e' n k input' : List ℕ) (v' : Option (List ℕ)) → IfOk r (λ (rest : Rest). TookBlock b (take end filled) v (lent_with rest.state e' n k) input' v' rest.kept)
+        → (t : Bool) → t ≡ is_ok r → Ran t (is_err read) h u₀ v₀ n k u' v'
+    run_over read w r e' n k input' v' d t q =
+        let x : failed_in over ≡ is_err read = ap failed_in w in
+        rw (q, ← x) (run_tells filled u' end (is_some over) (failed_in over) c r e' n k input' v' d (ap is_some w))
+
+    pub run_next : over ≡ None → (b' : Lent) (input' : List ℕ) (v' : Option (List ℕ)) (kept' : ℕ) → TookBlock b (take end filled) v b' input' v' kept' → (e' out' : List ℕ) → length filled ≡ length input
+        → length input' ≡ length filled → length e' ≡ length e → length b'.numbers ≡ length b.numbers → length b'.keys ≡ length b.keys → length out' ≡ length out → BetweenBlocks h e₀ input₀ out₀ u₀ v₀ b' e' input' out' u' v' kept'
+    run_next w b' input' v' kept' d e' out' = next_block filled u' end (is_some over) (failed_in over) c b' input' v' kept' d e' out' (ap is_some w)

@@ -4,7 +4,7 @@ use mathlib.Core.Path.{◌≡◌, refl, sym, ◌∙◌, ap}
 use mathlib.Core.Logic.{inl, inr}
 use mathlib.Core.Bool.{false}
 use mathlib.Core.List.{List, [], ◌∷◌, ◌++◌, append-nil, append_assoc}
-use mathlib.Core.Option.{none}
+use Rattle.std.specs.Prelude.{None}
 use native.Mathlib.Omega.{arith}
 use lib.Dec.{ltb}
 use lib.ListN.{length, take, drop, length-append, take-append-drop}
@@ -25,7 +25,7 @@ use Rattle.bucketrun.proofs.Lines.{end_cut, end_most, rest_none, none_take, line
 -- ## Long lines
 
 -- A line of more than 512 bytes reads as nothing.
-long_unread : (l : List ℕ) → 512 < length l → read_line l ≡ none
+long_unread : (l : List ℕ) → 512 < length l → read_line l ≡ None
 unfolding read_line request_in
 long_unread l h = simp (lt-ltb _ _ h)
 

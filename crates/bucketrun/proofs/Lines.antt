@@ -156,10 +156,6 @@ end_last (b ∷ s) = rw (some_append (b ∷ s) (10 ∷ []) ∙ or_r (contains (b
 line_last : (s : List ℕ) → contains s 10 ≡ false → 0 < length s → lines_of (s ++ 10 ∷ []) ≡ lines_of s
 line_last s e h = lines_begun s (10 ∷ []) e h ∙ sym (lines_begun s [] e h) ∙ ap lines_of (append-nil s)
 
-pub closed_some : (s : List ℕ) → 0 < length s → feed_ended s ≡ s ++ 10 ∷ []
-closed_some [] h = absurd (omega arith)
-closed_some (b ∷ s) h = refl
-
 pub closed_lines : (s : List ℕ) → contains s 10 ≡ false → ended_lines (feed_ended s) ≡ lines_of s
 closed_lines [] e = refl
 closed_lines (b ∷ s) e =

@@ -5,7 +5,7 @@ use mathlib.Core.List.{List, [], ◌∷◌, ◌++◌}
 use native.Mathlib.Omega.{arith}
 use lib.ListN.{length, take, drop, length-append, length-drop}
 use lib.Seq.{length-take-le, take_at}
-use borrow.Author.Tests.{eq-eqb, ne_eqb}
+use borrow.Author.Tests.{eq-eqb}
 use Rattle.buffers.specs.Texts.{bytes}
 use Rattle.buffers.specs.Writes.{Wrote}
 use Rattle.buffers.proofs.Parts.{placed_same}
@@ -24,12 +24,10 @@ prints_answer out at number len h l e =
     let n : length (take len (drop at out)) ≡ len = length-take-le len (drop at out) (rw length-drop (omega arith)) in
     rw (eq-eqb number 0 e) (record { next = ap (λ (x : ℕ). at + x) (sym n); holds = placed_same out at len (omega arith); long = refl; most = omega arith })
 
-pub prints_refusal : (out : List ℕ) (at number : ℕ) (a m : List ℕ) (i : ℕ) (m' : List ℕ) (j : ℕ) (exit : List ℕ) (r : ℕ) → at + 65536 ≤ length out → (number ≡ 0 → ⊥)
-    → Wrote out at (bytes "no" ++ (9 ∷ [])) 3 m i → Wrote m i (digits number) 20 m' j → Wrote m' j (10 ∷ []) 1 exit r → Wrote out at (printed number a) 65536 exit r
-prints_refusal out at number a m i m' j exit r h e x y z =
-    let w : Wrote out at (refusal_text number) 24 exit r =
-    wrote_both out at (bytes "no" ++ (9 ∷ [])) 3 m i (digits number ++ (10 ∷ [])) 21 exit r (omega arith) x
-    (wrote_both m i (digits number) 20 m' j (10 ∷ []) 1 exit r (omega (arith, x.long, x.most)) y z) in
-    rw (ne_eqb number 0 e) (record { next = w.next; holds = w.holds; long = w.long; most = omega (arith, w.most) })
-
-pub ruleset print_cases = (prints_answer, prints_refusal)
+pub prints_refusal : (out : List ℕ) (at number code : ℕ) (m : List ℕ) (i : ℕ) (m' : List ℕ) (j : ℕ) (exit : List ℕ) (r : ℕ) → at + 65536 ≤ length out
+    → Wrote out at (bytes "no" ++ (9 ∷ [])) 3 m i → Wrote m i (digits code) 20 m' j → Wrote m' j (10 ∷ []) 1 exit r → code ≡ number → Wrote out at (refusal_text number) 65536 exit r
+prints_refusal out at number code m i m' j exit r h x y z e =
+    let w : Wrote out at (refusal_text code) 24 exit r =
+    wrote_both out at (bytes "no" ++ (9 ∷ [])) 3 m i (digits code ++ (10 ∷ [])) 21 exit r (omega arith) x
+    (wrote_both m i (digits code) 20 m' j (10 ∷ []) 1 exit r (omega (arith, x.long, x.most)) y z) in
+    rw (← e) (record { next = w.next; holds = w.holds; long = w.long; most = omega (arith, w.most) })

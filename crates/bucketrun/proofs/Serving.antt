@@ -1,7 +1,7 @@
 -- Laws of the loops over a block: what holds between two lines, and between two parts.
-use Prim.Native.Nat.{ℕ, zero, suc, ◌+◌, ◌-◌, ◌≤◌, ◌<◌}
+use Prim.Native.Nat.{ℕ, suc, ◌+◌, ◌-◌, ◌≤◌, ◌<◌}
 use mathlib.Core.Path.{◌≡◌, refl, sym, ◌∙◌, ap, ap₂, subst⁻¹}
-use mathlib.Core.Bool.{Bool, true, false}
+use mathlib.Core.Bool.{true}
 use mathlib.Core.List.{List, [], ◌∷◌, ◌++◌, append-nil}
 use native.Mathlib.Omega.{arith}
 use lib.ListN.{length, take, drop, length-take, length-drop, length-replicate, take-append-drop}
@@ -9,19 +9,25 @@ use lib.Seq.{length-take-le, drop_at, drop-drop, take-add, take-append-le, drop-
 use borrow.Rule.Slice.PartMut.{mid_of, put_mid, take_put, same_len_mid}
 use Rattle.std.proofs.Common.{Option, subst}
 use Rattle.std.specs.Io.KnownBytes.{Appends}
-use Rattle.std.proofs.KnownBytes.{Appends-nil, Appends-trans}
+use Rattle.std.proofs.KnownBytes.{Appends-trans}
 use Rattle.buffers.specs.Ranges.{Within}
 use Rattle.buffers.specs.Writes.{placed, Wrote}
-use Rattle.buffers.proofs.Tests.{clash}
 use Rattle.buffers.proofs.Parts.{rest_all, part_cut}
 use Rattle.buffers.proofs.Writes.{wrote_both}
 use Rattle.text.specs.Lines.{lines_of, feed_at}
 use Rattle.model.proofs.Runs.{left_append, gathered_append}
+use borrow.Author.Tests.{ne_eqb}
+use Rattle.std.specs.Prelude.{Result, Ok, Err, OnOk}
+use Rattle.model.specs.declared.Refusal.{Refusal}
+use Rattle.model.specs.Refusal.{number_of}
+use Rattle.model.proofs.Facts.{number_not_0}
+use Rattle.settings.specs.declared.State.{State}
 use Rattle.settings.specs.Bytes.{rules_of}
 use Rattle.bucket.specs.Whole.{Lent, lent_with, whole}
 use Rattle.outcome.specs.Calls.{call, heard}
 use Rattle.outcome.specs.Outcome.{Outcome, outcome}
-use Rattle.outcome.specs.Printed.{printed, printed_of}
+use Rattle.outcome.specs.Printed.{refusal_text, printed, printed_of}
+use Rattle.outcome.proofs.Room.{outcome_fits}
 use Rattle.outcome.proofs.Heard.{length_heard, same_left, same_printed, same_behind}
 use Rattle.outcome.proofs.Kept.{outcome_whole}
 use Rattle.engine.specs.declared.Done.{Done}
@@ -29,13 +35,10 @@ use Rattle.engine.specs.Served.{outcome_from}
 use Rattle.engine.proofs.Serving.{answer_fits}
 use Rattle.bucketrun.specs.Program.{answer_room, served_line, after_line, printed_line, left_by, printed_by, ended_length}
 use Rattle.bucketrun.specs.Course.{Servable, Through, BetweenLines, ServedSome, BetweenParts, ServedAll}
-use Rattle.bucketrun.proofs.Printing.{wrote_front}
+use Rattle.bucketrun.proofs.Printing.{wrote_front, prints_answer}
 use Rattle.bucketrun.proofs.Lines.{none_feed, none_end, end_append, end_first, lines_append, lines_first}
 
 -- ## The first bytes of a block, and more of them
-
-through_none : (b : Lent) (block : List ℕ) → whole b ≡ true → Through b block 0 b
-through_none b block w = record { is_whole = w; leads = refl; inside = omega arith; cut = refl }
 
 module _ (h : Lent) (block : List ℕ) (i : ℕ) (b : Lent) (g : Through h block i b) where
   end_behind : (u : List ℕ) → ended_length (take i block ++ u) ≡ i + ended_length u
@@ -94,11 +97,11 @@ module _ (b : Lent) (rest : List ℕ) (k : ℕ) (f : k ≡ feed_at rest) (z : k 
 -- ## Between two lines
 
 -- A line's answer stands within the part of the output that it was lent.
-pub answer_most : (b : Lent) (l out e' n' k' p : List ℕ) (at : ℕ) (r : Done) → outcome_from r e' n' k' p ≡ outcome b (call l (mid_of at (at + 65536 - at) out))
+pub answer_most : (s : State) (b : Lent) (l out e' n' k' p : List ℕ) (at : ℕ) (q : Result Done Refusal) (r : Done) → outcome_from s q e' n' k' p ≡ outcome b (call l (mid_of at (at + 65536 - at) out)) → q ≡ Ok r
     → length p ≡ length (mid_of at (at + 65536 - at) out) → r.len ≤ 65536
-answer_most b l out e' n' k' p at r q e =
+answer_most s b l out e' n' k' p at q r f w e =
     let m : length p ≡ _ = e ∙ ap length (part_cut out at 65536) ∙ length-take 65536 (drop at out) in
-    omega (arith, answer_fits b _ (rules_of e') n' k' p r q)
+    omega (arith, answer_fits s b _ (rules_of e') n' k' p r (rw w at f))
 
 -- A part of the output, put back.
 module _ (out p : List ℕ) (at k : ℕ) (h : at + k ≤ length out) (l : length p ≡ k) where
@@ -123,37 +126,22 @@ module _ (out p : List ℕ) (at k : ℕ) (h : at + k ≤ length out) (l : length
       ∙ drop-drop (length vs) at out in
       ap₂ (λ (x y : List ℕ). x ++ vs ++ y) (take_put at k out p (omega arith)) d
 
-pub first_line_lem : (b : Lent) (e out block : List ℕ) (from : ℕ) → from ≤ length block → Servable b e out → BetweenLines b block from e out b e out 0 from
-first_line_lem b e out block from l a =
-    let z : from - from ≡ 0 = omega arith in
-    record {
-      served = record { span = record { from = omega arith; to = l }; through = rw z (through_none b (drop from block) a.is_whole); prints = rw z (record { next = refl; holds = refl; long = refl; most = omega arith }); most = omega arith };
-      long = a.long;
-      entries_long = a.entries_long;
-      entries_same = refl;
-      numbers_same = refl;
-      keys_same = refl;
-      out_same = refl;
-    }
-
 module _ (h : Lent) (block : List ℕ) (from : ℕ) (e₀ out₀ : List ℕ) (b : Lent) (e out : List ℕ) (at i : ℕ) (g : BetweenLines h block from e₀ out₀ b e out at i) where
   -- The bytes that are not served yet.
   left_is : drop i block ≡ drop (i - from) (drop from block)
   left_is = let z : i ≡ from + (i - from) = omega (arith, g.served.span.from) in ap (λ (j : ℕ). drop j block) z ∙ sym (drop-drop (i - from) from block)
 
-  pub line_room : at ≤ 65536 → at + 65536 ≤ length out
-  line_room m = omega (arith, g.long)
-
   -- One line is served.
-  pub next_line : (k : ℕ) (r : Done) (e' n' k' p : List ℕ) → at ≤ 65536 → outcome_from r e' n' k' p ≡ outcome b (call (take (i + k - i) (drop i block)) (mid_of at (at + 65536 - at) out))
-      → length p ≡ length (mid_of at (at + 65536 - at) out) → (out' : List ℕ) (j : ℕ) → Within k (feed_at (take (length block - i) (drop i block))) (length (take (length block - i) (drop i block))) → i + k < length block
-      → Wrote (put_mid at (at + 65536 - at) out p) at (printed r.number (take r.len (drop at (put_mid at (at + 65536 - at) out p)))) 65536 out' j → length e' ≡ length e → length n' ≡ length b.numbers → length k' ≡ length b.keys
-      → BetweenLines h block from e₀ out₀ (lent_with r.state e' n' k') e' out' j (i + k + 1)
-  next_line k r e' n' k' p m q lp out' j w' z v le ln lk =
+  line_after : (k : ℕ) (o : Outcome) → at ≤ 65536 → o ≡ outcome b (call (take (i + k - i) (drop i block)) (mid_of at (at + 65536 - at) out))
+      → length o.answer ≡ length (mid_of at (at + 65536 - at) out) → (out' : List ℕ) (j : ℕ) → Within k (feed_at (take (length block - i) (drop i block))) (length (take (length block - i) (drop i block))) → i + k < length block
+      → Wrote (put_mid at (at + 65536 - at) out o.answer) at (printed o.number (take o.len (drop at (put_mid at (at + 65536 - at) out o.answer)))) 65536 out' j
+      → (e' : List ℕ) → length e' ≡ length e → length o.bucket.numbers ≡ length b.numbers → length o.bucket.keys ≡ length b.keys
+      → BetweenLines h block from e₀ out₀ o.bucket e' out' j (i + k + 1)
+  line_after k o m q lp out' j w' z v e' le ln lk =
       let t = g.served in
+      let p = o.answer in
       let rest = drop (i - from) (drop from block) in
       let a = take 65536 (drop at out) in
-      let o = outcome_from r e' n' k' p in
       let d : i + k - i ≡ k = omega arith in
       let c : at + 65536 - at ≡ 65536 = omega arith in
       let u : i + k + 1 - from ≡ i - from + suc k = omega (arith, t.span.from) in
@@ -163,9 +151,10 @@ module _ (h : Lent) (block : List ℕ) (from : ℕ) (e₀ out₀ : List ℕ) (b 
       let f : k ≡ feed_at rest = rw (rest_all i block, left_is) at w'.is in
       let y : k < length rest = rw (← left_is, length-drop) (omega arith) in
       let x : o ≡ outcome b (call (take k rest) a) = rw (d, c, left_is) at q in
+      let most : o.len ≤ length p = subst⁻¹ (λ (z : Outcome). z.len ≤ length z.answer) x (outcome_fits b (call (take k rest) a)) in
       let w = line_through b rest k f y a la o x t.through.is_whole in
-      let s : printed r.number (take r.len (drop at (put_mid at (at + 65536 - at) out p))) ≡ printed_of o =
-      rw c (ap (printed r.number) (part_read out p at 65536 (omega (arith, g.long)) l r.len (omega (arith, answer_fits b _ (rules_of e') n' k' p r q)))) in
+      let s : printed o.number (take o.len (drop at (put_mid at (at + 65536 - at) out p))) ≡ printed_of o =
+      rw c (ap (printed o.number) (part_read out p at 65536 (omega (arith, g.long)) l o.len (omega (arith, most)))) in
       let behind : drop (length (printed_of o)) p ≡ drop (length (printed_of o)) a = subst⁻¹ (λ (z : Outcome). drop (length (printed_of z)) z.answer ≡ drop (length (printed_of z)) a) x (same_behind b (call (take k rest) a)) in
       let wrote : Wrote out at (printed_of o) 65536 out' j =
       (let v = rw (s, c) at v in
@@ -199,23 +188,27 @@ module _ (h : Lent) (block : List ℕ) (from : ℕ) (e₀ out₀ : List ℕ) (b 
       let n : ended_length (drop i block) ≡ 0 = none_end (drop i block) (none_feed (drop i block) (omega (arith, x.is, x.most))) in
       record { served = t; all = λ y. omega (arith, end_rest h (drop from block) (i - from) b t.through, rw left_is at n) }
 
-  -- An answer might not fit.
-  pub lines_stopped : 65536 < at → ServedSome h block from out₀ b out at i
-  lines_stopped q = record { served = g.served; all = λ y. absurd (omega (arith, q, y)) }
+-- One line more is answered where its answer stands already, or refused.
+module _ (h : Lent) (block : List ℕ) (from : ℕ) (e₀ out₀ : List ℕ) (s : State) (e n keys out : List ℕ) (at i : ℕ) (g : BetweenLines h block from e₀ out₀ (lent_with s e n keys) e out at i) (k : ℕ) (r : Result Done Refusal) (e' n' k' p : List ℕ)
+    (m : at ≤ 65536) (q : outcome_from s r e' n' k' p ≡ outcome (lent_with s e n keys) (call (take (i + k - i) (drop i block)) (mid_of at (at + 65536 - at) out))) (lp : length p ≡ length (mid_of at (at + 65536 - at) out))
+    (w : Within k (feed_at (take (length block - i) (drop i block))) (length (take (length block - i) (drop i block)))) (z : i + k < length block) (le : length e' ≡ length e) (ln : length n' ≡ length n) (lk : length k' ≡ length keys) where
+  part_room : at + 65536 ≤ length (put_mid at (at + 65536 - at) out p)
+  part_room = omega (arith, same_len_mid at (at + 65536 - at) out p lp, g.long)
+
+  pub next_answered : (d : Done) → r ≡ Ok d → BetweenLines h block from e₀ out₀ (lent_with d.state e' n' k') e' (put_mid at (at + 65536 - at) out p) (at + d.len) (i + k + 1)
+  next_answered d f =
+      line_after h block from e₀ out₀ (lent_with s e n keys) e out at i g k (outcome_from s (Ok d) e' n' k' p) m (rw f at q) lp _ _ w z
+      (prints_answer (put_mid at (at + 65536 - at) out p) at 0 d.len part_room (answer_most s _ _ out e' n' k' p at r d q f lp) refl) e' le ln lk
+
+  pub next_refused : (x : Refusal) (out' : List ℕ) (j : ℕ) → r ≡ Err x → Wrote (put_mid at (at + 65536 - at) out p) at (refusal_text (number_of x)) 65536 out' j
+      → BetweenLines h block from e₀ out₀ (lent_with s e' n' k') e' out' j (i + k + 1)
+  next_refused x out' j f v =
+      let y : printed (number_of x) (take 0 (drop at (put_mid at (at + 65536 - at) out p))) ≡ refusal_text (number_of x) = rw (ne_eqb (number_of x) 0 (number_not_0 x)) in
+      line_after h block from e₀ out₀ (lent_with s e n keys) e out at i g k (outcome_from s (Err x) e' n' k' p) m (rw f at q) lp out' j w z (rw y v) e' le ln lk
 
 -- ## Between two parts
 
-some_served : (h : Lent) (block : List ℕ) (j : ℕ) → 0 < length (printed_by h (lines_of (take j block))) → 0 < j
-some_served h block zero q = absurd (omega arith)
-some_served h block (suc j) q = omega arith
-
-pub first_part : (b : Lent) (e out block : List ℕ) (w : Option (List ℕ)) → Servable b e out → BetweenParts b block e out w b e out w 0
-first_part b e out block w a = record { through = through_none b block a.is_whole; writes = Appends-nil w; long = a.long; entries_long = a.entries_long; entries_same = refl; numbers_same = refl; keys_same = refl; out_same = refl }
-
 module _ (h : Lent) (block e₀ out₀ : List ℕ) (w₀ : Option (List ℕ)) (b : Lent) (e out : List ℕ) (w : Option (List ℕ)) (i : ℕ) (g : BetweenParts h block e₀ out₀ w₀ b e out w i) where
-  pub part_servable : Servable b e out
-  part_servable = record { is_whole = g.through.is_whole; entries_long = g.entries_long; long = g.long }
-
   module _ (b' : Lent) (out' : List ℕ) (at j : ℕ) (d : ServedSome b block i out b' out' at j) where
     on : i + (j - i) ≡ j
     on = omega (arith, d.served.span.from)
@@ -223,26 +216,18 @@ module _ (h : Lent) (block e₀ out₀ : List ℕ) (w₀ : Option (List ℕ)) (b
     part_through : Through h block j b'
     part_through = rw on at (through_both h block i b g.through (j - i) b' d.served.through)
 
-    -- Where output waits, a line was served.
-    pub part_less : 65536 < at → length block - j < length block - i
-    part_less q =
-        let x = some_served b (drop i block) (j - i) (omega (arith, d.served.prints.next)) in
-        omega (arith, d.served.span.to)
-
     -- What waits is what the part prints.
-    part_written : (w' : Option (List ℕ)) → Appends w w' (take (at - 0) out') → Appends w₀ w' (printed_by h (lines_of (take j block)))
+    part_written : (w' : Option (List ℕ)) → Appends w w' (take at out') → Appends w₀ w' (printed_by h (lines_of (take j block)))
     part_written w' p =
-        let z : at - 0 ≡ at = omega arith in
-        let front : take (at - 0) out' ≡ printed_by b (lines_of (take (j - i) (drop i block))) = rw z (wrote_front out 0 _ 131072 out' at (omega arith) d.served.prints) in
+        let front : take at out' ≡ printed_by b (lines_of (take (j - i) (drop i block))) = wrote_front out 0 _ 131072 out' at (omega arith) d.served.prints in
         let both = rw on at (printed_both h block i b g.through (j - i) b' d.served.through) in
         subst (Appends w₀ w') (sym both) (Appends-trans w₀ w w' _ _ g.writes (subst (Appends w w') front p))
 
-    pub part_next : (e' : List ℕ) (w' : Option (List ℕ)) (told : Bool) → (told ≡ true → Appends w w' (take (at - 0) out')) → told ≡ true
-        → length e' ≡ length e → length b'.numbers ≡ length b.numbers → length b'.keys ≡ length b.keys → length out' ≡ length out → BetweenParts h block e₀ out₀ w₀ b' e' out' w' j
-    part_next e' w' told p t le ln lk lo =
+    pub part_next : {A E : Type 0} (e' : List ℕ) (w' : Option (List ℕ)) (r : Result A E) (x : A) → r ≡ Ok x → OnOk r (Appends w w' (take at out')) → length e' ≡ length e → length b'.numbers ≡ length b.numbers → length b'.keys ≡ length b.keys → length out' ≡ length out → BetweenParts h block e₀ out₀ w₀ b' e' out' w' j
+    part_next e' w' r x q p le ln lk lo =
         record {
           through = part_through;
-          writes = part_written w' (p t);
+          writes = part_written w' (rw q at p);
           long = lo ∙ g.long;
           entries_long = le ∙ g.entries_long;
           entries_same = le ∙ g.entries_same;
@@ -251,9 +236,5 @@ module _ (h : Lent) (block e₀ out₀ : List ℕ) (w₀ : Option (List ℕ)) (b
           out_same = lo ∙ g.out_same;
         }
 
-    -- Nobody takes the output.
-    pub parts_stopped : (w' : Option (List ℕ)) → ServedAll h block w₀ b' w' j false
-    parts_stopped w' = record { through = part_through; all = λ x. absurd (clash false x refl); writes = λ x. absurd (clash false x refl) }
-
-    pub parts_done : (w' : Option (List ℕ)) (told : Bool) → (told ≡ true → Appends w w' (take (at - 0) out')) → told ≡ true → at ≤ 65536 → ServedAll h block w₀ b' w' j true
-    parts_done w' told p t q = record { through = part_through; all = λ y. omega (arith, on, d.all q, end_rest h block i b g.through); writes = λ y. part_written w' (p t) }
+    pub parts_done : {A E : Type 0} (w' : Option (List ℕ)) (r : Result A E) (x : A) → r ≡ Ok x → OnOk r (Appends w w' (take at out')) → at ≤ 65536 → ServedAll h block w₀ b' w' j
+    parts_done w' r x q p m = record { through = part_through; all = omega (arith, on, d.all m, end_rest h block i b g.through); writes = part_written w' (rw q at p) }

@@ -2,15 +2,18 @@
 // All that is owed is written before more is read, so that whoever waits for an answer has it.
 #![tactic(auto)]
 
-ghost use Rattle.std.specs.Prelude.{◌≡◌, ◌+◌, ◌≤◌, ◌<◌, min, length, take, drop, replicate};
-ghost use Rattle.buffers.specs.Ranges.{Within, Span};
+ghost use Rattle.std.specs.Prelude.{◌+◌, ◌≤◌, ◌<◌, ◌≡◌, length, take, drop, replicate, is_some, is_ok, is_err, IfOk};
+ghost use Rattle.buffers.specs.Ranges.{Span};
 ghost use Rattle.buffers.specs.Writes.{Wrote};
 ghost use Rattle.bucket.specs.Whole.{lent_with};
-ghost use Rattle.outcome.specs.Printed.{printed};
-ghost use Rattle.bucketrun.specs.Course.{Servable, ServedSome, ServedAll, CameBehind, TookBlock, Startable, Ran};
+ghost use Rattle.model.specs.Refusal.{number_of};
+ghost use Rattle.outcome.specs.Printed.{refusal_text};
+ghost use Rattle.bucketrun.specs.Course.{Servable, ServedSome, ServedAll, failed_in, CameBehind, TookBlock, Startable, Ran};
 
+use model::Refusal;
 use settings::State;
-use std::io::{Read, Write};
+use std::io;
+use std::io::{ErrorKind, Read, Write};
 
 // The length of the answer buffer; no more output than that waits when a line comes.
 const ROOM: usize = 65536;
@@ -26,48 +29,41 @@ pub struct Course {
     pub served: usize,
 }
 
-// After a block: the state, how many of its bytes are served, and whether all output is written.
+// After a block whose output is written: the state, and how many of its bytes are served.
 #[derive(Clone, Copy)]
 pub struct Block {
     pub state: State,
     pub served: usize,
-    pub told: bool,
 }
 
-// After a read: the place behind the bytes that are there, whether no more come, and whether that is since reading failed.
-#[derive(Clone, Copy)]
+// After a read: the place behind the bytes that are there, and, where no more come, whether reading failed.
+#[derive(Drop)]
 pub struct Came {
     pub end: usize,
-    pub over: bool,
-    pub failed: bool,
+    pub over: Option<io::Result<()>>,
 }
 
-// Before the next block: the state, how many bytes at the input's front are kept, and whether all output is written.
+// Before the next block: the state, and how many bytes at the input's front are kept.
 #[derive(Clone, Copy)]
 pub struct Rest {
     pub state: State,
     pub kept: usize,
-    pub told: bool,
 }
 
-// After the run: whether all output is written, and whether reading failed.
-#[derive(Clone, Copy)]
+// After the run: whether reading failed, and whether writing did.
+#[derive(Drop)]
 pub struct End {
-    pub told: bool,
-    pub failed: bool,
+    pub read: io::Result<()>,
+    pub written: io::Result<()>,
 }
 
-// What a line prints stands where it goes out from: its answer does so already, a refusal is written there. Returns the place after it.
-fn print(out: &mut [u8], at: usize, number: u64, len: usize) -> usize
-    requires at_in_bounds { at + 65536 ≤ length out.old }
-    requires len_bound { len ≤ 65536 }
-    ensures { Wrote out.old at (printed number (take len (drop at out.old))) 65536 out.new result }
+// Prints a refusal at a place of the output, and returns the place after it.
+fn print_refusal(out: &mut [u8], at: usize, refusal: Refusal) -> usize
+    requires { at + 65536 ≤ length out.old }
+    ensures { Wrote out.old at (refusal_text (number_of refusal)) 65536 out.new result }
 {
-    if number == 0 {
-        return at + len;
-    }
     let after_no = buffers::copy_in(out, at, b"no\t");
-    let after_number = text::print_number(out, after_no, number);
+    let after_number = text::print_number(out, after_no, refusal.number());
     buffers::copy_in(out, after_number, b"\n")
 }
 
@@ -88,24 +84,23 @@ fn serve_some(
     let mut after = s;
     let mut at = 0;
     let mut i = from;
+    // It ends where no line is left or the output waits, so that no range counts the lines.
     while at <= ROOM {
         let end = i + text::line_length(&block[i..]);
         if block.len() <= end {
             break;
         }
-        let next = end + 1;
         let room = at + ROOM;
-        let r = engine::serve_whole(
-            after,
-            entries,
-            rows,
-            keys,
-            &block[i..end],
-            &mut out[at..room],
-        );
-        after = r.state;
-        at = print(out, at, r.number, r.len);
-        i = next;
+        let line = &block[i..end];
+        match engine::serve_whole(after, entries, rows, keys, line, &mut out[at..room]) {
+            // The answer stands already where it goes out from.
+            Ok(done) => {
+                after = done.state;
+                at += done.len;
+            }
+            Err(refusal) => at = print_refusal(out, at, refusal),
+        }
+        i = end + 1;
     }
     Course {
         state: after,
@@ -123,30 +118,24 @@ fn serve_all<W: Write>(
     rows: &mut [u64],
     keys: &mut [u8],
     out: &mut [u8],
-) -> Block
+) -> io::Result<Block>
     requires { Servable (lent_with s entries.old rows.old keys.old) entries.old out.old }
-    ensures { ServedAll (lent_with s entries.old rows.old keys.old) block.now (W.contents writer.old) (lent_with result.state entries.new rows.new keys.new) (W.contents writer.new) result.served result.told }
+    ensures { IfOk result (λ after. ServedAll (lent_with s entries.old rows.old keys.old) block.now (W.contents writer.old) (lent_with after.state entries.new rows.new keys.new) (W.contents writer.new) after.served) }
 {
     let mut after = s;
     let mut i = 0;
+    // How many parts a block takes hangs on the answers, so that no range counts them.
     loop {
-        let r = serve_some(block, i, after, entries, rows, keys, out);
-        after = r.state;
-        i = r.served;
-        let at = r.at;
-        if !streams::write_whole(writer, &out[0..at]) {
-            return Block {
-                state: after,
-                served: i,
-                told: false,
-            };
-        }
+        let course = serve_some(block, i, after, entries, rows, keys, out);
+        after = course.state;
+        i = course.served;
+        let at = course.at;
+        streams::write_whole(writer, &out[..at])?;
         if at <= ROOM {
-            return Block {
+            return Ok(Block {
                 state: after,
                 served: i,
-                told: true,
-            };
+            });
         }
     }
 }
@@ -154,40 +143,29 @@ fn serve_all<W: Write>(
 // Reads behind the bytes that are kept; at the input's end, or where reading fails, nothing comes, and a line feed ends what is kept, if that is anything.
 fn read_behind<R: Read>(reader: &mut R, input: &mut [u8], kept: usize) -> Came
     requires { kept < length input.old }
-    ensures { CameBehind input.old kept (R.remaining reader.old) input.new (R.remaining reader.new) result.end result.over result.failed }
+    ensures { CameBehind input.old kept (R.remaining reader.old) input.new (R.remaining reader.new) result.end (is_some result.over) (failed_in result.over) }
 {
-    let brought = streams::read_some(reader, &mut input[kept..]);
-    let count = brought.count;
-    if count > 0 {
-        return Came {
-            end: kept + count,
-            over: false,
-            failed: false,
-        };
-    }
+    let read = match streams::read_some(reader, &mut input[kept..]) {
+        Ok(count) if count > 0 => {
+            return Came {
+                end: kept + count,
+                over: None,
+            };
+        }
+        Ok(_) => Ok(()),
+        Err(error) => Err(error),
+    };
     if kept == 0 {
         return Came {
             end: 0,
-            over: true,
-            failed: brought.failed,
+            over: Some(read),
         };
     }
     input[kept] = b'\n';
     Came {
         end: kept + 1,
-        over: true,
-        failed: brought.failed,
+        over: Some(read),
     }
-}
-
-// Of so many bytes of a line, how many are kept.
-fn needed(len: usize) -> usize
-    ensures { Within result (min len 513) 513 }
-{
-    if len < LONGEST {
-        return len;
-    }
-    LONGEST
 }
 
 // Copies what is needed of the bytes from `from` to `to` to the front, and returns how many these are.
@@ -195,11 +173,9 @@ fn keep(input: &mut [u8], from: usize, to: usize) -> usize
     requires { Span from to (length input.old) }
     ensures { Wrote input.old 0 (take 513 (drop from (take to input.old))) 513 input.new result }
 {
-    let mut line = no_line();
-    let len = needed(to - from);
-    let end = from + len;
-    buffers::copy_in(&mut line, 0, &input[from..end]);
-    buffers::copy_in(input, 0, &line[0..len])
+    let len = (to - from).min(LONGEST);
+    input.copy_within(from..from + len, 0);
+    len
 }
 
 // Serves the lines of the input up to `end`, and keeps what stands behind its last line feed.
@@ -212,22 +188,20 @@ fn serve_block<W: Write>(
     rows: &mut [u64],
     keys: &mut [u8],
     out: &mut [u8],
-) -> Rest
+) -> io::Result<Rest>
     requires end_in_bounds { end ≤ length input.old }
     requires servable { Servable (lent_with s entries.old rows.old keys.old) entries.old out.old }
-    ensures { TookBlock (lent_with s entries.old rows.old keys.old) (take end input.old) (W.contents writer.old) (lent_with result.state entries.new rows.new keys.new) input.new (W.contents writer.new) result.kept result.told }
+    ensures { IfOk result (λ rest. TookBlock (lent_with s entries.old rows.old keys.old) (take end input.old) (W.contents writer.old) (lent_with rest.state entries.new rows.new keys.new) input.new (W.contents writer.new) rest.kept) }
 {
-    let block = serve_all(writer, &input[0..end], s, entries, rows, keys, out);
-    let after = block.state;
+    let block = serve_all(writer, &input[..end], s, entries, rows, keys, out)?;
     let kept = keep(input, block.served, end);
-    Rest {
-        state: after,
+    Ok(Rest {
+        state: block.state,
         kept,
-        told: block.told,
-    }
+    })
 }
 
-// Serves the input block by block, up to its end or to where reading fails, and returns whether all output is written, and whether reading failed.
+// Serves the input block by block, up to its end or to where reading or writing fails.
 // Nothing says that the input ends, and a proved loop has to: it counts up to a number of blocks that no run reaches.
 fn run<R: Read, W: Write>(
     reader: &mut R,
@@ -240,44 +214,45 @@ fn run<R: Read, W: Write>(
     out: &mut [u8],
 ) -> End
     requires { Startable (lent_with s entries.old rows.old keys.old) entries.old input.old out.old }
-    ensures { Ran result.told result.failed (lent_with s entries.old rows.old keys.old) (R.remaining reader.old) (W.contents writer.old) rows.new keys.new (R.remaining reader.new) (W.contents writer.new) }
+    ensures { Ran (is_ok result.written) (is_err result.read) (lent_with s entries.old rows.old keys.old) (R.remaining reader.old) (W.contents writer.old) rows.new keys.new (R.remaining reader.new) (W.contents writer.new) }
 {
     let mut after = s;
     let mut kept = 0;
-    let stopped = End {
-        told: false,
-        failed: false,
-    };
     for _ in 0..u64::MAX {
         let came = read_behind(reader, input, kept);
-        let rest = serve_block(writer, input, came.end, after, entries, rows, keys, out);
-        if came.over {
-            return End {
-                told: rest.told,
-                failed: came.failed,
-            };
+        let served = serve_block(writer, input, came.end, after, entries, rows, keys, out);
+        match came.over {
+            Some(read) => {
+                return End {
+                    read,
+                    written: served.map(|_| ()),
+                };
+            }
+            None => match served {
+                Ok(rest) => {
+                    after = rest.state;
+                    kept = rest.kept;
+                }
+                Err(error) => {
+                    return End {
+                        read: Ok(()),
+                        written: Err(error),
+                    };
+                }
+            },
         }
-        if !rest.told {
-            return stopped;
-        }
-        after = rest.state;
-        kept = rest.kept;
     }
-    stopped
+    End {
+        read: Ok(()),
+        written: Err(io::Error::from(ErrorKind::Other)),
+    }
 }
 
-// A block of input, and a line that began before it.
+// A block of input, and a line that began before it: a function of its own, since the search in main breaks off at so many zeros.
 fn no_input() -> [u8; 66560]
     ensures { result ≡ replicate 66560 0 }
 {
     [0; 66560]
-}
-
-// The start of a line.
-fn no_line() -> [u8; 513]
-    ensures { result ≡ replicate 513 0 }
-{
-    [0; 513]
 }
 
 // The output that waits, and a line's answer behind it.
@@ -288,27 +263,25 @@ fn no_output() -> [u8; 131072]
 }
 
 fn main(rt: HostRuntime) {
-    let mut entries = settings::no_entries();
+    let mut entries = [0; 640];
     let mut input = no_input();
     let mut rows = table::fresh_rows();
     let mut keys = table::fresh_keys();
     let mut out = no_output();
-    let mut reader = rt.stdin();
-    let mut writer = rt.stdout();
     let end = run(
-        &mut reader,
-        &mut writer,
-        settings::state_of(settings::fresh()),
+        &mut rt.stdin(),
+        &mut rt.stdout(),
+        State::from(settings::fresh()),
         &mut entries,
         &mut input,
         &mut rows,
         &mut keys,
         &mut out,
     );
-    if end.failed {
+    if end.read.is_err() {
         let _ = eprintln!(rt; "bucketrun: standard input can't be read");
     }
-    if !end.told {
+    if end.written.is_err() {
         let _ = eprintln!(rt; "bucketrun: standard output can't be written");
     }
 }

@@ -2,7 +2,7 @@
 use Prim.Native.Nat.{ℕ, ◌≤◌, ◌<◌}
 use mathlib.Core.Path.{◌≡◌, refl, ap}
 use mathlib.Core.Bool.{Bool, true, false}
-use mathlib.Core.Option.{some}
+use Rattle.std.specs.Prelude.{Some}
 use lib.Dec.{ltb, eqb}
 use borrow.Author.Tests.{lt-ltb, le-ltb, eq-eqb, ne_eqb}
 use Rattle.buffers.specs.Choices.{pick}
@@ -36,10 +36,6 @@ module _ (A : Type 0) (v x y : A) where
 
   pub pick_ge : (a b : ℕ) → b ≤ a → v ≡ y → v ≡ pick (ltb a b) x y
   pick_ge a b h q = cc (le-ltb a b h)
-
--- A value that is there.
-pub some_is : (A : Type 0) (a b : A) → a ≡ b → some a ≡ some b
-some_is A a b e = ap some e
 
 -- for a chain of tests on bools
 pub ruleset tests = (refl, pick_yes, pick_no)

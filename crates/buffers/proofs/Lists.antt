@@ -4,7 +4,7 @@ use mathlib.Core.Path.{◌≡◌, refl, sym, ◌∙◌, ap, ap₂}
 use mathlib.Core.Logic.{inl, inr}
 use mathlib.Core.Bool.{Bool, true, false, not, ◌&&◌, false≢true, and-false, and_comm}
 use mathlib.Core.List.{List, [], ◌∷◌, ◌++◌, append-nil, map}
-use mathlib.Core.Option.{Option, some, none}
+use Rattle.std.specs.Prelude.{Option, Some, None}
 use native.Mathlib.Omega.{arith}
 use native.Mathlib.Numerals.{unary_clauses}
 use lib.Dec.{eqb}
@@ -124,11 +124,11 @@ module _ {A : Type 0} where
   all_both p q (x ∷ xs) e f = and_i (p x && q x) _ (and_i (p x) _ (and_l _ _ e) (and_l _ _ f)) (all_both p q xs (and_r (p x) _ e) (and_r (q x) _ f))
 
   -- What is found passes the test that all pass.
-  pub all_first : (p q : A → Bool) (xs : List A) (x : A) → all p xs ≡ true → first q xs ≡ some x → p x ≡ true
+  pub all_first : (p q : A → Bool) (xs : List A) (x : A) → all p xs ≡ true → first q xs ≡ Some x → p x ≡ true
   all_first p q [] x e f = cc
   all_first p q (y ∷ ys) x e f =
       elim (either (q y)) [
-        | inl t ↦ let g : some y ≡ some x = rw t at f in let h : y ≡ x = cc in rw h at (and_l (p y) _ e)
+        | inl t ↦ let g : Some y ≡ Some x = rw t at f in let h : y ≡ x = cc in rw h at (and_l (p y) _ e)
         | inr t ↦ all_first p q ys x (and_r (p y) _ e) (rw t at f)
       ]
 
@@ -199,7 +199,7 @@ module _ {A : Type 0} where
   first_skip p [] ys e = refl
   first_skip p (x ∷ xs) ys e = rw (not-true (p x) (and_l _ _ e)) (first_skip p xs ys (and_r (not (p x)) _ e))
 
-  pub first_none : (p : A → Bool) (xs : List A) → all (λ x. not (p x)) xs ≡ true → first p xs ≡ none
+  pub first_none : (p : A → Bool) (xs : List A) → all (λ x. not (p x)) xs ≡ true → first p xs ≡ None
   first_none p xs e = ap (first p) (sym (append-nil xs)) ∙ first_skip p xs [] e
 
   -- What is found stands behind elements that don't pass.
@@ -209,12 +209,12 @@ module _ {A : Type 0} where
     pub list_is : xs ≡ early ++ x ∷ late
     pub none_before : all (λ y. not (p y)) early ≡ true
 
-  pub found_at : (p : A → Bool) (xs : List A) (x : A) → first p xs ≡ some x → FoundAt p xs x
+  pub found_at : (p : A → Bool) (xs : List A) (x : A) → first p xs ≡ Some x → FoundAt p xs x
   found_at p [] x e = let z : ◌≡◌ {A = ℕ} 0 1 = cc in absurd (omega arith)
   found_at p (y ∷ ys) x e =
       elim (either (p y)) [
         | inl t ↦
-            let g : some y ≡ some x = rw t at e in
+            let g : Some y ≡ Some x = rw t at e in
             let h : y ≡ x = cc in
             record { early = []; late = ys; list_is = ap (λ (z : A). z ∷ ys) h; none_before = refl }
         | inr t ↦
@@ -224,7 +224,7 @@ module _ {A : Type 0} where
 
   pub first_as : (p q : A → Bool) → ((x : A) → p x ≡ q x) → (xs : List A) → first p xs ≡ first q xs
   first_as p q f [] = refl
-  first_as p q f (x ∷ xs) = rw (f x) (ap (λ (r : Option A). pick (q x) (some x) r) (first_as p q f xs))
+  first_as p q f (x ∷ xs) = rw (f x) (ap (λ (r : Option A). pick (q x) (Some x) r) (first_as p q f xs))
 
   -- ## Sums
 

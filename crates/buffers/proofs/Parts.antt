@@ -48,12 +48,6 @@ part_element l a i k h = sym (get_or-take k (drop a l) i 0 h ∙ get_or-drop a l
 pub part_first : (l : List ℕ) (a k : ℕ) → 0 < k → get_or l a 0 ≡ get_or (take k (drop a l)) 0 0
 part_first l a k h = ap (λ (n : ℕ). get_or l n 0) (sym (add-zero a)) ∙ part_element l a 0 k h
 
-pub placed_length : (l : List ℕ) (a : ℕ) (vs : List ℕ) → a + length vs ≤ length l → length (placed l a vs) ≡ length l
-placed_length l a vs h =
-    let t = length-take-le a l (omega arith) in
-    let d = length-drop (a + length vs) l in
-    simp length-append (omega arith)
-
 pub placed_same : (l : List ℕ) (a k : ℕ) → a + k ≤ length l → l ≡ placed l a (take k (drop a l))
 placed_same l a k h =
     let s : length (take k (drop a l)) ≡ k = simp (length-take, length-drop) (omega arith) in
@@ -62,13 +56,13 @@ placed_same l a k h =
 
 -- ## A part that is lent
 
-drop_taken : (k : ℕ) (l : List ℕ) → drop (length (take k l)) l ≡ drop k l
+drop_taken : {A : Type 0} (k : ℕ) (l : List A) → drop (length (take k l)) l ≡ drop k l
 drop_taken zero l = refl
 drop_taken (suc k) [] = refl
 drop_taken (suc k) (x ∷ l) = drop_taken k l
 
 -- A part comes back as long as it was, so it is written over what was there.
-pub part_back : (a k : ℕ) (xs ys zs : List ℕ) → ys ≡ zs → length ys ≡ length (mid_of a k xs) → put_mid a k xs ys ≡ placed xs a zs
+pub part_back : {A : Type 0} (a k : ℕ) (xs ys zs : List A) → ys ≡ zs → length ys ≡ length (mid_of a k xs) → put_mid a k xs ys ≡ placed xs a zs
 part_back a k xs ys zs q l =
     let n : length (take k (drop a xs)) ≡ length zs = sym l ∙ ap length q in
     rw (q, ← drop_taken k (drop a xs), n, drop-drop) (sym (append_assoc (take a xs) zs (drop (a + length zs) xs)))

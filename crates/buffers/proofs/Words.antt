@@ -1,13 +1,13 @@
 -- Laws of numbers as bytes: the way back in both directions, and a word by its eight bytes.
-use Prim.Native.Nat.{ℕ, zero, suc, ◌+◌, ◌*◌, ◌/◌, ◌%◌, ◌^◌, ◌≤◌, ◌<◌}
-use mathlib.Core.Path.{◌≡◌, refl, ap}
+use Prim.Native.Nat.{ℕ, zero, suc, ◌+◌, ◌*◌, ◌/◌, ◌%◌, ◌^◌, ◌<◌}
+use mathlib.Core.Path.{◌≡◌, refl, ap, ◌∙◌}
 use mathlib.Core.List.{List, [], ◌∷◌}
 use native.Mathlib.Omega.{arith}
 use native.Mathlib.Numerals.{add-one}
-use native.Mathlib.Nat.{pow-succ'}
-use lib.ListN.{length, take, drop, get_or}
+use native.Mathlib.Nat.{pow-succ', le_of_eq, div-one, div-div-eq-div-mul}
+use lib.ListN.{length, take, drop, get_or, drop_of_length-le}
 use lib.Seq.{drop-cons, get_or-drop}
-use Rattle.buffers.specs.Ranges.{Within}
+use Rattle.std.specs.Int.{w64, to_le_bytes, from_le_bytes, byte_at, bytes_low_first}
 use Rattle.buffers.specs.Words.{number, spelled, AllBytes}
 
 pub length_spelled : (k n : ℕ) → length (spelled k n) ≡ k
@@ -42,41 +42,40 @@ bytes_take (suc n) (b ∷ bs) h (suc k) = bytes_take n bs (λ i. h (suc i)) k
 pub bytes_drop : (n : ℕ) (bs : List ℕ) → AllBytes bs → AllBytes (drop n bs)
 bytes_drop n bs h k = rw (get_or-drop n bs k 0) (h (n + k))
 
--- ## A word
+-- ## A word, as std reads and writes it
 
-first_byte : (b : List ℕ) (i k : ℕ) → i < length b → number (take (suc k) (drop i b)) ≡ get_or b i 0 + 256 * number (take k (drop (i + 1) b))
+byte_is : (i n : ℕ) → byte_at i n ≡ n / 256 ^ i % 256
+byte_is zero n = rw div-one
+byte_is (suc i) n = refl
+
+bytes_from : (i k n : ℕ) → bytes_low_first i k n ≡ spelled k (n / 256 ^ i)
+unfolding spelled
+bytes_from i zero n = refl
+bytes_from i (suc k) n =
+    let p : 256 ^ suc i ≡ 256 ^ i * 256 = omega (arith, pow-succ' 256 i) in
+    let d : n / 256 ^ i / 256 ≡ n / 256 ^ suc i = rw p (div-div-eq-div-mul n (256 ^ i) 256) in
+    rw (byte_is i n, bytes_from (suc i) k n, d)
+
+pub word_spelled : (n : ℕ) → to_le_bytes w64 n ≡ spelled 8 n
+word_spelled n = bytes_from 0 8 n ∙ rw div-one
+
+no_bytes : number [] ≡ 0
 unfolding number
-first_byte b i k h = rw (drop-cons b i 0 h, add-one i)
+no_bytes = refl
 
-next_byte : (b : List ℕ) (i j k : ℕ) → i + j < length b → number (take (suc k) (drop (i + j) b)) ≡ get_or b (i + j) 0 + 256 * number (take k (drop (i + suc j) b))
-next_byte b i j k h = let e : i + suc j ≡ i + j + 1 = omega arith in rw e (first_byte b (i + j) k h)
-
-no_byte : (b : List ℕ) → number (take 0 b) ≡ 0
+first_byte : (bs : List ℕ) (i : ℕ) → i < length bs → number (drop i bs) ≡ get_or bs i 0 + 256 * number (drop (i + 1) bs)
 unfolding number
-no_byte b = refl
+first_byte bs i h = rw (drop-cons bs i 0 h, add-one i)
 
-pub half_sum : (b : List ℕ) (i r0 r1 r2 r3 : ℕ) → i + 4 ≤ length b
-    → Within r0 (get_or b i 0) 255 → Within r1 (get_or b (i + 1) 0) 255 → Within r2 (get_or b (i + 2) 0) 255 → Within r3 (get_or b (i + 3) 0) 255
-    → Within (r0 + r1 * 256 + r2 * 65536 + r3 * 16777216) (number (take 4 (drop i b))) 4294967295
-half_sum b i r0 r1 r2 r3 h w0 w1 w2 w3 =
-    let e0 = first_byte b i 3 (omega arith) in
-    let e1 = next_byte b i 1 2 (omega arith) in
-    let e2 = next_byte b i 2 1 (omega arith) in
-    let e3 = next_byte b i 3 0 (omega arith) in
-    let e4 = no_byte (drop (i + 4) b) in
-    record { is = omega arith; most = omega arith }
-
-pub word_halves : (b : List ℕ) (i low high : ℕ) → i + 8 ≤ length b
-    → Within low (number (take 4 (drop i b))) 4294967295 → Within high (number (take 4 (drop (i + 4) b))) 4294967295
-    → low + high * 4294967296 ≡ number (take 8 (drop i b))
-word_halves b i low high h w v =
-    let e0 = first_byte b i 7 (omega arith) in
-    let e1 = next_byte b i 1 6 (omega arith) in
-    let e2 = next_byte b i 2 5 (omega arith) in
-    let e3 = next_byte b i 3 4 (omega arith) in
-    let f0 = first_byte b i 3 (omega arith) in
-    let f1 = next_byte b i 1 2 (omega arith) in
-    let f2 = next_byte b i 2 1 (omega arith) in
-    let f3 = next_byte b i 3 0 (omega arith) in
-    let f4 = no_byte (drop (i + 4) b) in
+pub word_number : (bs : List ℕ) → length bs ≡ 8 → from_le_bytes w64 bs ≡ number bs
+word_number bs h =
+    let e0 = first_byte bs 0 (omega arith) in
+    let e1 = first_byte bs 1 (omega arith) in
+    let e2 = first_byte bs 2 (omega arith) in
+    let e3 = first_byte bs 3 (omega arith) in
+    let e4 = first_byte bs 4 (omega arith) in
+    let e5 = first_byte bs 5 (omega arith) in
+    let e6 = first_byte bs 6 (omega arith) in
+    let e7 = first_byte bs 7 (omega arith) in
+    let e8 : number (drop 8 bs) ≡ 0 = rw (drop_of_length-le bs (le_of_eq h)) no_bytes in
     omega arith

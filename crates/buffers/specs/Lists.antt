@@ -1,38 +1,18 @@
 -- Lists by a test, and lists of bytes.
-use Rattle.std.specs.Prelude.{ℕ, ◌+◌, Bool, true, false, ◌&&◌, ◌||◌, List, [], ◌∷◌, eqb}
-use Rattle.std.proofs.Math.Option.{Option, some, none}
+use Rattle.std.specs.Prelude.{ℕ, ◌+◌, Bool, true, false, List, [], ◌∷◌, eqb}
 use Rattle.buffers.specs.Choices.{pick}
+-- the elements that pass a test, the first of them, whether all pass or some
+pub use Rattle.std.specs.List.{filter as keep, find as first, list_all as all, list_any as any}
 
-module _ {A : Type 0} where
-  -- the elements that pass a test
-  abbrev pub keep : (A → Bool) → List A → List A
-  keep p [] = []
-  keep p (x ∷ xs) = pick (p x) (x ∷ keep p xs) (keep p xs)
+-- the sum of a number of each element
+abbrev pub total : {A : Type 0} → (A → ℕ) → List A → ℕ
+total of [] = 0
+total of (x ∷ xs) = of x + total of xs
 
-  -- the first element that passes a test
-  abbrev pub first : (A → Bool) → List A → Option A
-  first p [] = none
-  first p (x ∷ xs) = pick (p x) (some x) (first p xs)
-
-  -- each element that passes a test, changed
-  abbrev pub change : (A → Bool) → (A → A) → List A → List A
-  change p f [] = []
-  change p f (x ∷ xs) = pick (p x) (f x) x ∷ change p f xs
-
-  -- every element passes a test
-  abbrev pub all : (A → Bool) → List A → Bool
-  all p [] = true
-  all p (x ∷ xs) = p x && all p xs
-
-  -- some element passes a test
-  abbrev pub any : (A → Bool) → List A → Bool
-  any p [] = false
-  any p (x ∷ xs) = p x || any p xs
-
-  -- the sum of a number of each element
-  abbrev pub total : (A → ℕ) → List A → ℕ
-  total of [] = 0
-  total of (x ∷ xs) = of x + total of xs
+-- each element that passes a test, changed
+abbrev pub change : {A : Type 0} → (A → Bool) → (A → A) → List A → List A
+change p f [] = []
+change p f (x ∷ xs) = pick (p x) (f x) x ∷ change p f xs
 
 -- the two are the same, byte for byte
 abbrev pub same : List ℕ → List ℕ → Bool

@@ -41,7 +41,7 @@ pub same_date_after : (c : Civil) (years : ℕ) → YearsAfter years c (same_dat
 unfolding same_date_in
 same_date_after c years =
     record {
-      later_year_lem = refl;
+      year_is_later = refl;
       same_month = refl;
       same_day = λ has. elim (either (eqb c.month 2 && (eqb c.day 29 && not (leap (c.year + years))))) [
         | inl e ↦
@@ -52,7 +52,7 @@ same_date_after c years =
             absurd (true≢false z)
         | inr e ↦ rw e
       ];
-      no_leap_day_lem = λ m d l. simp (eq-eqb _ _ m, eq-eqb _ _ d, l);
+      last_of_february = λ m d l. simp (eq-eqb _ _ m, eq-eqb _ _ d, l);
     }
 
 -- ## The end
@@ -135,7 +135,7 @@ module _ (from years : ℕ) (h : from ≤ latest) (most : years ≤ 36500) where
         on_date = rw end_date (same_date_after (civil_of n) years);
         same_time = end_time;
         later = omega (arith, later_day n years start_day most some, end_day, end_time);
-        too_late_lem = end_late;
+        is_too_late = end_late;
       }
 
 -- For every instant, however large.

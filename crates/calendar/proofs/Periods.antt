@@ -28,8 +28,8 @@ unfolding expires_at
 expires_at_midnight since days =
     let end : ℕ = since + days * day in
     elim (either (eqb (end % day) 0)) [
-      | inl e ↦ rw e (record { is_midnight = eqb-true (end % day) 0 e; no_earlier_lem = omega arith; within_a_day = omega arith })
-      | inr e ↦ rw e (record { is_midnight = omega arith; no_earlier_lem = omega arith; within_a_day = omega (arith, eqb-false (end % day) 0 e) })
+      | inl e ↦ rw e (record { is_midnight = eqb-true (end % day) 0 e; not_earlier = omega arith; within_a_day = omega arith })
+      | inr e ↦ rw e (record { is_midnight = omega arith; not_earlier = omega arith; within_a_day = omega (arith, eqb-false (end % day) 0 e) })
     ]
 
 -- More days never expire earlier.
@@ -42,7 +42,7 @@ module _ (since days t : ℕ) where
 
   -- Days have expired exactly where a midnight has come since their end.
   pub expired_came : expires_at since days ≤ t → MidnightBetween (since + days * day) t
-  expired_came h = record { at = expires_at since days; is_midnight = first.is_midnight; no_earlier_lem = first.no_earlier_lem; no_later = h }
+  expired_came h = record { at = expires_at since days; is_midnight = first.is_midnight; not_earlier = first.not_earlier; no_later = h }
 
   pub came_expired : MidnightBetween (since + days * day) t → expires_at since days ≤ t
   came_expired m = omega (arith, first, m)

@@ -24,12 +24,12 @@ period_end from count unit = pick (eqb unit 2) (years_later from count) (from + 
 
 -- The date `to` is what a contract calls some years after the date `from`.
 pub record YearsAfter (years : ℕ) (from to : Civil) : Type 0 where
-  pub later_year_lem : to.year ≡ from.year + years
+  pub year_is_later : to.year ≡ from.year + years
   pub same_month : to.month ≡ from.month
   -- The day is the same, also on 29 February where the later year has one;
   pub same_day : (from.month ≡ 2 → from.day ≡ 29 → leap to.year ≡ true) → to.day ≡ from.day
   -- where it has none, it is 28 February.
-  pub no_leap_day_lem : from.month ≡ 2 → from.day ≡ 29 → leap to.year ≡ false → to.day ≡ 28
+  pub last_of_february : from.month ≡ 2 → from.day ≡ 29 → leap to.year ≡ false → to.day ≡ 28
 
 -- Some years from an instant end at another: on that date, at the same time of day, later,
 -- and after the last instant exactly where the later year is above 9999.
@@ -37,7 +37,7 @@ pub record YearsEnd (years from end : ℕ) : Type 0 where
   pub on_date : YearsAfter years (civil_of (from / day)) (civil_of (end / day))
   pub same_time : end % day ≡ from % day
   pub later : from < end
-  pub too_late_lem : ltb latest end ≡ ltb 9999 ((civil_of (from / day)).year + years)
+  pub is_too_late : ltb latest end ≡ ltb 9999 ((civil_of (from / day)).year + years)
 
 -- How the code finds it: the year from whose first day the date of day n is as far as some years later, its own before 29 February, else the next.
 unfoldable pub turning_year : ℕ → ℕ
@@ -60,12 +60,12 @@ expires_at since days = rounded_up (since + days * day)
 -- The first midnight that is no earlier than an instant.
 pub record FirstMidnight (from at : ℕ) : Type 0 where
   pub is_midnight : at % day ≡ 0
-  pub no_earlier_lem : from ≤ at
+  pub not_earlier : from ≤ at
   pub within_a_day : at < from + day
 
 -- A midnight that is no earlier than one instant and no later than another.
 pub record MidnightBetween (from to : ℕ) : Type 0 where
   pub at : ℕ
   pub is_midnight : at % day ≡ 0
-  pub no_earlier_lem : from ≤ at
+  pub not_earlier : from ≤ at
   pub no_later : at ≤ to

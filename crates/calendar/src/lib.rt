@@ -31,29 +31,22 @@ const DAY: u64 = 86400000;
 const MONTHS: [u16; 12] = [0, 31, 59, 90, 120, 151, 181, 212, 243, 273, 304, 334];
 
 // Leap years are every fourth year, of the centuries every fourth.
+#[tactic(auto, using(buffers::proofs::Choices::picks), unfolding(crate::specs::Calendar::leap))]
 fn is_leap(year: u64) -> bool
     ensures { result ≡ leap year }
 {
-    if year % 4 != 0 {
-        return false;
-    }
-    if year % 100 != 0 {
-        return true;
-    }
-    year % 400 == 0
+    year % 4 == 0 && (year % 100 != 0 || year % 400 == 0)
 }
 
 // The days of a year.
 fn year_length(leap_year: bool) -> u64
     ensures { Within result (year_length leap_year) 366 }
 {
-    if leap_year {
-        return 366;
-    }
-    365
+    if leap_year { 366 } else { 365 }
 }
 
 // The days from 1970-01-01 to a year's first day.
+#[tactic(auto, using(crate::proofs::Years::year_start_is))]
 fn year_start(year: u64) -> u64
     requires { Span 1970 year 46500 }
     ensures { Within result (year_start year) 16264249 }
@@ -63,29 +56,30 @@ fn year_start(year: u64) -> u64
 }
 
 // The days of a year before its month, 1 to 12.
+#[tactic(auto, using(buffers::proofs::Choices::picks, crate::proofs::Months::entries), unfolding(crate::specs::Calendar::month_start))]
 fn month_start(leap_year: bool, month: u64) -> u64
     requires { Span 1 month 12 }
     ensures { Within result (month_start leap_year month) 335 }
 {
-    let i = (month - 1) as usize;
-    let before = MONTHS[i] as u64;
-    if leap_year {
-        if 2 < month {
-            return before + 1;
-        }
+    let before = u64::from(MONTHS[(month - 1) as usize]);
+    if leap_year && 2 < month {
+        before + 1
+    } else {
+        before
     }
-    before
 }
 
 // The days of a month, 1 to 12: those of February are what the other months leave of the year.
+#[tactic(auto, using(crate::proofs::Months::lengths))]
 fn month_length(leap_year: bool, month: u64) -> u64
     requires { Span 1 month 12 }
     ensures { result ≡ month_length leap_year month }
 {
     if month == 2 {
-        return year_length(leap_year) - 337;
+        year_length(leap_year) - 337
+    } else {
+        30 + (month + month / 8) % 2
     }
-    30 + (month + month / 8) % 2
 }
 
 // The calendar has this date, in the years 1970 to 9999.
@@ -93,67 +87,51 @@ fn month_length(leap_year: bool, month: u64) -> u64
 pub fn valid_day(date: Civil) -> bool
     ensures { result ≡ valid_day date }
 {
-    let year = date.year;
-    let month = date.month;
-    let day = date.day;
-    if year < 1970 {
-        return false;
-    }
-    if 9999 < year {
-        return false;
-    }
-    if month < 1 {
-        return false;
-    }
-    if 12 < month {
-        return false;
-    }
-    if day < 1 {
-        return false;
-    }
-    day <= month_length(is_leap(year), month)
+    (1970..=9999).contains(&date.year)
+        && (1..=12).contains(&date.month)
+        && 1 <= date.day
+        && date.day <= month_length(is_leap(date.year), date.month)
 }
 
 // The days from 1970-01-01 to a date.
+#[tactic(auto, using(crate::proofs::Days::days_is))]
 pub fn days_of(date: Civil) -> u64
     requires { Bounded date }
     ensures { Within result (days_of date) 2933262 }
 {
-    let year = date.year;
-    let month = date.month;
-    let day = date.day;
-    let in_year = month_start(is_leap(year), month);
-    year_start(year) + in_year + (day - 1)
+    year_start(date.year) + month_start(is_leap(date.year), date.month) + (date.day - 1)
 }
 
 // The year of a day. The guess by the mean Julian year is right or one too low.
+#[tactic(auto, using(buffers::proofs::Choices::picks, crate::proofs::Tables::measures), unfolding(crate::specs::Calendar::year_of, crate::specs::Calendar::guess_of))]
 fn year_of(days: u64) -> u64
     requires { days ≤ 2932896 }
     ensures { result ≡ year_of days }
 {
     let guess = 1970 + days * 4 / 1461;
     if days < year_start(guess + 1) {
-        return guess;
+        guess
+    } else {
+        guess + 1
     }
-    guess + 1
 }
 
 // The month of a year's day, which counts from 0. The guess by months of 31 days is right or one too low.
+#[tactic(auto, using(buffers::proofs::Choices::picks, crate::proofs::Tables::measures), unfolding(crate::specs::Calendar::month_of))]
 fn month_of(leap_year: bool, day: u64) -> u64
     requires { day < 366 }
     ensures { result ≡ month_of leap_year day }
 {
     let guess = day / 31 + 1;
-    if 11 < guess {
-        return guess;
+    if 11 < guess || day < month_start(leap_year, guess + 1) {
+        guess
+    } else {
+        guess + 1
     }
-    if day < month_start(leap_year, guess + 1) {
-        return guess;
-    }
-    guess + 1
 }
 
 // The date of a year's day, which counts from 0.
+#[tactic(auto, using(crate::proofs::Days::dates_in))]
 fn date_in(year: u64, day: u64) -> Civil
     requires { day < year_length (leap year) }
     ensures { result ≡ date_in year day }
@@ -168,6 +146,7 @@ fn date_in(year: u64, day: u64) -> Civil
 }
 
 // The date of a day since 1970-01-01.
+#[tactic(auto, using(crate::proofs::Days::civils))]
 pub fn civil_from_days(days: u64) -> Civil
     requires { days ≤ 2932896 }
     ensures { (result ≡ civil_of days) × Bounded result }
@@ -184,9 +163,10 @@ fn turning_year(days: u64) -> u64
 {
     let year = year_of(days);
     if days - year_start(year) < 59 {
-        return year;
+        year
+    } else {
+        year + 1
     }
-    year + 1
 }
 
 // The same date some years later, at the same time of day.
@@ -198,15 +178,17 @@ fn years_later(from: u64, years: u64) -> u64
     from + (year_start(turn + years) - year_start(turn)) * DAY
 }
 
-// The end of a period of days (unit 1) or years (unit 2).
+// The end of a period of days (unit 1) or years (unit 2). The unit is a word of the settings as they are lent, which may hold any number.
+#[tactic(auto, using(buffers::proofs::Choices::picks), unfolding(crate::specs::Periods::period_end))]
 pub fn period_end(from: u64, count: u64, unit: u64) -> u64
     requires { (from ≤ latest) × (count ≤ 36500) }
     ensures { result ≡ period_end from count unit }
 {
     if unit == 2 {
-        return years_later(from, count);
+        years_later(from, count)
+    } else {
+        from + count * DAY
     }
-    from + count * DAY
 }
 
 // The midnight at which the day of an instant begins.
@@ -217,6 +199,7 @@ pub fn day_start(instant: u64) -> u64
 }
 
 // What expires some days after `since` has expired at a midnight. The sum needs no rounding: a midnight is no earlier than it exactly where it is no earlier than the sum rounded up.
+#[tactic(auto, using(crate::proofs::Periods::expired_at))]
 pub fn has_expired(since: u64, days: u64, midnight: u64) -> bool
     requires { (since ≤ latest) × (days ≤ 36500) × (midnight % day ≡ 0) }
     ensures { result ≡ leb (expires_at since days) midnight }

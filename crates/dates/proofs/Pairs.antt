@@ -4,7 +4,7 @@ use mathlib.Core.Path.{◌≡◌, refl, sym, ap, ◌∙◌}
 use mathlib.Core.Logic.{inl, inr}
 use mathlib.Core.Bool.{Bool, true, false, ◌&&◌, ◌||◌, not, false≢true}
 use mathlib.Core.List.{List, [], ◌∷◌}
-use mathlib.Core.Option.{Option, some, none}
+use Rattle.std.specs.Prelude.{Option, Some, None}
 use native.Mathlib.Omega.{arith}
 use native.Mathlib.Numerals.{add-one}
 use mir.Val.{Fits}
@@ -20,9 +20,7 @@ use Rattle.buffers.specs.Words.{number, AllBytes}
 use Rattle.buffers.proofs.Tests.{either, and_l, and_r}
 use Rattle.buffers.proofs.Words.{bytes_take, bytes_drop}
 use Rattle.calendar.proofs.Tables.{upto, upto_at}
-use Rattle.text.specs.declared.Value.{Value}
-use Rattle.text.specs.declared.Value.TheVariants.{Is, Bad}
-use Rattle.text.specs.Numbers.{value_of, is_digit}
+use Rattle.text.specs.Numbers.{is_digit}
 use Rattle.dates.specs.Pairs.{apart, is_pairs, pairs_of}
 use Rattle.dates.specs.Reading.{digit_of, two_digits, four_digits, day_number, day_at, second_of_day, second_at}
 use Rattle.dates.proofs.Reading.{digit_value}
@@ -232,19 +230,19 @@ module _ (p : ℕ) (e : upto 256 (separates p) ≡ true) (small : p < 256) (s : 
 
 -- ## Day and time of day by pairs
 
-two_tested : (s : List ℕ) (i : ℕ) → two_digits s i ≡ pick (is_digit (get_or s i 0) && is_digit (get_or s (i + 1) 0)) (some (spell_at s i (i + 1))) none
+two_tested : (s : List ℕ) (i : ℕ) → two_digits s i ≡ pick (is_digit (get_or s i 0) && is_digit (get_or s (i + 1) 0)) (Some (spell_at s i (i + 1))) None
 unfolding two_digits digit_of
 two_tested s i = chosen (is_digit (get_or s i 0)) (is_digit (get_or s (i + 1) 0)) (get_or s i 0 - 48) (get_or s (i + 1) 0 - 48)
   where
-    chosen : (a b : Bool) (x y : ℕ) → then_some (pick a (some x) none) none (λ m. then_some (pick b (some y) none) none (λ n. some (m * 10 + n))) ≡ pick (a && b) (some (x * 10 + y)) none
+    chosen : (a b : Bool) (x y : ℕ) → then_some (pick a (Some x) None) None (λ m. then_some (pick b (Some y) None) None (λ n. Some (m * 10 + n))) ≡ pick (a && b) (Some (x * 10 + y)) None
     chosen true true x y = refl
     chosen true false x y = refl
     chosen false b x y = refl
 
 -- three readings with two separators between them, tested at once
 tested : (a b c d e : Bool) (x y z : ℕ) (g : ℕ → ℕ → ℕ → Option ℕ)
-    → pick b (pick d (then_some (pick a (some x) none) none (λ k. then_some (pick c (some y) none) none (λ m. then_some (pick e (some z) none) none (λ n. g k m n)))) none) none
-    ≡ pick (a && (b && (c && (d && e)))) (g x y z) none
+    → pick b (pick d (then_some (pick a (Some x) None) None (λ k. then_some (pick c (Some y) None) None (λ m. then_some (pick e (Some z) None) None (λ n. g k m n)))) None) None
+    ≡ pick (a && (b && (c && (d && e)))) (g x y z) None
 tested true true true true true x y z g = refl
 tested true true true true false x y z g = refl
 tested true true true false e x y z g = refl
@@ -255,7 +253,7 @@ tested false true c true e x y z g = refl
 tested false true c false e x y z g = refl
 tested false false c d e x y z g = refl
 
-time_tested : (s : List ℕ) → second_at s ≡ pick (tests_at 58 s 11) (second_of_day (spell_at s 11 12) (spell_at s 14 15) (spell_at s 17 18)) none
+time_tested : (s : List ℕ) → second_at s ≡ pick (tests_at 58 s 11) (second_of_day (spell_at s 11 12) (spell_at s 14 15) (spell_at s 17 18)) None
 unfolding second_at
 time_tested s = rw (two_tested s 11, two_tested s 14, two_tested s 17) (tested (digits_at s 11 12) (eqb (get_or s 13 0) 58) (digits_at s 14 15) (eqb (get_or s 16 0) 58) (digits_at s 17 18) (spell_at s 11 12) (spell_at s 14 15) (spell_at s 17 18) second_of_day)
 
@@ -263,21 +261,21 @@ time_tested s = rw (two_tested s 11, two_tested s 14, two_tested s 17) (tested (
 abbrev date_of : ℕ → ℕ → ℕ → ℕ → Option ℕ
 date_of a y m d = day_number (record { year = a * 100 + y; month = m; day = d })
 
-day_tested : (s : List ℕ) (a : ℕ) → two_digits s 0 ≡ some a → day_at s ≡ pick (tests_at 45 s 2) (date_of a (spell_at s 2 3) (spell_at s 5 6) (spell_at s 8 9)) none
+day_tested : (s : List ℕ) (a : ℕ) → two_digits s 0 ≡ Some a → day_at s ≡ pick (tests_at 45 s 2) (date_of a (spell_at s 2 3) (spell_at s 5 6) (spell_at s 8 9)) None
 unfolding day_at four_digits
 day_tested s a e =
     rw (e, two_tested s 5, two_tested s 8, within (two_digits s 2) (λ y. a * 100 + y), two_tested s 2)
     (tested (digits_at s 2 3) (eqb (get_or s 4 0) 45) (digits_at s 5 6) (eqb (get_or s 7 0) 45) (digits_at s 8 9) (spell_at s 2 3) (spell_at s 5 6) (spell_at s 8 9) (date_of a))
   where
-    within : (w : Option ℕ) (f : ℕ → ℕ) (g : ℕ → Option ℕ) → then_some (then_some w none (λ y. some (f y))) none g ≡ then_some w none (λ y. g (f y))
-    within none f g = refl
-    within (some y) f g = refl
+    within : (w : Option ℕ) (f : ℕ → ℕ) (g : ℕ → Option ℕ) → then_some (then_some w None (λ y. Some (f y))) None g ≡ then_some w None (λ y. g (f y))
+    within None f g = refl
+    within (Some y) f g = refl
 
-day_untold : (s : List ℕ) → two_digits s 0 ≡ none → day_at s ≡ none
+day_untold : (s : List ℕ) → two_digits s 0 ≡ None → day_at s ≡ None
 unfolding day_at four_digits
 day_untold s e = rw e (missing (eqb (get_or s 4 0) 45) (eqb (get_or s 7 0) 45))
   where
-    missing : (a b : Bool) → pick {A = Option ℕ} a (pick {A = Option ℕ} b none none) none ≡ none
+    missing : (a b : Bool) → pick {A = Option ℕ} a (pick {A = Option ℕ} b None None) None ≡ None
     missing true true = refl
     missing true false = refl
     missing false b = refl
@@ -305,15 +303,15 @@ module _ (s : List ℕ) (f : (j : ℕ) → Fits w8 (get_or s j 0)) (h : 20 ≤ l
       let z = numbers_are 58 refl (omega arith) s 11 f (omega arith) x b ex eb y t ey in
       ev ∙ rw (z.first, z.second, z.third, time_tested s, sym (tests_are 58 refl (omega arith) s 11 f (omega arith) x b ex eb), t)
 
-  pub time_unpaired : b ≡ false → none ≡ second_at s
+  pub time_unpaired : b ≡ false → None ≡ second_at s
   unfolding number
   time_unpaired t = rw (time_tested s, sym (tests_are 58 refl (omega arith) s 11 f (omega arith) x b ex eb), t)
 
-module _ (s : List ℕ) (r : Value) (er : value_of r ≡ two_digits s 0) where
-  pub day_no_century : r ≡ Bad → none ≡ day_at s
+module _ (s : List ℕ) (r : Option ℕ) (er : r ≡ two_digits s 0) where
+  pub day_no_century : r ≡ None → None ≡ day_at s
   day_no_century t = sym (day_untold s (sym er ∙ rw t))
 
-  module _ (a : ℕ) (ea : r ≡ Is a) (f : (j : ℕ) → Fits w8 (get_or s j 0)) (h : 20 ≤ length s) (x : ℕ) (b : Bool) (ex : x ≡ apart s 2 0x30302d30302d3030) (eb : b ≡ is_pairs x) where
+  module _ (a : ℕ) (ea : r ≡ Some a) (f : (j : ℕ) → Fits w8 (get_or s j 0)) (h : 20 ≤ length s) (x : ℕ) (b : Bool) (ex : x ≡ apart s 2 0x30302d30302d3030) (eb : b ≡ is_pairs x) where
     pub day_pairs : (y : ℕ) (v : Option ℕ) → b ≡ true → y ≡ pairs_of x
         → v ≡ day_number (record { year = a * 100 + y % 256; month = y / 16777216 % 256; day = y / 281474976710656 % 256 }) → v ≡ day_at s
     unfolding number
@@ -321,7 +319,7 @@ module _ (s : List ℕ) (r : Value) (er : value_of r ≡ two_digits s 0) where
         let z = numbers_are 45 refl (omega arith) s 2 f (omega arith) x b ex eb y t ey in
         ev ∙ rw (z.first, z.second, z.third, day_tested s a (sym er ∙ rw ea), sym (tests_are 45 refl (omega arith) s 2 f (omega arith) x b ex eb), t)
 
-    pub day_unpaired : b ≡ false → none ≡ day_at s
+    pub day_unpaired : b ≡ false → None ≡ day_at s
     unfolding number
     day_unpaired t = rw (day_tested s a (sym er ∙ rw ea), sym (tests_are 45 refl (omega arith) s 2 f (omega arith) x b ex eb), t)
 

@@ -6,71 +6,56 @@ use mathlib.Core.List.{List, [], ◌∷◌}
 use native.Mathlib.Omega.{arith}
 use native.Mathlib.Nat.{le_of_eq}
 use lib.Dec.{eqb, leb}
-use lib.ListN.{length}
+use lib.ListN.{length, get_or}
 use borrow.Author.Tests.{le-leb, eqb-true}
-use Rattle.buffers.specs.Ranges.{Within}
 use Rattle.buffers.specs.Writes.{Wrote}
 use Rattle.buffers.proofs.Writes.{wrote_as}
 use Rattle.text.proofs.Joined.{visible}
 use Rattle.calendar.specs.declared.Civil.{Civil}
-use Rattle.calendar.specs.Calendar.{Bounded, day, civil_of}
+use Rattle.calendar.specs.Calendar.{day, civil_of}
 use Rattle.calendar.proofs.Tables.{upto_at}
-use Rattle.dates.specs.Printing.{digit_pair, date_text, print_date}
+use Rattle.dates.specs.Printing.{digit_pair, last_two, date_text, print_date}
+use Rattle.std.specs.Int.{w16, to_le_bytes}
+use Rattle.buffers.specs.Lists.{same}
+use Rattle.buffers.proofs.Lists.{same_path}
 
 pub printed_length : (t : ℕ) → length (print_date t) ≡ 24
 unfolding print_date date_text
 printed_length t = refl
 
--- The two bytes of a number below 100.
-pub pair_is : (n : ℕ) → n ≤ 99 → Within (12336 + 256 * n - 2559 * (n * 103 / 1024)) (digit_pair n) 14649
-pair_is n h =
+-- The two digits of a number below 100: the word, and its two bytes.
+pair_word : (n : ℕ) → n ≤ 99 → 12336 + 256 * n - 2559 * (n * 103 / 1024) ≡ digit_pair n
+pair_word n h =
     let e : n * 103 / 1024 ≡ n / 10 = eqb-true _ _ (upto_at 100 (λ k. eqb (k * 103 / 1024) (k / 10)) refl n (omega arith)) in
-    rw e (record { is = omega arith; most = omega arith })
+    rw e (omega arith)
+
+pair_bytes : (n : ℕ) → n ≤ 99 → to_le_bytes w16 (digit_pair n) ≡ last_two n
+pair_bytes n h = same_path _ _ (upto_at 100 (λ k. same (to_le_bytes w16 (digit_pair k)) (last_two k)) refl n (omega arith))
+
+pub pair_is : (n : ℕ) → n ≤ 99 → to_le_bytes w16 (12336 + 256 * n - 2559 * (n * 103 / 1024)) ≡ last_two n
+pair_is n h = ap (to_le_bytes w16) (pair_word n h) ∙ pair_bytes n h
 
 pub pair_room : (n : ℕ) → n ≤ 99 → 2559 * (n * 103 / 1024) ≤ 12336 + 256 * n
 pair_room n h = omega arith
 
-pub ruleset pair_laws = (pair_is, pair_room)
+pub pair_fits : (n : ℕ) → n ≤ 99 → 12336 + 256 * n - 2559 * (n * 103 / 1024) < 65536
+pair_fits n h = omega arith
 
--- the bytes of such a pair r
-module _ (r n k x : ℕ) (w : Within r (digit_pair n) k) (h : n ≤ 99) where
-  tens : n / 10 ≡ x → r % 256 ≡ 48 + x
-  tens e = let z : x ≤ 9 = omega arith in rw (w.is, e) (omega arith)
+pub ruleset pair_laws = (pair_is, pair_room, pair_fits)
 
-  ones : n % 10 ≡ x → r / 256 ≡ 48 + x
-  ones e = let z : n / 10 ≤ 9 = omega arith in rw (w.is, e) (rest (n / 10) x z)
-    where
-      rest : (a b : ℕ) → a ≤ 9 → (48 + a + 256 * (48 + b)) / 256 ≡ 48 + b
-      rest a b z = omega arith
-
--- a text by its pairs
-module _ (d : Civil) (t c y m k h i s f : ℕ) (b : Bounded d) (l : t < day)
-    (ec : Within c (digit_pair (d.year / 100)) 14649) (ey : Within y (digit_pair (d.year % 100)) 14649)
-    (em : Within m (digit_pair d.month) 14649) (ek : Within k (digit_pair d.day) 14649)
-    (eh : Within h (digit_pair (t / 1000 / 60 / 60)) 14649) (ei : Within i (digit_pair (t / 1000 / 60 % 60)) 14649)
-    (es : Within s (digit_pair (t / 1000 % 60)) 14649) (ef : Within f (digit_pair (t % 1000 / 10)) 14649) where
-  pub text_by_pairs : c % 256 ∷ c / 256 ∷ y % 256 ∷ y / 256 ∷ 45 ∷ m % 256 ∷ m / 256 ∷ 45 ∷ k % 256 ∷ k / 256 ∷ 84
-      ∷ h % 256 ∷ h / 256 ∷ 58 ∷ i % 256 ∷ i / 256 ∷ 58 ∷ s % 256 ∷ s / 256 ∷ 46 ∷ f % 256 ∷ f / 256 ∷ (48 + t % 1000 % 10) ∷ 90 ∷ [] ≡ date_text d t
+-- A text by its pairs.
+module _ (d : Civil) (t : ℕ) (c y m k h i s f : List ℕ)
+    (ec : c ≡ last_two (d.year / 100)) (ey : y ≡ last_two (d.year % 100)) (em : m ≡ last_two d.month) (ek : k ≡ last_two d.day)
+    (eh : h ≡ last_two (t / 1000 / 60 / 60)) (ei : i ≡ last_two (t / 1000 / 60 % 60)) (es : s ≡ last_two (t / 1000 % 60)) (ef : f ≡ last_two (t % 1000 / 10)) where
+  pub text_by_pairs : get_or c 0 0 ∷ get_or c 1 0 ∷ get_or y 0 0 ∷ get_or y 1 0 ∷ 45 ∷ get_or m 0 0 ∷ get_or m 1 0 ∷ 45 ∷ get_or k 0 0 ∷ get_or k 1 0 ∷ 84
+      ∷ get_or h 0 0 ∷ get_or h 1 0 ∷ 58 ∷ get_or i 0 0 ∷ get_or i 1 0 ∷ 58 ∷ get_or s 0 0 ∷ get_or s 1 0 ∷ 46 ∷ get_or f 0 0 ∷ get_or f 1 0 ∷ (48 + t % 1000 % 10) ∷ 90 ∷ [] ≡ date_text d t
   unfolding date_text
   text_by_pairs =
-      rw (
-        tens c (d.year / 100) 14649 (d.year / 1000 % 10) ec (omega (arith, b.to)) (omega (arith, b.to)),
-        ones c (d.year / 100) 14649 (d.year / 100 % 10) ec (omega (arith, b.to)) (omega arith),
-        tens y (d.year % 100) 14649 (d.year / 10 % 10) ey (omega arith) (omega arith),
-        ones y (d.year % 100) 14649 (d.year % 10) ey (omega arith) (omega arith),
-        tens m d.month 14649 (d.month / 10 % 10) em (omega (arith, b.last)) (omega (arith, b.last)),
-        ones m d.month 14649 (d.month % 10) em (omega (arith, b.last)) (omega arith),
-        tens k d.day 14649 (d.day / 10 % 10) ek (omega (arith, b.most)) (omega (arith, b.most)),
-        ones k d.day 14649 (d.day % 10) ek (omega (arith, b.most)) (omega arith),
-        tens h (t / 1000 / 60 / 60) 14649 (t / 1000 / 60 / 60 / 10 % 10) eh (omega arith) (omega arith),
-        ones h (t / 1000 / 60 / 60) 14649 (t / 1000 / 60 / 60 % 10) eh (omega arith) (omega arith),
-        tens i (t / 1000 / 60 % 60) 14649 (t / 1000 / 60 % 60 / 10 % 10) ei (omega arith) (omega arith),
-        ones i (t / 1000 / 60 % 60) 14649 (t / 1000 / 60 % 60 % 10) ei (omega arith) (omega arith),
-        tens s (t / 1000 % 60) 14649 (t / 1000 % 60 / 10 % 10) es (omega arith) (omega arith),
-        ones s (t / 1000 % 60) 14649 (t / 1000 % 60 % 10) es (omega arith) (omega arith),
-        tens f (t % 1000 / 10) 14649 (t % 1000 / 100 % 10) ef (omega arith) (omega arith),
-        ones f (t % 1000 / 10) 14649 (t % 1000 / 10 % 10) ef (omega arith) (omega arith),
-      )
+      let thousands : d.year / 100 / 10 ≡ d.year / 1000 = omega arith in
+      let tens : d.year % 100 / 10 % 10 ≡ d.year / 10 % 10 = omega arith in
+      let ones : d.year % 100 % 10 ≡ d.year % 10 = omega arith in
+      let hundreds : t % 1000 / 10 / 10 ≡ t % 1000 / 100 = omega arith in
+      rw (ec, ey, em, ek, eh, ei, es, ef, thousands, tens, ones, hundreds)
 
 print_is : (t : ℕ) (d : Civil) (tx : List ℕ) → d ≡ civil_of (t / day) → tx ≡ date_text d (t % day) → tx ≡ print_date t
 unfolding print_date

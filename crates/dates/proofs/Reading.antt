@@ -4,7 +4,7 @@ use mathlib.Core.Path.{◌≡◌, refl, sym, ap, ◌∙◌}
 use mathlib.Core.Logic.{inl, inr}
 use mathlib.Core.Bool.{Bool, true, false, ◌&&◌}
 use mathlib.Core.List.{List, [], ◌∷◌}
-use mathlib.Core.Option.{Option, some, none}
+use Rattle.std.specs.Prelude.{Option, Some, None}
 use native.Mathlib.Omega.{arith}
 use native.Mathlib.Nat.{le_of_eq, not-suc-le-zero, le_of_suc-le-suc}
 use native.Mathlib.Numerals.{add-one}
@@ -18,49 +18,33 @@ use Rattle.buffers.specs.Choices.{pick, then_some}
 use Rattle.buffers.specs.Lists.{all}
 use Rattle.buffers.specs.Ranges.{Within}
 use Rattle.buffers.proofs.Tests.{either, and_l, and_r}
-use Rattle.text.specs.declared.Value.{Value}
-use Rattle.text.specs.declared.Value.TheVariants.{Is}
-use Rattle.text.specs.Numbers.{value_of, is_digit}
+use Rattle.text.specs.Numbers.{is_digit}
 use Rattle.calendar.specs.declared.Civil.{Civil}
-use Rattle.dates.specs.declared.DateRead.{DateRead}
-use Rattle.dates.specs.declared.DateRead.TheVariants.{At, Unreadable}
 use Rattle.calendar.specs.Calendar.{latest, valid_day, days_of}
-use Rattle.dates.specs.Reading.{instant_of, digit_of, two_digits, day_number, day_at, second_of_day, second_at, fraction_digit, milliseconds, fraction_of, read_date}
+use Rattle.dates.specs.Reading.{digit_of, two_digits, day_number, day_at, second_of_day, second_at, fraction_digit, milliseconds, fraction_of, read_date}
 use Rattle.calendar.proofs.Days.{days_most}
-
--- ## Definitions by `then_some`
-
-module _ (A : Type 0) (v y : A) where
-  pub date_at : (r : DateRead) (w : Option ℕ) (n : ℕ) (f : ℕ → A) → instant_of r ≡ w → r ≡ At n → v ≡ f n → v ≡ then_some w y f
-  date_at r w n f e t q = cc
-
-  pub date_unreadable : (r : DateRead) (w : Option ℕ) (f : ℕ → A) → instant_of r ≡ w → r ≡ Unreadable → v ≡ y → v ≡ then_some w y f
-  date_unreadable r w f e t q = cc
-
--- for callers that read a date
-pub ruleset dates = (date_at, date_unreadable)
 
 -- whatever is read is at most k
 pub record Most (k : ℕ) (w : Option ℕ) : Type 0 where
-  pub most : (n : ℕ) → w ≡ some n → n ≤ k
+  pub most : (n : ℕ) → w ≡ Some n → n ≤ k
 
 module _ (k : ℕ) where
-  most_none : Most k none
+  most_none : Most k None
   most_none = record { most = λ n e. let z : ◌≡◌ {A = ℕ} 0 1 = cc in absurd (omega arith) }
 
-  most_some : (a : ℕ) → a ≤ k → Most k (some a)
+  most_some : (a : ℕ) → a ≤ k → Most k (Some a)
   most_some a h = record { most = λ n e. let q : a ≡ n = cc in omega arith }
 
-  most_zero : Most k (some 0)
+  most_zero : Most k (Some 0)
   most_zero = most_some 0 (omega arith)
 
   most_pick : (t : Bool) (x y : Option ℕ) → (t ≡ true → Most k x) → (t ≡ false → Most k y) → Most k (pick t x y)
   most_pick true x y f g = f refl
   most_pick false x y f g = g refl
 
-  most_then : (w : Option ℕ) (f : ℕ → Option ℕ) → ((a : ℕ) → w ≡ some a → Most k (f a)) → Most k (then_some w none f)
-  most_then none f g = most_none
-  most_then (some a) f g = g a refl
+  most_then : (w : Option ℕ) (f : ℕ → Option ℕ) → ((a : ℕ) → w ≡ Some a → Most k (f a)) → Most k (then_some w None f)
+  most_then None f g = most_none
+  most_then (Some a) f g = g a refl
 
 ruleset ways = (most_none, most_pick, most_then)
 
@@ -80,46 +64,43 @@ digit_least b e = (digit_span b e).0
 pub digit_value : (b : ℕ) → is_digit b ≡ true → Within (b - 48) (b - 48) 9
 digit_value b e = record { is = refl; most = omega (arith, digit_span b e) }
 
-pub digit_test : (r : Bool) (b : ℕ) → r ≡ is_digit b → r ≡ true → is_digit b ≡ true
-digit_test r b e t = sym e ∙ t
-
 digit_most : (b : ℕ) → Most 9 (digit_of b)
 unfolding digit_of
 digit_most b = search (ways, leaf)
   where
-    leaf : (b : ℕ) → is_digit b ≡ true → Most 9 (some (b - 48))
+    leaf : (b : ℕ) → is_digit b ≡ true → Most 9 (Some (b - 48))
     leaf b t = most_some 9 (b - 48) (omega (arith, digit_span b t))
 
 two_most : (s : List ℕ) (i : ℕ) → Most 99 (two_digits s i)
 unfolding two_digits
 two_most s i = search (ways, leaf)
   where
-    leaf : (x y a b : ℕ) → digit_of x ≡ some a → digit_of y ≡ some b → Most 99 (some (a * 10 + b))
+    leaf : (x y a b : ℕ) → digit_of x ≡ Some a → digit_of y ≡ Some b → Most 99 (Some (a * 10 + b))
     leaf x y a b ea eb = most_some 99 (a * 10 + b) (omega (arith, (digit_most x).most a ea, (digit_most y).most b eb))
 
-module _ (r : Value) (n : ℕ) where
-  pub digit_ten : (b : ℕ) → value_of r ≡ digit_of b → r ≡ Is n → Fits w64 (n * 10)
-  digit_ten b e t = let q : digit_of b ≡ some n = cc in omega (arith, (digit_most b).most n q)
+module _ (r : Option ℕ) (n : ℕ) where
+  pub digit_ten : (b : ℕ) → r ≡ digit_of b → r ≡ Some n → Fits w64 (n * 10)
+  digit_ten b e t = let q : digit_of b ≡ Some n = cc in omega (arith, (digit_most b).most n q)
 
-  pub digit_sum : (b : ℕ) (q : Value) (m c : ℕ) → value_of r ≡ digit_of b → r ≡ Is n → value_of q ≡ digit_of c → q ≡ Is m → Fits w64 (n * 10 + m)
+  pub digit_sum : (b : ℕ) (q : Option ℕ) (m c : ℕ) → r ≡ digit_of b → r ≡ Some n → q ≡ digit_of c → q ≡ Some m → Fits w64 (n * 10 + m)
   digit_sum b q m c e t f u =
-      let x : digit_of b ≡ some n = cc in
-      let y : digit_of c ≡ some m = cc in
+      let x : digit_of b ≡ Some n = cc in
+      let y : digit_of c ≡ Some m = cc in
       omega (arith, (digit_most b).most n x, (digit_most c).most m y)
 
-  pub two_hundred : (s : List ℕ) (i : ℕ) → value_of r ≡ two_digits s i → r ≡ Is n → Fits w64 (n * 100)
-  two_hundred s i e t = let q : two_digits s i ≡ some n = cc in omega (arith, (two_most s i).most n q)
+  pub two_hundred : (s : List ℕ) (i : ℕ) → r ≡ two_digits s i → r ≡ Some n → Fits w64 (n * 100)
+  two_hundred s i e t = let q : two_digits s i ≡ Some n = cc in omega (arith, (two_most s i).most n q)
 
-  pub two_byte : (s : List ℕ) (i y : ℕ) → value_of r ≡ two_digits s i → r ≡ Is n → Fits w64 (n * 100 + y % 256)
-  two_byte s i y e t = let q : two_digits s i ≡ some n = cc in omega (arith, (two_most s i).most n q)
+  pub two_byte : (s : List ℕ) (i y : ℕ) → r ≡ two_digits s i → r ≡ Some n → Fits w64 (n * 100 + y % 256)
+  two_byte s i y e t = let q : two_digits s i ≡ Some n = cc in omega (arith, (two_most s i).most n q)
 
-  pub two_ten : (s : List ℕ) (i : ℕ) → value_of r ≡ two_digits s i → r ≡ Is n → Fits w64 (n * 10)
-  two_ten s i e t = let q : two_digits s i ≡ some n = cc in omega (arith, (two_most s i).most n q)
+  pub two_ten : (s : List ℕ) (i : ℕ) → r ≡ two_digits s i → r ≡ Some n → Fits w64 (n * 10)
+  two_ten s i e t = let q : two_digits s i ≡ Some n = cc in omega (arith, (two_most s i).most n q)
 
-  pub two_digit : (s : List ℕ) (i : ℕ) (q : Value) (m c : ℕ) → value_of r ≡ two_digits s i → r ≡ Is n → value_of q ≡ digit_of c → q ≡ Is m → Fits w64 (n * 10 + m)
+  pub two_digit : (s : List ℕ) (i : ℕ) (q : Option ℕ) (m c : ℕ) → r ≡ two_digits s i → r ≡ Some n → q ≡ digit_of c → q ≡ Some m → Fits w64 (n * 10 + m)
   two_digit s i q m c e t f u =
-      let x : two_digits s i ≡ some n = cc in
-      let y : digit_of c ≡ some m = cc in
+      let x : two_digits s i ≡ Some n = cc in
+      let y : digit_of c ≡ Some m = cc in
       omega (arith, (two_most s i).most n x, (digit_most c).most m y)
 
 pub ruleset digit_sums = (digit_ten, digit_sum, two_hundred, two_byte, two_ten, two_digit)
@@ -158,25 +139,25 @@ place_out s i h = record { is = rw (le-ltb i (length s) h); most = omega arith }
 pub ruleset places = (run_at, place_in, place_out)
 
 pub places_sum : (s : List ℕ) (x y z : ℕ) → Within x (fraction_digit s 0) 9 → Within y (fraction_digit s 1) 9 → Within z (fraction_digit s 2) 9
-    → some (x * 100 + y * 10 + z) ≡ some (fraction_digit s 0 * 100 + fraction_digit s 1 * 10 + fraction_digit s 2)
+    → Some (x * 100 + y * 10 + z) ≡ Some (fraction_digit s 0 * 100 + fraction_digit s 1 * 10 + fraction_digit s 2)
 places_sum s x y z ex ey ez = rw (ex.is, ey.is, ez.is)
 
-three_digits : (s : List ℕ) → length s ≡ 3 → milliseconds s ≡ then_some (two_digits s 0) none (λ a. then_some (digit_of (get_or s 2 0)) none (λ b. some (a * 10 + b)))
+three_digits : (s : List ℕ) → length s ≡ 3 → milliseconds s ≡ then_some (two_digits s 0) None (λ a. then_some (digit_of (get_or s 2 0)) None (λ b. Some (a * 10 + b)))
 unfolding milliseconds fraction_digit two_digits digit_of
 three_digits [] e = absurd (omega arith)
 three_digits (x ∷ []) e = absurd (omega arith)
 three_digits (x ∷ y ∷ []) e = absurd (omega arith)
 three_digits (x ∷ y ∷ z ∷ []) e = chosen (is_digit x) (is_digit y) (is_digit z) (x - 48) (y - 48) (z - 48)
   where
-    chosen : (a b c : Bool) (x y z : ℕ) → pick (a && (b && (c && true))) (some (x * 100 + y * 10 + z)) none
-        ≡ then_some (then_some (pick a (some x) none) none (λ k. then_some (pick b (some y) none) none (λ m. some (k * 10 + m)))) none (λ k. then_some (pick c (some z) none) none (λ m. some (k * 10 + m)))
-    chosen true true true x y z = ap some (omega arith)
+    chosen : (a b c : Bool) (x y z : ℕ) → pick (a && (b && (c && true))) (Some (x * 100 + y * 10 + z)) None
+        ≡ then_some (then_some (pick a (Some x) None) None (λ k. then_some (pick b (Some y) None) None (λ m. Some (k * 10 + m)))) None (λ k. then_some (pick c (Some z) None) None (λ m. Some (k * 10 + m)))
+    chosen true true true x y z = ap Some (omega arith)
     chosen true true false x y z = refl
     chosen true false c x y z = refl
     chosen false b c x y z = refl
 three_digits (x ∷ y ∷ z ∷ w ∷ s) e = absurd (omega arith)
 
-pub three_are : (s : List ℕ) (v : Option ℕ) → length s ≡ 3 → v ≡ then_some (two_digits s 0) none (λ a. then_some (digit_of (get_or s 2 0)) none (λ b. some (a * 10 + b))) → v ≡ milliseconds s
+pub three_are : (s : List ℕ) (v : Option ℕ) → length s ≡ 3 → v ≡ then_some (two_digits s 0) None (λ a. then_some (digit_of (get_or s 2 0)) None (λ b. Some (a * 10 + b))) → v ≡ milliseconds s
 three_are s v h e = e ∙ sym (three_digits s h)
 
 -- the rest of a part, as a part of it
@@ -195,7 +176,7 @@ milliseconds_most : (s : List ℕ) → Most 999 (milliseconds s)
 unfolding milliseconds
 milliseconds_most s = search (ways, leaf)
   where
-    leaf : (s : List ℕ) → all is_digit s ≡ true → Most 999 (some (fraction_digit s 0 * 100 + fraction_digit s 1 * 10 + fraction_digit s 2))
+    leaf : (s : List ℕ) → all is_digit s ≡ true → Most 999 (Some (fraction_digit s 0 * 100 + fraction_digit s 1 * 10 + fraction_digit s 2))
     leaf s t = most_some 999 _ (omega (arith, place_most s 0 t, place_most s 1 t, place_most s 2 t))
 
 fraction_most : (s : List ℕ) → Most 999 (fraction_of s)
@@ -208,7 +189,7 @@ number_most : (c : Civil) → Most 2932896 (day_number c)
 unfolding day_number
 number_most c = search (ways, leaf)
   where
-    leaf : (c : Civil) → valid_day c ≡ true → Most 2932896 (some (days_of c))
+    leaf : (c : Civil) → valid_day c ≡ true → Most 2932896 (Some (days_of c))
     leaf c t = most_some 2932896 (days_of c) (days_most c t)
 
 day_most : (s : List ℕ) → Most 2932896 (day_at s)
@@ -219,21 +200,21 @@ second_most : (h m s : ℕ) → Most 86399 (second_of_day h m s)
 unfolding second_of_day
 second_most h m s = search (ways, leaf)
   where
-    leaf : (h m s : ℕ) → ltb 23 h ≡ false → ltb 59 m ≡ false → ltb 59 s ≡ false → Most 86399 (some ((h * 60 + m) * 60 + s))
+    leaf : (h m s : ℕ) → ltb 23 h ≡ false → ltb 59 m ≡ false → ltb 59 s ≡ false → Most 86399 (Some ((h * 60 + m) * 60 + s))
     leaf h m s a b d = most_some 86399 _ (omega (arith, ltb-false 23 h a, ltb-false 59 m b, ltb-false 59 s d))
 
 time_most : (s : List ℕ) → Most 86399 (second_at s)
 unfolding second_at
 time_most s = search (ways, second_most) depth 12
 
-module _ (r : Value) (s : List ℕ) (n : ℕ) where
-  pub day_bound : value_of r ≡ day_at s → r ≡ Is n → n ≤ 2932896
+module _ (r : Option ℕ) (s : List ℕ) (n : ℕ) where
+  pub day_bound : r ≡ day_at s → r ≡ Some n → n ≤ 2932896
   day_bound e t = (day_most s).most n (cc)
 
-  pub time_bound : value_of r ≡ second_at s → r ≡ Is n → n ≤ 86399
+  pub time_bound : r ≡ second_at s → r ≡ Some n → n ≤ 86399
   time_bound e t = (time_most s).most n (cc)
 
-  pub fraction_bound : value_of r ≡ fraction_of s → r ≡ Is n → n ≤ 999
+  pub fraction_bound : r ≡ fraction_of s → r ≡ Some n → n ≤ 999
   fraction_bound e t = (fraction_most s).most n (cc)
 
 pub ruleset bounds = (day_bound, time_bound, fraction_bound)
@@ -244,9 +225,9 @@ read_is_most : (s : List ℕ) → Most latest (read_date s)
 unfolding read_date
 read_is_most s = search (ways, leaf) depth 12
   where
-    leaf : (s f : List ℕ) (d k m : ℕ) → day_at s ≡ some d → second_at s ≡ some k → fraction_of f ≡ some m → Most latest (some (d * 86400000 + k * 1000 + m))
+    leaf : (s f : List ℕ) (d k m : ℕ) → day_at s ≡ Some d → second_at s ≡ Some k → fraction_of f ≡ Some m → Most latest (Some (d * 86400000 + k * 1000 + m))
     leaf s f d k m x y z = most_some latest _ (omega (arith, (day_most s).most d x, (time_most s).most k y, (fraction_most f).most m z))
 
 -- Whatever is read is an instant.
-pub read_most : (s : List ℕ) (t : ℕ) → read_date s ≡ some t → t ≤ latest
+pub read_most : (s : List ℕ) (t : ℕ) → read_date s ≡ Some t → t ≤ latest
 read_most s = (read_is_most s).most

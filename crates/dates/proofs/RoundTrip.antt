@@ -2,7 +2,7 @@
 use Prim.Native.Nat.{ℕ, ◌+◌, ◌-◌, ◌*◌, ◌/◌, ◌%◌, ◌≤◌, ◌<◌}
 use mathlib.Core.Path.{◌≡◌, refl, ap, ◌∙◌}
 use mathlib.Core.List.{List, [], ◌∷◌}
-use mathlib.Core.Option.{some}
+use Rattle.std.specs.Prelude.{Some}
 use native.Mathlib.Omega.{arith}
 use lib.ListN.{get_or, drop}
 use borrow.Author.Tests.{le-ltb}
@@ -16,31 +16,31 @@ use Rattle.calendar.proofs.Days.{valid_is, civil_valid, civil_days}
 
 -- ## Digits
 
-digit_back : (a : ℕ) → a ≤ 9 → digit_of (48 + a) ≡ some a
+digit_back : (a : ℕ) → a ≤ 9 → digit_of (48 + a) ≡ Some a
 unfolding digit_of
-digit_back a h = let q : 48 + a - 48 ≡ a = omega arith in rw (digit_is a h) (ap some q)
+digit_back a h = let q : 48 + a - 48 ≡ a = omega arith in rw (digit_is a h) (ap Some q)
 
 module _ (s : List ℕ) (i n : ℕ) where
-  two_printed : (a b : ℕ) → get_or s i 0 ≡ 48 + a → get_or s (i + 1) 0 ≡ 48 + b → a ≤ 9 → b ≤ 9 → a * 10 + b ≡ n → two_digits s i ≡ some n
+  two_printed : (a b : ℕ) → get_or s i 0 ≡ 48 + a → get_or s (i + 1) 0 ≡ 48 + b → a ≤ 9 → b ≤ 9 → a * 10 + b ≡ n → two_digits s i ≡ Some n
   unfolding two_digits
-  two_printed a b ea eb ha hb e = rw (ea, eb, digit_back a ha, digit_back b hb) (ap some e)
+  two_printed a b ea eb ha hb e = rw (ea, eb, digit_back a ha, digit_back b hb) (ap Some e)
 
-  two_back : get_or s i 0 ≡ last_digit (n / 10) → get_or s (i + 1) 0 ≡ last_digit n → n ≤ 99 → two_digits s i ≡ some n
+  two_back : get_or s i 0 ≡ last_digit (n / 10) → get_or s (i + 1) 0 ≡ last_digit n → n ≤ 99 → two_digits s i ≡ Some n
   two_back ea eb h = two_printed (n / 10 % 10) (n % 10) ea eb (omega arith) (omega arith) (omega arith)
 
-  four_printed : (a b : ℕ) → two_digits s i ≡ some a → two_digits s (i + 2) ≡ some b → a * 100 + b ≡ n → four_digits s i ≡ some n
+  four_printed : (a b : ℕ) → two_digits s i ≡ Some a → two_digits s (i + 2) ≡ Some b → a * 100 + b ≡ n → four_digits s i ≡ Some n
   unfolding four_digits
-  four_printed a b ea eb e = rw (ea, eb) (ap some e)
+  four_printed a b ea eb e = rw (ea, eb) (ap Some e)
 
-fraction_back : (a b d n : ℕ) → a ≤ 9 → b ≤ 9 → d ≤ 9 → a * 100 + b * 10 + d ≡ n → fraction_of (46 ∷ (48 + a) ∷ (48 + b) ∷ (48 + d) ∷ []) ≡ some n
+fraction_back : (a b d n : ℕ) → a ≤ 9 → b ≤ 9 → d ≤ 9 → a * 100 + b * 10 + d ≡ n → fraction_of (46 ∷ (48 + a) ∷ (48 + b) ∷ (48 + d) ∷ []) ≡ Some n
 unfolding fraction_of milliseconds fraction_digit
 fraction_back a b d n ha hb hd e =
-    rw (digit_is a ha, digit_is b hb, digit_is d hd) (ap some (omega arith))
+    rw (digit_is a ha, digit_is b hb, digit_is d hd) (ap Some (omega arith))
 
 -- ## The text
 
 module _ (c : Civil) (t : ℕ) where
-  pub year_back : c.year ≤ 9999 → four_digits (date_text c t) 0 ≡ some c.year
+  pub year_back : c.year ≤ 9999 → four_digits (date_text c t) 0 ≡ Some c.year
   unfolding date_text
   year_back h =
       let y : ℕ = c.year in
@@ -60,7 +60,7 @@ module _ (c : Civil) (t : ℕ) where
         two_back s 8 c.day refl refl hd,
       )
 
-  time_back : t < day → second_at (date_text c t) ≡ some (t / 1000)
+  time_back : t < day → second_at (date_text c t) ≡ Some (t / 1000)
   unfolding second_at date_text second_of_day
   time_back h =
       let s : List ℕ = date_text c t in
@@ -72,9 +72,9 @@ module _ (c : Civil) (t : ℕ) where
         le-ltb 59 (t / 1000 / 60 % 60) (omega arith),
         le-ltb 59 (t / 1000 % 60) (omega arith),
       )
-      (ap some (omega arith))
+      (ap Some (omega arith))
 
-  text_back : (n : ℕ) → c.year ≤ 9999 → c.month ≤ 99 → c.day ≤ 99 → t < day → day_number c ≡ some n → read_date (date_text c t) ≡ some (n * day + t / 1000 * 1000 + t % 1000)
+  text_back : (n : ℕ) → c.year ≤ 9999 → c.month ≤ 99 → c.day ≤ 99 → t < day → day_number c ≡ Some n → read_date (date_text c t) ≡ Some (n * day + t / 1000 * 1000 + t % 1000)
   unfolding read_date date_text
   text_back n hy hm hd ht e =
       rw (
@@ -84,17 +84,17 @@ module _ (c : Civil) (t : ℕ) where
         fraction_back (t % 1000 / 100 % 10) (t % 1000 / 10 % 10) (t % 1000 % 10) (t % 1000) (omega arith) (omega arith) (omega arith) (omega arith),
       )
 
-number_back : (n : ℕ) → n ≤ 2932896 → day_number (civil_of n) ≡ some n
+number_back : (n : ℕ) → n ≤ 2932896 → day_number (civil_of n) ≡ Some n
 unfolding day_number
 number_back n h = rw (civil_valid n h, civil_days n (omega arith))
 
-pub round_trip : (t : ℕ) → t ≤ latest → read_date (print_date t) ≡ some t
+pub round_trip : (t : ℕ) → t ≤ latest → read_date (print_date t) ≡ Some t
 unfolding print_date
 round_trip t h =
     let n : ℕ = t / day in
     let k : n ≤ 2932896 = omega arith in
     let b = (valid_is (civil_of n) (civil_valid n k)).bounds in
-    text_back (civil_of n) (t % day) n b.to (omega (arith, b.last)) (omega (arith, b.most)) (omega arith) (number_back n k) ∙ ap some (omega arith)
+    text_back (civil_of n) (t % day) n b.to (omega (arith, b.last)) (omega (arith, b.most)) (omega arith) (number_back n k) ∙ ap Some (omega arith)
 
 -- A midnight prints as one.
 pub midnight_printed : (t : ℕ) → t % day ≡ 0 → drop 10 (print_date t) ≡ bytes "T00:00:00.000Z"

@@ -2,7 +2,7 @@
 use Prim.Native.Nat.{ℕ, ◌+◌, ◌/◌, ◌%◌, ◌≤◌}
 use mathlib.Core.Path.{◌≡◌, sym, ◌∙◌, ap}
 use mathlib.Core.List.{List, ◌++◌}
-use mathlib.Core.Option.{some}
+use Rattle.std.specs.Prelude.{Some}
 use native.Mathlib.Omega.{arith}
 use lib.ListN.{get_or, take, drop}
 use Rattle.buffers.specs.Texts.{bytes}
@@ -23,14 +23,14 @@ module _ (years t : ℕ) (c d : Civil) (a : YearsAfter years c d) (hc : c.year �
   abbrev to : List ℕ
   to = date_text d t
 
-  year_of_lem : (y : ℕ) → four_digits to 0 ≡ some y → d.year ≡ y
-  year_of_lem y e = let q : some d.year ≡ some y = sym (year_back d t hd) ∙ e in let z : d.year ≡ y = cc in z
+  year_of_lem : (y : ℕ) → four_digits to 0 ≡ Some y → d.year ≡ y
+  year_of_lem y e = let q : Some d.year ≡ Some y = sym (year_back d t hd) ∙ e in let z : d.year ≡ y = cc in z
 
-  printed_year : (y : ℕ) → four_digits from 0 ≡ some y → four_digits to 0 ≡ some (y + years)
+  printed_year : (y : ℕ) → four_digits from 0 ≡ Some y → four_digits to 0 ≡ Some (y + years)
   printed_year y e =
-      let q : some c.year ≡ some y = sym (year_back c t hc) ∙ e in
+      let q : Some c.year ≡ Some y = sym (year_back c t hc) ∙ e in
       let z : c.year ≡ y = cc in
-      year_back d t hd ∙ ap some (a.later_year_lem ∙ rw z)
+      year_back d t hd ∙ ap Some (a.year_is_later ∙ rw z)
 
   printed_rest : d.day ≡ c.day → drop 4 to ≡ drop 4 from
   unfolding date_text
@@ -62,9 +62,9 @@ module _ (years t : ℕ) (c d : Civil) (a : YearsAfter years c d) (hc : c.year �
   pub printed_after : PrintedYearsAfter years from to
   printed_after =
       record {
-        later_year_lem = printed_year;
+        year_is_later = printed_year;
         same_rest = λ y e has. printed_rest (a.same_day (λ em ed. rw (year_of_lem y e) (has (leap_text em ed))));
-        no_leap_day_lem = λ y e f l. printed_28 (text_month f) (a.no_leap_day_lem (text_month f) (text_day f) (rw (year_of_lem y e) l));
+        last_of_february = λ y e f l. printed_28 (text_month f) (a.last_of_february (text_month f) (text_day f) (rw (year_of_lem y e) l));
       }
 
 -- For every instant whose years end by the last one.

@@ -1,6 +1,6 @@
 -- The paper's examples of dates, as theorems about the definitions.
 use Rattle.std.specs.Prelude.{◌%◌, ◌≡◌, refl, true, false}
-use Rattle.std.proofs.Math.Option.{some, none}
+use Rattle.std.specs.Prelude.{Some, None}
 use Rattle.buffers.specs.Texts.{bytes}
 use Rattle.buffers.specs.Words.{number}
 use Rattle.text.specs.Numbers.{is_digit}
@@ -11,13 +11,13 @@ use Rattle.dates.specs.Printing.{digit_pair, date_text, print_date}
 
 -- the starred date examples
 pub record Starred : Type 0 where
-  pub epoch : read_date (bytes "1970-01-01T00:00:00Z") ≡ some 0
-  pub leap_day : read_date (bytes "2000-02-29T00:00:00Z") ≡ some 951782400000
-  pub document : read_date (bytes "2020-08-10T21:46:00Z") ≡ some 1597095960000
-  pub last : read_date (bytes "9999-12-31T23:59:59.999Z") ≡ some 253402300799999
-  pub no_leap_day : read_date (bytes "2100-02-29T00:00:00Z") ≡ none
-  pub second60 : read_date (bytes "2016-12-31T23:59:60Z") ≡ none
-  pub fraction : read_date (bytes "1970-01-01T00:00:00.1239Z") ≡ some 123
+  pub epoch : read_date (bytes "1970-01-01T00:00:00Z") ≡ Some 0
+  pub leap_day : read_date (bytes "2000-02-29T00:00:00Z") ≡ Some 951782400000
+  pub document : read_date (bytes "2020-08-10T21:46:00Z") ≡ Some 1597095960000
+  pub last : read_date (bytes "9999-12-31T23:59:59.999Z") ≡ Some 253402300799999
+  pub no_leap_day : read_date (bytes "2100-02-29T00:00:00Z") ≡ None
+  pub second60 : read_date (bytes "2016-12-31T23:59:60Z") ≡ None
+  pub fraction : read_date (bytes "1970-01-01T00:00:00.1239Z") ≡ Some 123
 
 pub starred : Starred
 unfolding is_digit leap years_length month_start month_length valid_day days_of digit_of two_digits four_digits day_number day_at second_of_day second_at fraction_digit milliseconds fraction_of read_date

@@ -1,6 +1,6 @@
 -- The text of an instant, as `2020-08-10T21:46:00.000Z`: 24 bytes.
 use Rattle.std.specs.Prelude.{ℕ, ◌+◌, ◌*◌, ◌/◌, ◌%◌, ◌≡◌, true, false, List, [], ◌∷◌, ◌++◌, take, drop}
-use Rattle.std.proofs.Math.Option.{some}
+use Rattle.std.specs.Prelude.{Some}
 use Rattle.buffers.specs.Texts.{bytes}
 use Rattle.calendar.specs.declared.Civil.{Civil}
 use Rattle.calendar.specs.Calendar.{day, leap, civil_of}
@@ -40,8 +40,8 @@ print_date t = date_text (civil_of (t / day)) (t % day)
 -- The text `to` is what a contract calls some years after the text `from`.
 pub record PrintedYearsAfter (years : ℕ) (from to : List ℕ) : Type 0 where
   -- The first four digits are the later year's.
-  pub later_year_lem : (y : ℕ) → four_digits from 0 ≡ some y → four_digits to 0 ≡ some (y + years)
+  pub year_is_later : (y : ℕ) → four_digits from 0 ≡ Some y → four_digits to 0 ≡ Some (y + years)
   -- All behind them stays, also on 29 February where the later year has one;
-  pub same_rest : (y : ℕ) → four_digits to 0 ≡ some y → (take 6 (drop 4 from) ≡ bytes "-02-29" → leap y ≡ true) → drop 4 to ≡ drop 4 from
+  pub same_rest : (y : ℕ) → four_digits to 0 ≡ Some y → (take 6 (drop 4 from) ≡ bytes "-02-29" → leap y ≡ true) → drop 4 to ≡ drop 4 from
   -- where it has none, it is 28 February.
-  pub no_leap_day_lem : (y : ℕ) → four_digits to 0 ≡ some y → take 6 (drop 4 from) ≡ bytes "-02-29" → leap y ≡ false → drop 4 to ≡ bytes "-02-28" ++ drop 10 from
+  pub last_of_february : (y : ℕ) → four_digits to 0 ≡ Some y → take 6 (drop 4 from) ≡ bytes "-02-29" → leap y ≡ false → drop 4 to ≡ bytes "-02-28" ++ drop 10 from

@@ -5,21 +5,13 @@ ghost use Rattle.std.specs.Prelude.{◌≡◌, true, ◌+◌, ◌-◌, ◌*◌, 
 ghost use Rattle.buffers.specs.Lists.{all};
 ghost use Rattle.buffers.specs.Ranges.{Within};
 ghost use Rattle.buffers.specs.Writes.{Wrote};
-ghost use Rattle.text.specs.Numbers.{value_of, is_digit};
+ghost use Rattle.text.specs.Numbers.{is_digit};
 ghost use Rattle.calendar.specs.Calendar.{latest, day, Bounded};
-ghost use Rattle.dates.specs.Reading.{instant_of, digit_of, two_digits, day_number, day_at, second_of_day, second_at, fraction_digit, milliseconds, fraction_of, read_date};
+ghost use Rattle.dates.specs.Reading.{digit_of, two_digits, day_number, day_at, second_of_day, second_at, fraction_digit, milliseconds, fraction_of, read_date};
 ghost use Rattle.dates.specs.Pairs.{apart, is_pairs, pairs_of};
-ghost use Rattle.dates.specs.Printing.{digit_pair, date_text, print_date};
+ghost use Rattle.dates.specs.Printing.{last_two, date_text, print_date};
 
 use calendar::Civil;
-use text::Value;
-
-// What a date's text says.
-#[derive(Clone, Copy)]
-pub enum DateRead {
-    At(u64),
-    Unreadable,
-}
 
 // The bytes `00-00-00` as a word.
 const DAY_PATTERN: u64 = 0x30302d30302d3030;
@@ -28,6 +20,7 @@ const DAY_PATTERN: u64 = 0x30302d30302d3030;
 const TIME_PATTERN: u64 = 0x30303a30303a3030;
 
 // The value of a byte that is a digit.
+#[tactic(auto, using(crate::proofs::Reading::digit_least, crate::proofs::Reading::digit_value))]
 fn value_of(b: u8) -> u64
     requires { is_digit b ≡ true }
     ensures { Within result (b - 48) 9 }
@@ -36,30 +29,30 @@ fn value_of(b: u8) -> u64
 }
 
 // The value of a byte, where it is a digit.
-fn digit(b: u8) -> Value
-    ensures { value_of result ≡ digit_of b }
+#[tactic(auto, unfolding(crate::specs::Reading::digit_of))]
+fn digit(b: u8) -> Option<u64>
+    ensures { result ≡ digit_of b }
 {
     if text::is_digit(b) {
-        return Value::Is(value_of(b));
+        Some(value_of(b))
+    } else {
+        None
     }
-    Value::Bad
 }
 
 // The number that two digits from `at` on spell.
-fn two_digits(text: &[u8], at: usize) -> Value
+#[tactic(auto, using(crate::proofs::Reading::digit_sums), unfolding(crate::specs::Reading::two_digits))]
+fn two_digits(text: &[u8], at: usize) -> Option<u64>
     requires { at + 1 < length text.now }
-    ensures { value_of result ≡ two_digits text.now at }
+    ensures { result ≡ two_digits text.now at }
 {
-    let Value::Is(a) = digit(text[at]) else {
-        return Value::Bad;
-    };
-    let Value::Is(b) = digit(text[at + 1]) else {
-        return Value::Bad;
-    };
-    Value::Is(a * 10 + b)
+    let a = digit(text[at])?;
+    let b = digit(text[at + 1])?;
+    Some(a * 10 + b)
 }
 
 // How eight bytes from `at` on differ, bit by bit, from those of a pattern.
+#[tactic(auto, using(crate::proofs::Pairs::apart_is))]
 fn apart(text: &[u8], at: usize, pattern: u64) -> u64
     requires { at + 8 ≤ length text.now }
     ensures { result ≡ apart text.now at pattern }
@@ -68,16 +61,15 @@ fn apart(text: &[u8], at: usize, pattern: u64) -> u64
 }
 
 // Eight bytes that differ by x from `00:00:00` are three pairs of digits with these separators. All bytes are tested at once: the first test keeps each byte's sum in the second from reaching the next byte.
+#[tactic(auto, using(crate::proofs::Pairs::pair_sums), unfolding(crate::specs::Pairs::is_pairs))]
 fn is_pairs(x: u64) -> bool
     ensures { result ≡ is_pairs x }
 {
-    if x & 0xf0f0f0f0f0f0f0f0 != 0 {
-        return false;
-    }
-    (x + 0x06060f06060f0606) & 0xf0f0f0f0f0f0f0f0 == 0
+    x & 0xf0f0f0f0f0f0f0f0 == 0 && (x + 0x06060f06060f0606) & 0xf0f0f0f0f0f0f0f0 == 0
 }
 
 // The numbers that the pairs spell, in the bytes of their first digits.
+#[tactic(auto, using(crate::proofs::Pairs::pair_sums), unfolding(crate::specs::Pairs::pairs_of))]
 fn pairs_of(x: u64) -> u64
     requires { is_pairs x ≡ true }
     ensures { result ≡ pairs_of x }
@@ -86,175 +78,146 @@ fn pairs_of(x: u64) -> u64
 }
 
 // The days from 1970-01-01 to a date that the calendar has.
-fn day_number(date: Civil) -> Value
-    ensures { value_of result ≡ day_number date }
+#[tactic(auto, using(calendar::proofs::Days::valid_bounds), unfolding(crate::specs::Reading::day_number))]
+fn day_number(date: Civil) -> Option<u64>
+    ensures { result ≡ day_number date }
 {
     if calendar::valid_day(date) {
-        return Value::Is(calendar::days_of(date));
+        Some(calendar::days_of(date))
+    } else {
+        None
     }
-    Value::Bad
 }
 
 // The day that a text's first ten bytes say.
-fn day_at(text: &[u8]) -> Value
+#[tactic(auto, using(crate::proofs::Pairs::pair_cases, crate::proofs::Reading::digit_sums))]
+fn day_at(text: &[u8]) -> Option<u64>
     requires { 20 ≤ length text.now }
-    ensures { value_of result ≡ day_at text.now }
+    ensures { result ≡ day_at text.now }
 {
-    let Value::Is(century) = two_digits(text, 0) else {
-        return Value::Bad;
-    };
+    let century = two_digits(text, 0)?;
     let x = apart(text, 2, DAY_PATTERN);
-    if is_pairs(x) {
-        let y = pairs_of(x);
-        return day_number(Civil {
-            year: century * 100 + y % 256,
-            month: y / 16777216 % 256,
-            day: y / 281474976710656 % 256,
-        });
+    if !is_pairs(x) {
+        return None;
     }
-    Value::Bad
+    let y = pairs_of(x);
+    day_number(Civil {
+        year: century * 100 + y % 256,
+        month: y / 16777216 % 256,
+        day: y / 281474976710656 % 256,
+    })
 }
 
 // The second of the day, where the clock has that time.
-fn second_of_day(hour: u64, minute: u64, second: u64) -> Value
-    ensures { value_of result ≡ second_of_day hour minute second }
+#[tactic(auto, unfolding(crate::specs::Reading::second_of_day))]
+fn second_of_day(hour: u64, minute: u64, second: u64) -> Option<u64>
+    ensures { result ≡ second_of_day hour minute second }
 {
-    if 23 < hour {
-        return Value::Bad;
+    if 23 < hour || 59 < minute || 59 < second {
+        None
+    } else {
+        Some((hour * 60 + minute) * 60 + second)
     }
-    if 59 < minute {
-        return Value::Bad;
-    }
-    if 59 < second {
-        return Value::Bad;
-    }
-    Value::Is((hour * 60 + minute) * 60 + second)
 }
 
 // The second of the day that the eight bytes after a text's `T` say.
-fn second_at(text: &[u8]) -> Value
+#[tactic(auto, using(crate::proofs::Pairs::pair_cases))]
+fn second_at(text: &[u8]) -> Option<u64>
     requires { 20 ≤ length text.now }
-    ensures { value_of result ≡ second_at text.now }
+    ensures { result ≡ second_at text.now }
 {
     let x = apart(text, 11, TIME_PATTERN);
-    if is_pairs(x) {
-        let y = pairs_of(x);
-        return second_of_day(y % 256, y / 16777216 % 256, y / 281474976710656 % 256);
+    if !is_pairs(x) {
+        return None;
     }
-    Value::Bad
+    let y = pairs_of(x);
+    second_of_day(y % 256, y / 16777216 % 256, y / 281474976710656 % 256)
 }
 
 // All the bytes are digits.
 fn all_digits(digits: &[u8]) -> bool
     ensures { result ≡ all is_digit digits.now }
 {
-    let mut i = 0;
-    while i < digits.len() {
-        if !text::is_digit(digits[i]) {
-            return false;
-        }
-        i += 1;
-    }
-    true
+    digits.iter().all(|&b| text::is_digit(b))
 }
 
 // The value of the digit at a place, 0 where it is missing.
+#[tactic(auto, using(crate::proofs::Reading::places))]
 fn place(digits: &[u8], at: usize) -> u64
     requires { all is_digit digits.now ≡ true }
     ensures { Within result (fraction_digit digits.now at) 9 }
 {
     if at < digits.len() {
-        return value_of(digits[at]);
+        value_of(digits[at])
+    } else {
+        0
     }
-    0
 }
 
 // The milliseconds that three digits say, as most fractions have.
-fn three_digits(digits: &[u8]) -> Value
+#[tactic(auto, using(crate::proofs::Reading::three_are, crate::proofs::Reading::digit_sums))]
+fn three_digits(digits: &[u8]) -> Option<u64>
     requires { length digits.now ≡ 3 }
-    ensures { value_of result ≡ milliseconds digits.now }
+    ensures { result ≡ milliseconds digits.now }
 {
-    let Value::Is(a) = two_digits(digits, 0) else {
-        return Value::Bad;
-    };
-    let Value::Is(b) = digit(digits[2]) else {
-        return Value::Bad;
-    };
-    Value::Is(a * 10 + b)
+    let a = two_digits(digits, 0)?;
+    let b = digit(digits[2])?;
+    Some(a * 10 + b)
 }
 
 // The milliseconds that the digits of a fraction say.
-fn milliseconds(digits: &[u8]) -> Value
-    ensures { value_of result ≡ milliseconds digits.now }
+#[tactic(auto, using(crate::proofs::Reading::places_sum), unfolding(crate::specs::Reading::milliseconds))]
+fn milliseconds(digits: &[u8]) -> Option<u64>
+    ensures { result ≡ milliseconds digits.now }
 {
     if digits.len() == 3 {
         return three_digits(digits);
     }
-    if digits.len() < 1 {
-        return Value::Bad;
+    if 1 <= digits.len() && digits.len() <= 9 && all_digits(digits) {
+        Some(place(digits, 0) * 100 + place(digits, 1) * 10 + place(digits, 2))
+    } else {
+        None
     }
-    if 9 < digits.len() {
-        return Value::Bad;
-    }
-    if all_digits(digits) {
-        return Value::Is(place(digits, 0) * 100 + place(digits, 1) * 10 + place(digits, 2));
-    }
-    Value::Bad
 }
 
 // The milliseconds that stand between a text's seconds and its `Z`.
-fn fraction(part: &[u8]) -> Value
-    ensures { value_of result ≡ fraction_of part.now }
+#[tactic(auto, using(crate::proofs::Reading::rest_is), unfolding(crate::specs::Reading::fraction_of))]
+fn fraction(part: &[u8]) -> Option<u64>
+    ensures { result ≡ fraction_of part.now }
 {
-    if part.len() < 1 {
-        return Value::Is(0);
+    match part {
+        [] => Some(0),
+        [b'.', digits @ ..] => milliseconds(digits),
+        _ => None,
     }
-    if part[0] != b'.' {
-        return Value::Bad;
-    }
-    milliseconds(&part[1..])
-}
-
-// The instant of a day, a second of it and a millisecond of that.
-fn instant(days: u64, seconds: u64, millis: u64) -> u64
-    requires { (days ≤ 2932896) × (seconds ≤ 86399) × (millis ≤ 999) }
-    ensures { result ≡ days * 86400000 + seconds * 1000 + millis }
-{
-    days * 86400000 + seconds * 1000 + millis
 }
 
 // The instant that a date's text says.
-pub fn read_date(text: &[u8]) -> DateRead
-    ensures { instant_of result ≡ read_date text.now }
+#[tactic(auto, using(crate::proofs::Reading::bounds), unfolding(crate::specs::Reading::read_date))]
+pub fn read_date(text: &[u8]) -> Option<u64>
+    ensures { result ≡ read_date text.now }
 {
     if text.len() < 20 {
-        return DateRead::Unreadable;
+        return None;
     }
     let last = text.len() - 1;
-    if text[10] != b'T' {
-        return DateRead::Unreadable;
+    if text[10] != b'T' || text[last] != b'Z' {
+        return None;
     }
-    if text[last] != b'Z' {
-        return DateRead::Unreadable;
-    }
-    let Value::Is(days) = day_at(text) else {
-        return DateRead::Unreadable;
-    };
-    let Value::Is(seconds) = second_at(text) else {
-        return DateRead::Unreadable;
-    };
-    let Value::Is(millis) = fraction(&text[19..last]) else {
-        return DateRead::Unreadable;
-    };
-    DateRead::At(instant(days, seconds, millis))
+    let days = day_at(text)?;
+    let seconds = second_at(text)?;
+    let millis = fraction(&text[19..last])?;
+    Some(days * 86400000 + seconds * 1000 + millis)
 }
 
-// The two digits of a number below 100, as a word of two bytes with the tens in the low one: up to there 103 / 1024 counts the tens.
-fn digit_pair(n: u64) -> u64
+// The two digits of a number below 100: up to there 103 / 1024 counts the tens. They are made as one word, the tens in its low byte.
+#[tactic(auto, using(crate::proofs::Printing::pair_laws))]
+fn digit_pair(n: u64) -> [u8; 2]
     requires { n ≤ 99 }
-    ensures { Within result (digit_pair n) 14649 }
+    ensures { result ≡ last_two n }
 {
-    12336 + 256 * n - 2559 * (n * 103 / 1024)
+    let pair = 12336 + 256 * n - 2559 * (n * 103 / 1024);
+    (pair as u16).to_le_bytes()
 }
 
 // The text of a date and a time of day.
@@ -265,39 +228,18 @@ fn date_text(date: Civil, time: u64) -> [u8; 24]
     let seconds = time / 1000;
     let minutes = seconds / 60;
     let milli = time % 1000;
-    let century = digit_pair(date.year / 100);
-    let year = digit_pair(date.year % 100);
-    let month = digit_pair(date.month);
-    let day = digit_pair(date.day);
-    let hour = digit_pair(minutes / 60);
-    let minute = digit_pair(minutes % 60);
-    let second = digit_pair(seconds % 60);
-    let tens = digit_pair(milli / 10);
+    let [y0, y1] = digit_pair(date.year / 100);
+    let [y2, y3] = digit_pair(date.year % 100);
+    let [m0, m1] = digit_pair(date.month);
+    let [d0, d1] = digit_pair(date.day);
+    let [h0, h1] = digit_pair(minutes / 60);
+    let [i0, i1] = digit_pair(minutes % 60);
+    let [s0, s1] = digit_pair(seconds % 60);
+    let [f0, f1] = digit_pair(milli / 10);
+    let f2 = b'0' + (milli % 10) as u8;
     [
-        (century % 256) as u8,
-        (century / 256) as u8,
-        (year % 256) as u8,
-        (year / 256) as u8,
-        b'-',
-        (month % 256) as u8,
-        (month / 256) as u8,
-        b'-',
-        (day % 256) as u8,
-        (day / 256) as u8,
-        b'T',
-        (hour % 256) as u8,
-        (hour / 256) as u8,
-        b':',
-        (minute % 256) as u8,
-        (minute / 256) as u8,
-        b':',
-        (second % 256) as u8,
-        (second / 256) as u8,
-        b'.',
-        (tens % 256) as u8,
-        (tens / 256) as u8,
-        (48 + milli % 10) as u8,
-        b'Z',
+        y0, y1, y2, y3, b'-', m0, m1, b'-', d0, d1, b'T', h0, h1, b':', i0, i1, b':', s0, s1, b'.',
+        f0, f1, f2, b'Z',
     ]
 }
 

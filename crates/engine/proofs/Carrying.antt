@@ -1,9 +1,10 @@
--- A verdict carried out: what is returned and left is its decision, done.
+-- A plan carried out: what is returned and left is its decision, done.
+use Rattle.model.specs.declared.Fate.{Fate}
 use Prim.Native.Nat.{ℕ, ◌+◌}
-use mathlib.Core.Path.{◌≡◌, sym, ◌∙◌, ap}
+use mathlib.Core.Path.{refl, ◌≡◌, sym, ◌∙◌, ap}
 use mathlib.Core.Bool.{true}
 use mathlib.Core.List.{List, ◌++◌}
-use mathlib.Core.Option.{none}
+use Rattle.std.specs.Prelude.{None}
 use native.Mathlib.Omega.{arith}
 use lib.ListN.{length, drop}
 use Rattle.buffers.specs.Writes.{Wrote}
@@ -17,29 +18,19 @@ use Rattle.settings.specs.State.{settings_by}
 use Rattle.settings.proofs.Back.{means_back}
 use Rattle.table.specs.Layout.{rows_of, capacity, Holds}
 use Rattle.table.proofs.Held.{rows_length}
-use Rattle.answers.specs.declared.Answer.{Answer}
 use Rattle.answers.specs.Text.{longest_answer}
 use Rattle.answers.specs.Meaning.{text_of, Printable}
-use Rattle.judge.specs.declared.Change.{Change}
 use Rattle.judge.specs.declared.Plan.{Plan}
-use Rattle.judge.specs.declared.Verdict.{Verdict}
-use Rattle.judge.specs.declared.Verdict.TheVariants as verdict
-use Rattle.judge.specs.Meaning.{plan_means, Feasible}
-use Rattle.judge.specs.State.{rows_in}
+use Rattle.judge.specs.Meaning.{plan_means}
 use Rattle.apply.specs.declared.Progress.{Progress}
 use Rattle.apply.specs.Applied.{judged, Applicable, Applied}
 use Rattle.bucket.specs.Whole.{lent}
 use Rattle.outcome.specs.Decision.{Effect}
-use Rattle.outcome.specs.Outcome.{Outcome, refused, written}
+use Rattle.outcome.specs.Outcome.{Outcome, written}
 use Rattle.outcome.specs.Steps.{settings_after, carried}
-use Rattle.engine.specs.declared.Done.{Done}
-use Rattle.engine.specs.Served.{outcome_by, with_progress, CanCarryOut, CarriedOut}
+use Rattle.engine.specs.Served.{with_progress, CanCarryOut, CarriedOut}
 
 -- ## Outcomes by their parts
-
--- A refusal of the code.
-pub refused_is : (r : Done) (k : ℕ) (s : State) (us : List Rule) (n keys a : List ℕ) → r.number ≡ k → r.len ≡ 0 → r.state ≡ s → outcome_by r us n keys a ≡ refused k (lent (settings_by s us) n keys) a
-refused_is r k s us n keys a e f g = rw (e, f, g)
 
 -- an accepted call that leaves these settings
 abbrev left : ℕ → Settings → List ℕ → List ℕ → List ℕ → Outcome
@@ -69,38 +60,31 @@ kept_is s n keys now v a e most len after a' w q h er et =
     let z : s.next + 0 ≡ s.next = omega arith in
     carried_is s n keys now v a e most len after n keys a' w (rw (er, et, z, rows_length n keys s.used) q) (rw er h)
 
--- ## A verdict
+-- ## A plan
 
 -- The settings, where the verb sets nothing: now, the used rows and the next number.
-pub settings_after_lem : (s : State) (us : List Rule) (v : Verb) (now used next : ℕ) → setting_of v ≡ none → prefixes_are us ≡ true
+pub settings_after_lem : (s : State) (us : List Rule) (v : Verb) (now used next : ℕ) → setting_of v ≡ None → prefixes_are us ≡ true
     → settings_by (with_progress s now used next) us ≡ settings_from (record { time = now; next = next; config = config_after (settings_mean (settings_by s us)).config v }) used
 unfolding config_after
 settings_after_lem s us v now used next e h = rw e (sym (means_back (settings_by (with_progress s now used next) us) h))
 
-module _ (s : State) (n keys line a : List ℕ) (o : Verdict) (now : ℕ) (fates : List ℕ) where
-  pub verdict_refused : (k : ℕ) (r : Done) → o ≡ verdict.Refused k → r.number ≡ k → r.len ≡ 0 → r.state ≡ s → CarriedOut s n keys line a o now fates r n keys a
-  verdict_refused k r e x y z = record { is = λ us v h c. refused_is r k s us n keys a x y z ∙ rw e }
+module _ (s : State) (n keys line a : List ℕ) (plan : Plan) (now : ℕ) (fates : List Fate) (p : CanCarryOut s n keys line a plan now fates) where
+  pub plan_can : Applicable (judged line s.next now fates) n keys s.used plan.change
+  plan_can =
+      let r = p.ready in
+      record { held = p.held; can = p.feasible.0; small = r.capacity_fits; used_small = omega (arith, r.used_fits, r.capacity_fits) }
 
-  module _ (p : CanCarryOut s n keys line a o now fates) (plan : Plan) (e : o ≡ verdict.Accepted plan) where
-    feasible : Feasible (judged line s.next now fates) (capacity keys) (rows_in s n keys) (verdict.Accepted plan)
-    feasible = rw e at p.feasible
+  pub plan_prints : Printable plan.answer
+  plan_prints = p.feasible.1
 
-    pub plan_can : Applicable (judged line s.next now fates) n keys s.used plan.change
-    plan_can =
-        let r = p.ready in
-        record { held = r.holds; can = feasible.0; small = r.capacity_fits; used_small = omega (arith, r.used_fits, r.capacity_fits) }
+  pub plan_done : (n' keys' a' : List ℕ) (g : Progress) (len : ℕ)
+      → Applied (judged line s.next now fates) (capacity keys) (rows_of n keys s.used) plan.change n' keys' g → Wrote a 0 (text_of plan.answer) longest_answer a' len
+      → CarriedOut s n keys line a plan now fates (record { len = len; state = with_progress s now g.used g.next }) n' keys' a'
+  plan_done n' keys' a' g len d w =
+      record {
+        is = λ us v h c. carried_is (settings_by s us) n keys now v a (plan_means (judged line s.next now fates) (rows_of n keys s.used) plan) _ len _ n' keys' a' w
+            (rw (d.used_is, d.next_is) (settings_after_lem s us v now _ _ c h))
+            d.held;
+      }
 
-    pub plan_prints : Printable plan.answer
-    plan_prints = feasible.1
-
-    pub plan_done : (change : Change) (text : Answer) (n' keys' a' : List ℕ) (g : Progress) (len : ℕ) → plan.change ≡ change → plan.answer ≡ text
-        → Applied (judged line s.next now fates) (capacity keys) (rows_of n keys s.used) change n' keys' g → Wrote a 0 (text_of text) longest_answer a' len
-        → CarriedOut s n keys line a o now fates (record { number = 0; len = len; state = with_progress s now g.used g.next }) n' keys' a'
-    plan_done change text n' keys' a' g len pc pt d w =
-        record {
-          is = λ us v h c. rw (e, pc, pt) (carried_is (settings_by s us) n keys now v a (plan_means (judged line s.next now fates) (rows_of n keys s.used) (record { change = change; answer = text })) _ len _ n' keys' a' w
-              (rw (d.used_is, d.next_is) (settings_after_lem s us v now _ _ c h))
-              d.held);
-        }
-
-pub ruleset verdicts = (verdict_refused, plan_can, plan_prints, plan_done)
+pub ruleset plans = (plan_can, plan_prints, plan_done)

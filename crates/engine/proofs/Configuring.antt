@@ -18,20 +18,23 @@ use Rattle.settings.specs.declared.State.{State}
 use Rattle.settings.specs.Bytes.{entries_length, rules_of, settings_with}
 use Rattle.settings.specs.Meaning.{rules_mean, rule_from}
 use Rattle.settings.proofs.Back.{rules_back, rules_set}
-use Rattle.fields.specs.declared.Mode.{Mode}
+use Rattle.std.specs.Option.{option_map}
+use Rattle.std.specs.Prelude.{Option}
+use Rattle.model.specs.declared.Mode.{Mode}
+use Rattle.model.specs.Kinds.{mode_number}
 use Rattle.fields.specs.declared.Period.{Period}
 use Rattle.request.specs.declared.Setting.{Setting}
 use Rattle.request.specs.declared.Setting.TheVariants as setting
-use Rattle.fields.specs.Meaning.{mode_means, period_means, Inside}
+use Rattle.fields.specs.Meaning.{period_means, Inside}
 use Rattle.request.specs.Meaning.{setting_means}
-use Rattle.engine.specs.Configured.{Settable, with_default, configured_by}
+use Rattle.engine.specs.Configured.{Settable, configured_by}
 
 module _ (s : State) (e line : List ℕ) (x : Setting) where
-  pub default_set : (m : Mode) (p : Period) (mode count unit : ℕ) (r : State) → x ≡ setting.Default m p → Settable line s e x
-      → mode ≡ or_zero (mode_means m) → count ≡ then_some (period_means p) 0 (λ q. q.count) → unit ≡ then_some (period_means p) 0 (λ q. q.unit) → r ≡ with_default s mode count unit
-      → settings_with r e ≡ configured_by (settings_with s e) (setting_means line x)
+  pub default_set : (m : Option Mode) (p : Option Period) (mode count unit : ℕ) → x ≡ setting.Default m p → Settable line s e x
+      → mode ≡ or_zero (option_map mode_number m) → count ≡ then_some (option_map period_means p) 0 (λ q. q.count) → unit ≡ then_some (option_map period_means p) 0 (λ q. q.unit)
+      → settings_with (record { time = s.time; used = s.used; next = s.next; mode = mode; count = count; unit = unit }) e ≡ configured_by (settings_with s e) (setting_means line x)
   unfolding set_config
-  default_set m p mode count unit r q h a b c f = rw (q, f, a, b, c, rules_back (rules_of e) h.prefixes)
+  default_set m p mode count unit q h a b c = rw (q, a, b, c, rules_back (rules_of e) h.prefixes)
 
   pub rule_set : (prefix e' : List ℕ) (i : ℕ) (p : Place) (current noncurrent : ℕ) → x ≡ setting.Rule i p current noncurrent → Settable line s e x
       → prefix ≡ part_of line p → rules_of e' ≡ set (rules_of e) i (rule_from (stored (record { prefix = prefix; current_days = current; noncurrent_days = noncurrent })))
@@ -42,7 +45,7 @@ module _ (s : State) (e line : List ℕ) (x : Setting) where
 -- What setting a rule asks.
 module _ (s : State) (e line : List ℕ) (x : Setting) (h : Settable line s e x) (i : ℕ) (p : Place) (current noncurrent : ℕ) (q : x ≡ setting.Rule i p current noncurrent) where
   ranges : (ltb i 8 && (is_prefix (part_of line p) && (is_days current && is_days noncurrent))) ≡ true
-  ranges = rw q at h.in_range_lem
+  ranges = rw q at h.is_in_range
 
   pub rule_place : i < 8
   rule_place = ltb-true i 8 (and_l _ _ ranges)

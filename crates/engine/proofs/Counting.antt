@@ -1,4 +1,9 @@
 -- The count of a call: that of SWEEP by its verdict, none for any other line.
+use Rattle.model.specs.declared.Fate.{Fate}
+use Rattle.std.specs.Prelude.{Result, Ok, Err}
+use Rattle.model.specs.declared.Refusal.{Refusal}
+use Rattle.screen.specs.declared.Passed.{Passed}
+use Rattle.model.proofs.Facts.{number_not_0}
 use Prim.Native.Nat.{ℕ}
 use mathlib.Core.Path.{◌≡◌, refl, sym, ◌∙◌, ap}
 use mathlib.Core.Bool.{Bool, true, false}
@@ -23,18 +28,20 @@ use Rattle.request.specs.declared.Verb.{Verb}
 use Rattle.request.specs.declared.Verb.TheVariants as verb
 use Rattle.request.specs.Meaning.{verb_means}
 use Rattle.request.proofs.Actions.{action_uncounted}
-use Rattle.screen.specs.declared.Screened.{Screened}
-use Rattle.screen.specs.declared.Screened.TheVariants as screened
-use Rattle.screen.specs.Screen.{Screens, screened_line, line_refusal}
-use Rattle.screen.proofs.Lines.{Comes, short, unread, barred, passed, comes, line_passed}
+use Rattle.screen.specs.Screen.{Screens, screened_line}
+use Rattle.screen.proofs.Lines.{line_passed}
+use Rattle.judge.specs.declared.Plan.{Plan}
 use Rattle.judge.specs.State.{rows_in}
+use Rattle.judge.specs.Premises.{JudgesBy}
+use Rattle.table.specs.Contents.{Contents, contents}
+use Rattle.model.specs.Requests.{Rights, Sweep}
 use Rattle.outcome.specs.Calls.{call}
 use Rattle.outcome.specs.Outcome.{Outcome, outcome}
 use Rattle.outcome.proofs.Deciding.{outcome_1}
 use Rattle.outcome.specs.Comparisons.{comparisons_of}
-use Rattle.engine.specs.declared.Counted.{Counted}
-use Rattle.engine.specs.Served.{Passing, Swept}
-use Rattle.engine.proofs.Serving.{stops}
+use Rattle.engine.specs.declared.Done.{Done}
+use Rattle.engine.specs.Served.{Passing, CarriedOut}
+use Rattle.engine.proofs.Serving.{stops, sweep_stops, sweep_done}
 
 -- ## The count of a call
 
@@ -49,7 +56,7 @@ module _ (b : Lent) (line a : List ℕ) where
   unfolding comparisons_of
   refused_count e = rw (ne_eqb _ 0 e)
 
-  module _ (v : Verb) (when : Now) (p : screened.Passed v when ≡ screened_line (settings_mean b.settings).config b.settings.time line (length a)) where
+  module _ (v : Verb) (when : Now) (p : Ok (record { verb = v; when = when }) ≡ screened_line (settings_mean b.settings).config b.settings.time line (length a)) where
     passing_count : comparisons_of b (call line a) ≡ pick (eqb (outcome b (call line a)).number 0) (comparisons_by (bucket_of b) (verb_means line v)) 0
     unfolding comparisons_of
     passing_count = rw (line_passed (settings_mean b.settings).config b.settings.time line (length a) v when p).says
@@ -59,16 +66,6 @@ module _ (b : Lent) (line a : List ℕ) where
 
 -- ## The ways through the code
 
--- The screen refuses with no 0.
-stopped_some : (b : Lent) (line a : List ℕ) (k : ℕ) → screened.Refused k ≡ screened_line (settings_mean b.settings).config b.settings.time line (length a) → k ≡ 0 → ⊥
-stopped_some b line a k = go (screened_line (settings_mean b.settings).config b.settings.time line (length a)) (comes (settings_mean b.settings).config b.settings.time line (length a))
-  where
-    go : (r : Screened) → Comes (settings_mean b.settings).config b.settings.time line (length a) r → screened.Refused k ≡ r → k ≡ 0 → ⊥
-    go r (short l) e f = let z : k ≡ 2 = ap line_refusal e in omega arith
-    go r (unread l g) e f = let z : k ≡ 3 = ap line_refusal e in omega arith
-    go r (barred l q g z) e f = z (sym (ap line_refusal e) ∙ f)
-    go r (passed l q g z) e f = let x : ◌≡◌ {A = ℕ} 0 1 = cc in omega arith
-
 module _ (s : State) (us : List Rule) (n keys line a : List ℕ) where
   -- the bucket
   abbrev b : Lent
@@ -77,24 +74,24 @@ module _ (s : State) (us : List Rule) (n keys line a : List ℕ) where
   pub unsound_counts : (w : Bool) → w ≡ whole b → w ≡ false → 0 ≡ comparisons_of b (call line a)
   unsound_counts w f t = refused_count b line a (λ z. let y : 1 ≡ 0 = ap (λ (o : Outcome). o.number) (outcome_1 b (call line a) (sym f ∙ t)) ∙ z in omega arith)
 
-  module _ (o : Screened) (g : Screens s line (length a) o) where
-    pub stopped_counts : (k : ℕ) → o ≡ screened.Refused k → whole b ≡ true → 0 ≡ comparisons_of b (call line a)
+  module _ (o : Result Passed Refusal) (g : Screens s line (length a) o) where
+    pub stopped_counts : (k : Refusal) → o ≡ Err k → whole b ≡ true → 0 ≡ comparisons_of b (call line a)
     stopped_counts k t h =
-        let z : screened.Refused k ≡ screened_line (settings_mean b.settings).config s.time line (length a) = sym t ∙ g.is (settings_mean b.settings).config in
-        refused_count b line a (λ y. stopped_some b line a k z (ap (λ (q : Outcome). q.number) (stops b line a h k z) ∙ y))
+        let z : Err k ≡ screened_line (settings_mean b.settings).config s.time line (length a) = sym t ∙ g.is (settings_mean b.settings).config in
+        refused_count b line a (λ y. number_not_0 k (ap (λ (q : Outcome). q.number) (stops b line a h k z) ∙ y))
 
-    module _ (v : Verb) (when : Now) (t : o ≡ screened.Passed v when) where
-      other_counts : (u : Verb) → v ≡ u → comparisons_by (bucket_of b) (verb_means line u) ≡ 0 → 0 ≡ comparisons_of b (call line a)
-      other_counts u f z = other_count b line a u when (rw f at (sym t ∙ g.is (settings_mean b.settings).config)) z
+    module _ (w : Passed) (t : o ≡ Ok w) where
+      other_counts : (u : Verb) → w.verb ≡ u → comparisons_by (bucket_of b) (verb_means line u) ≡ 0 → 0 ≡ comparisons_of b (call line a)
+      other_counts u f z = other_count b line a u w.when (rw f at (sym t ∙ g.is (settings_mean b.settings).config)) z
 
-      pub act_counts : (y : Action) → v ≡ verb.Act y → 0 ≡ comparisons_of b (call line a)
+      pub act_counts : (y : Action) → w.verb ≡ verb.Act y → 0 ≡ comparisons_of b (call line a)
       act_counts y f = other_counts (verb.Act y) f (action_uncounted line y (bucket_of b))
 
-      pub set_counts : (y : Setting) → v ≡ verb.Set y → 0 ≡ comparisons_of b (call line a)
+      pub set_counts : (y : Setting) → w.verb ≡ verb.Set y → 0 ≡ comparisons_of b (call line a)
       unfolding comparisons_by
       set_counts y f = other_counts (verb.Set y) f refl
 
-      pub ask_counts : (y : Query) → v ≡ verb.Ask y → 0 ≡ comparisons_of b (call line a)
+      pub ask_counts : (y : Query) → w.verb ≡ verb.Ask y → 0 ≡ comparisons_of b (call line a)
       unfolding comparisons_by
       ask_counts y f = other_counts (verb.Ask y) f refl
 
@@ -102,16 +99,15 @@ pub ruleset line_counts = (stopped_counts, act_counts, set_counts, ask_counts)
 
 -- ## SWEEP
 
-module _ (s : State) (e n keys line a : List ℕ) (when : Now) (w : Counted) (n' keys' a' : List ℕ) (g : Swept s e n keys a when w.done n' keys' a') (p : Passing (lent_with s e n keys) line a verb.Sweep when) where
-  number_is : w.done.number ≡ (outcome (lent_with s e n keys) (call line a)).number
-  number_is = ap (λ (z : Outcome). z.number) (g.is line p)
-
+module _ (s : State) (e n keys line a : List ℕ) (when : Now) (p : Passing (lent_with s e n keys) line a verb.Sweep when) (t : Contents) (there : t ≡ contents n keys s.used) (o : Result Plan Refusal) (fates : List Fate)
+    (j : (l : List ℕ) (who : Rights) → JudgesBy s t l when.judge who (rules_mean (rules_of e)) fates Sweep o) where
   -- A refused sweep counts none.
-  pub sweep_uncounted : (w.done.number ≡ 0 → ⊥) → 0 ≡ comparisons_of (lent_with s e n keys) (call line a)
-  sweep_uncounted z = refused_count (lent_with s e n keys) line a (λ y. z (number_is ∙ y))
+  pub sweep_uncounted : (k : Refusal) → o ≡ Err k → 0 ≡ comparisons_of (lent_with s e n keys) (call line a)
+  sweep_uncounted k f = refused_count (lent_with s e n keys) line a (λ y. number_not_0 k (ap (λ (z : Outcome). z.number) (sweep_stops s e n keys line a when p t there o fates j k f) ∙ y))
 
-  pub sweep_counted : w.done.number ≡ 0 → w.comparisons ≡ comparisons (rules_mean (rules_of e)) (rows_in s n keys) → w.comparisons ≡ comparisons_of (lent_with s e n keys) (call line a)
+  pub sweep_counted : (plan : Plan) → o ≡ Ok plan → (l : List ℕ) (y : Done) (n' keys' a' : List ℕ) → CarriedOut s n keys l a plan when.stamp fates y n' keys' a'
+      → (c : ℕ) → c ≡ comparisons (rules_mean (rules_of e)) t.rows → c ≡ comparisons_of (lent_with s e n keys) (call line a)
   unfolding comparisons_by
-  sweep_counted z f = f ∙ sym (passing_count (lent_with s e n keys) line a verb.Sweep when p.passes ∙ rw (sym number_is ∙ z))
-
-pub ruleset sweep_counts = (sweep_uncounted, sweep_counted)
+  sweep_counted plan f l y n' keys' a' g c h =
+      h ∙ ap (λ (x : Contents). comparisons (rules_mean (rules_of e)) x.rows) there
+      ∙ sym (passing_count (lent_with s e n keys) line a verb.Sweep when p.passes ∙ rw (sym (ap (λ (z : Outcome). z.number) (sweep_done s e n keys line a when p t there o fates j plan f l y n' keys' a' g))))

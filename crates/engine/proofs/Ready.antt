@@ -15,7 +15,9 @@ use Rattle.model.specs.Requests.{in_range}
 use Rattle.model.proofs.Sound.{whole as sound_whole, config_default, config_rules}
 use Rattle.settings.specs.Meaning.{settings_mean}
 use Rattle.settings.specs.State.{state_of}
+use Rattle.table.specs.Contents.{contents}
 use Rattle.table.specs.Layout.{capacity}
+use Rattle.table.proofs.Held.{rows_length}
 use Rattle.bucket.specs.Whole.{Lent, bucket_of, whole}
 use Rattle.bucket.proofs.Whole.{whole_parts}
 use Rattle.request.specs.declared.Verb.{Verb}
@@ -26,17 +28,17 @@ use Rattle.judge.specs.State.{Ready}
 use Rattle.judge.specs.Premises.{Asked}
 use Rattle.engine.specs.Served.{Passing}
 
-ready : (b : Lent) → whole b ≡ true → Ready (state_of b.settings) b.numbers b.keys
+ready : (b : Lent) → whole b ≡ true → Ready (state_of b.settings) (contents b.numbers b.keys b.settings.used)
 ready b e =
     let p = whole_parts b e in
     let w = sound_whole (capacity b.keys) (bucket_of b) p.is_sound in
     record {
-      holds = p.holds;
       in_order = w.in_order;
       rows_sound = w.rows_sound;
       from_one = w.from_one;
       next_fits = w.next_fits;
       default_sound = config_default (settings_mean b.settings).config w.config_sound;
+      used_is = rows_length b.numbers b.keys b.settings.used;
       used_fits = p.room;
       capacity_fits = p.most;
     }
@@ -60,9 +62,9 @@ module _ (b : Lent) (line a : List ℕ) (v : Verb) (when : Now) (p : Passing b l
   line_ranges : (leb line_says.clock latest && in_range (verb_means line v)) ≡ true
   line_ranges = read_in_range line _ line_says.says
 
-  pub line_asked : Asked (state_of b.settings) b.numbers b.keys when.judge (verb_means line v)
+  pub line_asked : Asked (state_of b.settings) (contents b.numbers b.keys b.settings.used) when.judge (verb_means line v)
   line_asked =
       let q = line_says in
       let t = leb-true b.settings.time latest (sound_whole (capacity b.keys) (bucket_of b) (whole_parts b p.is_whole).is_sound).time_fits in
       let c = leb-true q.clock latest (and_l _ _ line_ranges) in
-      record { ready = ready b p.is_whole; instant = omega (arith, line_judge); since = omega (arith, line_judge); in_range_lem = and_r (leb q.clock latest) _ line_ranges }
+      record { ready = ready b p.is_whole; instant = omega (arith, line_judge); since = omega (arith, line_judge); in_ranges = and_r (leb q.clock latest) _ line_ranges }

@@ -13,12 +13,8 @@ use Rattle.request.specs.Meaning.{setting_means, SettingInside}
 pub record Settable (line : List ℕ) (s : State) (entries : List ℕ) (x : Setting) : Type 0 where
   pub entries_long : length entries ≡ entries_length
   pub prefixes : prefixes_are (rules_of entries) ≡ true
-  pub in_range_lem : model.is_setting (setting_means line x) ≡ true
+  pub is_in_range : model.is_setting (setting_means line x) ≡ true
   pub inside : SettingInside line x
-
--- another default retention
-abbrev pub with_default : State → ℕ → ℕ → ℕ → State
-with_default s mode count unit = record { time = s.time; used = s.used; next = s.next; mode = mode; count = count; unit = unit }
 
 -- The settings with what a verb sets; time, used rows and next number stay.
 abbrev pub configured_by : Settings → model.Setting → Settings

@@ -1,74 +1,59 @@
 // The values of a request line's single fields. The definitions are in specs/.
 #![tactic(auto)]
 
-ghost use Rattle.std.specs.Prelude.{◌≡◌, true, ◌-◌, ◌^◌, ◌<◌};
-ghost use Rattle.buffers.specs.Choices.{is_some, or_zero, then_some};
-ghost use Rattle.buffers.specs.Ranges.{Within};
-ghost use Rattle.buffers.specs.Texts.{bytes};
-ghost use Rattle.text.specs.Fields.{Split};
-ghost use Rattle.text.specs.Keys.{contains};
-ghost use Rattle.text.specs.Numbers.{value_of};
-ghost use Rattle.fields.specs.Fields.{letter_bits, letters_in, rights_in, read_rights, read_key, read_prefix, read_version, read_mode, read_until, read_switch, read_hold, read_bypass, read_period};
-ghost use Rattle.fields.specs.Meaning.{mode_means, until_means, hold_means, period_means, key_from, rights_from, version_from, mode_from, until_from, flag_from, hold_from, period_from};
+ghost use Rattle.std.specs.Prelude.{◌≡◌, ◌<◌};
+ghost use Rattle.fields.specs.Fields.{with_letter, read_rights, read_key, read_prefix, read_version, read_mode, read_until, read_either, read_switch, read_hold, read_bypass, read_period};
+ghost use Rattle.fields.specs.Meaning.{period_means};
 
-use dates::DateRead;
-use text::{Place, Value};
+use model::Mode;
+use text::{Line, Place};
 
-// A mode, `-` for missing.
-#[derive(Clone, Copy)]
-pub enum Mode {
-    Missing,
-    Governance,
-    Compliance,
-}
-
-// A retain-until date, `-` for missing.
-#[derive(Clone, Copy)]
-pub enum Until {
-    Missing,
-    Given(u64),
-}
-
-// A legal hold, `-` for missing.
-#[derive(Clone, Copy)]
-pub enum Hold {
-    Missing,
-    Off,
-    On,
-}
-
-// A version number, `-` for the current version.
-#[derive(Clone, Copy)]
-pub enum Version {
-    Current,
-    Numbered(u64),
-}
-
-// A default retention's period, `-` for missing.
+// A default retention's period.
 #[derive(Clone, Copy)]
 pub enum Period {
-    Missing,
     Days(u64),
     Years(u64),
 }
 
-// The fields mode and date.
-#[derive(Clone, Copy)]
-pub struct Retention {
-    pub mode: Mode,
-    pub until: Until,
+impl Period {
+    // How many days or years.
+    pub fn count(self) -> u64
+        ensures { result ≡ (period_means self).count }
+    {
+        match self {
+            Period::Days(n) | Period::Years(n) => n,
+        }
+    }
+
+    // Its unit as the settings have it: 1 days, 2 years.
+    pub fn unit(self) -> u64
+        ensures { result ≡ (period_means self).unit }
+    {
+        match self {
+            Period::Days(_) => 1,
+            Period::Years(_) => 2,
+        }
+    }
 }
 
-// The lock fields of a PUT or COPY.
+// The fields mode and date, `None` for a `-`.
+#[derive(Clone, Copy)]
+pub struct Retention {
+    pub mode: Option<Mode>,
+    pub until: Option<u64>,
+}
+
+// The lock fields of a PUT or COPY; the hold is true for ON, `None` for a `-`.
 #[derive(Clone, Copy)]
 pub struct Terms {
     pub retention: Retention,
-    pub hold: Hold,
+    pub hold: Option<bool>,
 }
 
 // The letters r w d t h b c.
 #[derive(Clone, Copy)]
 pub struct Rights {
+    // A letter each, of which a line has any.
     pub r: bool,
     pub w: bool,
     pub d: bool,
@@ -78,336 +63,180 @@ pub struct Rights {
     pub c: bool,
 }
 
-// What a field says: the value, or that it can't be read.
-#[derive(Clone, Copy)]
-pub enum KeyRead {
-    Is(Place),
-    Bad,
-}
+const NO_RIGHTS: Rights = Rights {
+    r: false,
+    w: false,
+    d: false,
+    t: false,
+    h: false,
+    b: false,
+    c: false,
+};
 
-#[derive(Clone, Copy)]
-pub enum VersionRead {
-    Is(Version),
-    Bad,
-}
-
-#[derive(Clone, Copy)]
-pub enum ModeRead {
-    Is(Mode),
-    Bad,
-}
-
-#[derive(Clone, Copy)]
-pub enum UntilRead {
-    Is(Until),
-    Bad,
-}
-
-#[derive(Clone, Copy)]
-pub enum FlagRead {
-    Is(bool),
-    Bad,
-}
-
-#[derive(Clone, Copy)]
-pub enum HoldRead {
-    Is(Hold),
-    Bad,
-}
-
-#[derive(Clone, Copy)]
-pub enum PeriodRead {
-    Is(Period),
-    Bad,
-}
-
-#[derive(Clone, Copy)]
-pub enum RightsRead {
-    Is(Rights),
-    Bad,
-}
-
-// The bit of a letter of rights: its place in the alphabet from b on.
-fn letter_bit(b: u8) -> u64
-    requires { contains (bytes "rwdthbc") b ≡ true }
-    ensures { Within result (2 ^ (b - 98)) 2097152 }
+// The rights with one more letter, unless that is none or is there already.
+#[tactic(auto, unfolding(crate::specs::Fields::with_letter))]
+fn with_letter(held: Rights, letter: u8) -> Option<Rights>
+    ensures { result ≡ with_letter held letter }
 {
-    1 << (b - b'b')
-}
-
-// Letters of rights, each at most once, as bits. From the last one on, since a letter may not stand behind itself.
-#[tactic(auto, using(crate::proofs::Readers::bit_before))]
-fn read_letters(text: &[u8]) -> Value
-    ensures { value_of result ≡ letters_in text.now }
-{
-    let mut seen = 0;
-    let mut i = text.len();
-    while 0 < i {
-        i -= 1;
-        let b = text[i];
-        if text::contains(b"rwdthbc", b) {
-            let bit = letter_bit(b);
-            if seen & bit != 0 {
-                return Value::Bad;
-            }
-            seen += bit;
-        } else {
-            return Value::Bad;
-        }
-    }
-    Value::Is(seen)
-}
-
-// The letters that stand in a text, from their bits.
-fn rights_in(text: &[u8], bits: u64) -> Rights
-    requires { bits ≡ letter_bits text.now }
-    ensures { result ≡ rights_in text.now }
-{
-    Rights {
-        r: bits / 65536 % 2 == 1,
-        w: bits / 2097152 % 2 == 1,
-        d: bits / 4 % 2 == 1,
-        t: bits / 262144 % 2 == 1,
-        h: bits / 64 % 2 == 1,
-        b: bits % 2 == 1,
-        c: bits / 2 % 2 == 1,
+    match letter {
+        b'r' if !held.r => Some(Rights { r: true, ..held }),
+        b'w' if !held.w => Some(Rights { w: true, ..held }),
+        b'd' if !held.d => Some(Rights { d: true, ..held }),
+        b't' if !held.t => Some(Rights { t: true, ..held }),
+        b'h' if !held.h => Some(Rights { h: true, ..held }),
+        b'b' if !held.b => Some(Rights { b: true, ..held }),
+        b'c' if !held.c => Some(Rights { c: true, ..held }),
+        _ => None,
     }
 }
 
-// `-`, or some of the letters.
-pub fn read_rights(text: &[u8]) -> RightsRead
-    ensures { rights_from result ≡ read_rights text.now }
+// `-`, or some of the letters, each at most once.
+#[tactic(auto, using(crate::proofs::Readers::rights_cases), unfolding(crate::specs::Fields::read_rights))]
+pub fn read_rights(text: &[u8]) -> Option<Rights>
+    ensures { result ≡ read_rights text.now }
 {
     if text::is_word(text, b"-") {
-        return RightsRead::Is(rights_in(text, 0));
+        return Some(NO_RIGHTS);
     }
     if text.len() == 0 {
-        return RightsRead::Bad;
+        return None;
     }
-    let Value::Is(bits) = read_letters(text) else {
-        return RightsRead::Bad;
-    };
-    RightsRead::Is(rights_in(text, bits))
+    let mut held = NO_RIGHTS;
+    for &letter in text {
+        held = with_letter(held, letter)?;
+    }
+    Some(held)
 }
 
+// `read_key` and `read_prefix` differ in their test: a function with the test as a closure would promise by the closure's clause.
 // Field i as a key.
-pub fn read_key(line: &[u8], marks: &[usize], i: usize) -> KeyRead
-    requires split { Split line.now marks.now }
-    requires i_bound { i < 9 }
-    ensures { key_from result ≡ read_key line.now i }
+#[tactic(auto, unfolding(crate::specs::Fields::read_key))]
+pub fn read_key(line: &Line, i: usize) -> Option<Place>
+    requires { i < 9 }
+    ensures { result ≡ read_key line.now i }
 {
-    let place = text::find_place(line, marks, i);
-    if text::is_key(text::part(line, place)) {
-        return KeyRead::Is(place);
+    if text::is_key(line.field(i)) {
+        Some(line.place(i))
+    } else {
+        None
     }
-    KeyRead::Bad
 }
 
 // Field i as a prefix.
-pub fn read_prefix(line: &[u8], marks: &[usize], i: usize) -> KeyRead
-    requires split { Split line.now marks.now }
-    requires i_bound { i < 9 }
-    ensures { key_from result ≡ read_prefix line.now i }
+#[tactic(auto, unfolding(crate::specs::Fields::read_prefix))]
+pub fn read_prefix(line: &Line, i: usize) -> Option<Place>
+    requires { i < 9 }
+    ensures { result ≡ read_prefix line.now i }
 {
-    let place = text::find_place(line, marks, i);
-    if text::is_prefix(text::part(line, place)) {
-        return KeyRead::Is(place);
+    if text::is_prefix(line.field(i)) {
+        Some(line.place(i))
+    } else {
+        None
     }
-    KeyRead::Bad
 }
 
-// A version number or `-`.
-pub fn read_version(text: &[u8]) -> VersionRead
-    ensures { version_from result ≡ read_version text.now }
+// The readers of a `-` or a value are four: over a closure that reads the value they would promise by its clause.
+// A version number or `-`. Here and below `None` is a field that can't be read, `Some(None)` a `-`.
+#[tactic(auto, unfolding(crate::specs::Fields::read_version))]
+pub fn read_version(text: &[u8]) -> Option<Option<u64>>
+    ensures { result ≡ read_version text.now }
 {
     if text::is_word(text, b"-") {
-        return VersionRead::Is(Version::Current);
+        return Some(None);
     }
-    let Value::Is(n) = text::read_positive(text, model::LARGEST_NUMBER) else {
-        return VersionRead::Bad;
-    };
-    VersionRead::Is(Version::Numbered(n))
+    let n = text::read_positive(text, model::LARGEST_NUMBER)?;
+    Some(Some(n))
 }
 
 // GOVERNANCE, COMPLIANCE or `-`.
-pub fn read_mode(text: &[u8]) -> ModeRead
-    ensures { mode_from result ≡ read_mode text.now }
+#[tactic(auto, unfolding(crate::specs::Fields::read_mode))]
+pub fn read_mode(text: &[u8]) -> Option<Option<Mode>>
+    ensures { result ≡ read_mode text.now }
 {
     if text::is_word(text, b"-") {
-        return ModeRead::Is(Mode::Missing);
+        return Some(None);
     }
     if text::is_word(text, b"GOVERNANCE") {
-        return ModeRead::Is(Mode::Governance);
+        return Some(Some(Mode::Governance));
     }
     if text::is_word(text, b"COMPLIANCE") {
-        return ModeRead::Is(Mode::Compliance);
+        return Some(Some(Mode::Compliance));
     }
-    ModeRead::Bad
+    None
 }
 
 // A date or `-`.
-pub fn read_until(text: &[u8]) -> UntilRead
-    ensures { until_from result ≡ read_until text.now }
+#[tactic(auto, unfolding(crate::specs::Fields::read_until))]
+pub fn read_until(text: &[u8]) -> Option<Option<u64>>
+    ensures { result ≡ read_until text.now }
 {
     if text::is_word(text, b"-") {
-        return UntilRead::Is(Until::Missing);
+        return Some(None);
     }
-    let DateRead::At(t) = dates::read_date(text) else {
-        return UntilRead::Bad;
-    };
-    UntilRead::Is(Until::Given(t))
+    let t = dates::read_date(text)?;
+    Some(Some(t))
+}
+
+// One of two words, true for the first.
+fn read_either(text: &[u8], first: &[u8], second: &[u8]) -> Option<bool>
+    ensures { result ≡ read_either first.now second.now text.now }
+{
+    if text::is_word(text, first) {
+        return Some(true);
+    }
+    if text::is_word(text, second) {
+        return Some(false);
+    }
+    None
 }
 
 // ON or OFF.
-pub fn read_switch(text: &[u8]) -> FlagRead
-    ensures { flag_from result ≡ read_switch text.now }
+#[tactic(auto, unfolding(crate::specs::Fields::read_switch))]
+pub fn read_switch(text: &[u8]) -> Option<bool>
+    ensures { result ≡ read_switch text.now }
 {
-    if text::is_word(text, b"ON") {
-        return FlagRead::Is(true);
-    }
-    if text::is_word(text, b"OFF") {
-        return FlagRead::Is(false);
-    }
-    FlagRead::Bad
+    read_either(text, b"ON", b"OFF")
 }
 
 // ON, OFF or `-`.
-pub fn read_hold(text: &[u8]) -> HoldRead
-    ensures { hold_from result ≡ read_hold text.now }
+#[tactic(auto, unfolding(crate::specs::Fields::read_hold))]
+pub fn read_hold(text: &[u8]) -> Option<Option<bool>>
+    ensures { result ≡ read_hold text.now }
 {
     if text::is_word(text, b"-") {
-        return HoldRead::Is(Hold::Missing);
+        return Some(None);
     }
-    let FlagRead::Is(on) = read_switch(text) else {
-        return HoldRead::Bad;
-    };
-    if on {
-        return HoldRead::Is(Hold::On);
-    }
-    HoldRead::Is(Hold::Off)
+    let on = read_switch(text)?;
+    Some(Some(on))
 }
 
 // yes or no.
-pub fn read_bypass(text: &[u8]) -> FlagRead
-    ensures { flag_from result ≡ read_bypass text.now }
+#[tactic(auto, unfolding(crate::specs::Fields::read_bypass))]
+pub fn read_bypass(text: &[u8]) -> Option<bool>
+    ensures { result ≡ read_bypass text.now }
 {
-    if text::is_word(text, b"yes") {
-        return FlagRead::Is(true);
-    }
-    if text::is_word(text, b"no") {
-        return FlagRead::Is(false);
-    }
-    FlagRead::Bad
+    read_either(text, b"yes", b"no")
 }
 
 // `1d` to `36500d`, `1y` to `100y`, or `-`.
-pub fn read_period(text: &[u8]) -> PeriodRead
-    ensures { period_from result ≡ read_period text.now }
+#[tactic(auto, unfolding(crate::specs::Fields::read_period))]
+pub fn read_period(text: &[u8]) -> Option<Option<Period>>
+    ensures { result ≡ read_period text.now }
 {
     if text::is_word(text, b"-") {
-        return PeriodRead::Is(Period::Missing);
+        return Some(None);
     }
     if text.len() == 0 {
-        return PeriodRead::Bad;
+        return None;
     }
     let last = text.len() - 1;
     if text[last] == b'd' {
-        let Value::Is(n) = text::read_positive(&text[0..last], model::MOST_DAYS) else {
-            return PeriodRead::Bad;
-        };
-        return PeriodRead::Is(Period::Days(n));
+        let n = text::read_positive(&text[0..last], model::MOST_DAYS)?;
+        return Some(Some(Period::Days(n)));
     }
     if text[last] == b'y' {
-        let Value::Is(n) = text::read_positive(&text[0..last], model::MOST_YEARS) else {
-            return PeriodRead::Bad;
-        };
-        return PeriodRead::Is(Period::Years(n));
+        let n = text::read_positive(&text[0..last], model::MOST_YEARS)?;
+        return Some(Some(Period::Years(n)));
     }
-    PeriodRead::Bad
-}
-
-// A mode is given.
-pub fn gives_mode(m: Mode) -> bool
-    ensures { result ≡ is_some (mode_means m) }
-{
-    match m {
-        Mode::Missing => false,
-        Mode::Governance => true,
-        Mode::Compliance => true,
-    }
-}
-
-// A date is given.
-pub fn gives_date(d: Until) -> bool
-    ensures { result ≡ is_some (until_means d) }
-{
-    match d {
-        Until::Missing => false,
-        Until::Given(_) => true,
-    }
-}
-
-// A hold is given; OFF is one.
-pub fn gives_hold(h: Hold) -> bool
-    ensures { result ≡ is_some (hold_means h) }
-{
-    match h {
-        Hold::Missing => false,
-        Hold::Off => true,
-        Hold::On => true,
-    }
-}
-
-// A period is given.
-pub fn gives_period(p: Period) -> bool
-    ensures { result ≡ is_some (period_means p) }
-{
-    match p {
-        Period::Missing => false,
-        Period::Days(_) => true,
-        Period::Years(_) => true,
-    }
-}
-
-// The mode as a row has it, 0 where it is missing.
-pub fn mode_number(m: Mode) -> u64
-    ensures { result ≡ or_zero (mode_means m) }
-{
-    match m {
-        Mode::Missing => 0,
-        Mode::Governance => model::GOVERNANCE,
-        Mode::Compliance => model::COMPLIANCE,
-    }
-}
-
-// The date as a row has it, 0 where it is missing.
-pub fn date_number(d: Until) -> u64
-    ensures { result ≡ or_zero (until_means d) }
-{
-    match d {
-        Until::Missing => 0,
-        Until::Given(t) => t,
-    }
-}
-
-// The days or years of a period, 0 where it is missing.
-pub fn period_count(p: Period) -> u64
-    ensures { result ≡ then_some (period_means p) 0 (λ q. q.count) }
-{
-    match p {
-        Period::Missing => 0,
-        Period::Days(n) => n,
-        Period::Years(n) => n,
-    }
-}
-
-// The unit as the settings have it: 0 none, 1 days, 2 years.
-pub fn period_unit(p: Period) -> u64
-    ensures { result ≡ then_some (period_means p) 0 (λ q. q.unit) }
-{
-    match p {
-        Period::Missing => 0,
-        Period::Days(_) => 1,
-        Period::Years(_) => 2,
-    }
+    None
 }

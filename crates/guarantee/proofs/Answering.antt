@@ -4,7 +4,7 @@ use mathlib.Core.Path.{◌≡◌, refl, sym, ◌∙◌, ap}
 use mathlib.Core.Logic.{inl, inr}
 use mathlib.Core.Bool.{true, false, not}
 use mathlib.Core.List.{List, [], ◌∷◌, ◌++◌, append-nil, append_assoc}
-use mathlib.Core.Option.{some}
+use Rattle.std.specs.Prelude.{Some}
 use native.Mathlib.Omega.{arith}
 use lib.Dec.{eqb}
 use borrow.Author.Tests.{eqb-true, eqb-false, not-true}
@@ -46,7 +46,7 @@ same_digits v n =
       | inl t ↦ rw (eqb-true n v t) (same_refl (digits v) ∙ sym (rw (eqb-true n v t) at t))
       | inr t ↦ elim (either (same (digits v) (digits n))) [
         | inl u ↦
-            let p : some v ≡ some n = sym (number_back (v + n) v (omega arith)) ∙ ap (number_of (v + n)) (same_path (digits v) (digits n) u) ∙ number_back (v + n) n (omega arith) in
+            let p : Some v ≡ Some n = sym (number_back (v + n) v (omega arith)) ∙ ap (number_of (v + n)) (same_path (digits v) (digits n) u) ∙ number_back (v + n) n (omega arith) in
             let q : n ≡ v = cc in absurd (eqb-false n v t q)
         | inr u ↦ u ∙ sym t
       ]
@@ -69,7 +69,7 @@ module _ (b : Bucket) (now : Now) (who : Rights) where
   answered_is (Retain n r y) room v = refl
   answered_is (Hold n on) room v = refl
   answered_is (AddMarker k y) room v = refl
-  answered_is (DeleteVersion k u y) room v = sym (removal_answers (then_some (row_of b.rows (name k (some u))) false is_marker) u v)
+  answered_is (DeleteVersion k u y) room v = sym (removal_answers (then_some (row_of b.rows (name k (Some u))) false is_marker) u v)
   answered_is (Set s) room v = refl
   answered_is Sweep room v = refl
   answered_is (Ask (Get n)) room v = sym (shown_answers (row_of b.rows n) v)

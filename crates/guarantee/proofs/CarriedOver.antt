@@ -9,7 +9,7 @@ use Rattle.buffers.specs.Texts.{bytes}
 use Rattle.buffers.specs.Words.{number, spelled}
 use Rattle.text.specs.Fields.{field_of, place_of}
 use Rattle.text.specs.Keys.{is_key_byte, is_prefix, is_key}
-use Rattle.text.specs.Numbers.{is_digit, digit_more, leading_zero, number_of, positive_of}
+use Rattle.text.specs.Numbers.{is_digit, leading_zero, number_of, positive_of}
 use Rattle.calendar.specs.Calendar.{leap, years_length, month_start, month_length, valid_day, days_of, guess_of, year_of, month_of, date_in, civil_of}
 use Rattle.dates.specs.Printing.{date_text, print_date}
 use Rattle.dates.specs.Reading.{digit_of, two_digits, four_digits, day_number, day_at, second_of_day, second_at, fraction_digit, milliseconds, fraction_of, read_date}
@@ -82,7 +82,7 @@ pub record CarriedOver : Type 0 where
   pub hold_held : Held (bucket_of (lent_of (left byte_step old calls))) after_old 4294967295 OnHold
 
 pub carried_over_lem : CarriedOver
-unfolding field_of place_of is_key_byte is_prefix is_key is_digit digit_more leading_zero number_of positive_of leap years_length month_start month_length valid_day days_of guess_of year_of month_of date_in civil_of date_text print_date digit_of two_digits four_digits day_number day_at second_of_day second_at fraction_digit milliseconds fraction_of read_date reply added rows_after config_after locked half_given needs granted lacks_right short_for_page past_date missing names_marker barred too_late spends full in_range sound_row sound_rules sound_config fits sound block_of is_block whole rights_in read_rights read_key read_prefix read_version read_mode read_until read_switch read_hold read_bypass retention_at terms_at put_of delete_of query_by_word other_by_word verb_by_word request_in read_line fields_text ok_text mode_text until_text hold_text refusal_of outcome number spelled numbers_from numbers_bytes rules_at settings_of settings_bytes hub_served settings_sound
+unfolding field_of place_of is_key_byte is_prefix is_key is_digit leading_zero number_of positive_of leap years_length month_start month_length valid_day days_of guess_of year_of month_of date_in civil_of date_text print_date digit_of two_digits four_digits day_number day_at second_of_day second_at fraction_digit milliseconds fraction_of read_date reply added rows_after config_after locked half_given needs granted lacks_right short_for_page past_date missing names_marker barred too_late spends full in_range sound_row sound_rules sound_config fits sound block_of is_block whole rights_in read_rights read_key read_prefix read_version read_mode read_until read_switch read_hold read_bypass retention_at terms_at put_of delete_of query_by_word other_by_word verb_by_word request_in read_line fields_text ok_text mode_text until_text hold_text refusal_of outcome number spelled numbers_from numbers_bytes rules_at settings_of settings_bytes hub_served settings_sound
 carried_over_lem =
     let sized : Sized 3 old = record { some = lit≤ tt; most = lit≤ tt; settings_long = refl; rows_long = refl; keys_long = refl } in
     let c : Carriable (lent_of old) = record { is_whole = whole_still (lent_of old) refl; numbers_differ = refl } in

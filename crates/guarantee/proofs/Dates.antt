@@ -1,7 +1,7 @@
 -- The date that stands in the answer buffer after an accepted GET is the row's, and reads back as it.
 use mathlib.Core.Path.{◌≡◌, sym, ◌∙◌, ap}
 use mathlib.Core.Bool.{◌&&◌}
-use mathlib.Core.Option.{some}
+use Rattle.std.specs.Prelude.{Some}
 use lib.ListN.{length, drop}
 use Rattle.buffers.specs.Lists.{same}
 use Rattle.buffers.proofs.Lists.{all_first}
@@ -26,13 +26,13 @@ use Rattle.outcome.proofs.Demands.{accepted_request, outcome_number, accepted_of
 use Rattle.guarantee.specs.Promise.{DateReadsBack}
 
 -- What an accepted GET writes is the text of the row that it names.
-shows : (b : Lent) (g : Call) (n : Name) (q : Request) (x : Row) → (outcome b g).number ≡ 0 → heard g ≡ says q → q.verb ≡ Ask (Get n) → row_of (bucket_of b).rows n ≡ some x
+shows : (b : Lent) (g : Call) (n : Name) (q : Request) (x : Row) → (outcome b g).number ≡ 0 → heard g ≡ says q → q.verb ≡ Ask (Get n) → row_of (bucket_of b).rows n ≡ Some x
     → (outcome b g).answer ≡ written (answer_text (shown x)) g.answer
 unfolding reply
 shows b g n q x z h v e = rw (accepted_request b g q h (sym (outcome_number b g) ∙ z), v, e)
 
 -- The fifth field after `ok` is its date.
-pub date_shown : (b : Lent) (g : Call) (n : Name) (q : Request) (x : Row) → (outcome b g).number ≡ 0 → heard g ≡ says q → q.verb ≡ Ask (Get n) → row_of (bucket_of b).rows n ≡ some x
+pub date_shown : (b : Lent) (g : Call) (n : Name) (q : Request) (x : Row) → (outcome b g).number ≡ 0 → heard g ≡ says q → q.verb ≡ Ask (Get n) → row_of (bucket_of b).rows n ≡ Some x
     → (x.mode ≡ 0 → ⊥) → field_of (first_line (outcome b g).answer) 5 ≡ print_date x.until
 date_shown b g n q x z h v e m = rw (shows b g n q x z h v e) (until_field x (drop (length (answer_text (shown x))) g.answer) m)
 

@@ -20,7 +20,7 @@ use Rattle.guarantee.specs.Promise.{Hub, Accepted, Demand1, Demand2}
 
 -- ## The first condition that holds
 
-first_at : (before after : List Check) (n : ℕ) → all (λ x. not x.holds) before ≡ true → first_of (before ++ (check n true ∷ after)) ≡ n
+first_at : (before after : List Check) (n : ℕ) → all (λ x. not x.holds) before ≡ true → first_of (before ++ (record { number = n; holds = true } ∷ after)) ≡ n
 first_at [] after n e = refl
 first_at (x ∷ before) after n e =
     rw (not-true x.holds (and_l _ _ e)) (first_at before after n (and_r (not x.holds) _ e))

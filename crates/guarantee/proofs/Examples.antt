@@ -3,7 +3,7 @@ use Prim.Native.Nat.{ℕ, ◌*◌, ◌<◌}
 use mathlib.Core.Path.{◌≡◌, refl, ap}
 use mathlib.Core.Bool.{Bool, true, false, ◌||◌}
 use mathlib.Core.List.{List, [], ◌∷◌, ◌++◌}
-use mathlib.Core.Option.{some, none}
+use Rattle.std.specs.Prelude.{Some, None}
 use native.Mathlib.Omega.{arith}
 use lib.Dec.{lit<, lit≤}
 use lib.ListN.{length, get_or, take, replicate}
@@ -14,7 +14,7 @@ use Rattle.buffers.proofs.Tests.{clash}
 use Rattle.text.specs.Fields.{field_of, place_of}
 use Rattle.text.specs.Lines.{lines_of, first_line}
 use Rattle.text.specs.Keys.{is_key_byte, is_prefix, is_key}
-use Rattle.text.specs.Numbers.{is_digit, digit_more, leading_zero, number_of, positive_of}
+use Rattle.text.specs.Numbers.{is_digit, leading_zero, number_of, positive_of}
 use Rattle.text.specs.Printing.{digits}
 use Rattle.calendar.specs.Calendar.{leap, years_length, month_start, month_length, valid_day, days_of, guess_of, year_of, month_of, date_in, civil_of}
 use Rattle.calendar.specs.Periods.{same_date_in, years_later, period_end, expires_at}
@@ -227,9 +227,9 @@ pub record ByMidnights : Type 0 where
   pub current_waits : answer_at (bytes "2024-05-04T23:59:59.999Z") ≡ bytes "ok\t1\t0\n"
   pub current_marked : answer_at (bytes "2024-05-05T00:00:00Z") ≡ bytes "ok\t1\t1\n"
   -- By the promise: what is there, what is gone, and what is current.
-  pub there : row_of (rows_at (bytes "2024-05-03T23:59:59.999Z")) (by_number older) ≡ some older
-  pub gone : row_of (rows_at (bytes "2024-05-04T00:00:00Z")) (by_number older) ≡ none
-  pub marked : (n : ℕ) × (row_of (rows_at (bytes "2024-05-05T00:00:00Z")) (by_key newer) ≡ some (marker 1714867200000 n (bytes "q/7")))
+  pub there : row_of (rows_at (bytes "2024-05-03T23:59:59.999Z")) (by_number older) ≡ Some older
+  pub gone : row_of (rows_at (bytes "2024-05-04T00:00:00Z")) (by_number older) ≡ None
+  pub marked : (n : ℕ) × (row_of (rows_at (bytes "2024-05-05T00:00:00Z")) (by_key newer) ≡ Some (marker 1714867200000 n (bytes "q/7")))
 
 -- ## Comparisons of a prefix with a key
 
@@ -277,10 +277,10 @@ abbrev shown_for : List ℕ → List ℕ
 shown_for period = line_in (hub_served (byte_step (kept_for period) (put_at leap_day)) get).answer
 
 pub record ByYears : Type 0 where
-  pub no_leap_day_lem : shown_for (bytes "1y") ≡ bytes "ok\t1\t41\t300\tCOMPLIANCE\t2025-02-28T10:30:00.000Z\tOFF\n"
+  pub last_of_february : shown_for (bytes "1y") ≡ bytes "ok\t1\t41\t300\tCOMPLIANCE\t2025-02-28T10:30:00.000Z\tOFF\n"
   pub leap_day_lem : shown_for (bytes "4y") ≡ bytes "ok\t1\t41\t300\tCOMPLIANCE\t2028-02-29T10:30:00.000Z\tOFF\n"
   pub no_leap_century_lem : shown_for (bytes "76y") ≡ bytes "ok\t1\t41\t300\tCOMPLIANCE\t2100-02-28T10:30:00.000Z\tOFF\n"
-  pub too_late_lem : (hub_served (kept_for (bytes "100y")) (put_at (bytes "9900-01-01T00:00:00Z"))).number ≡ 10
+  pub is_too_late : (hub_served (kept_for (bytes "100y")) (put_at (bytes "9900-01-01T00:00:00Z"))).number ≡ 10
   pub last_end : (hub_served (kept_for (bytes "100y")) (put_at (bytes "9899-12-31T23:59:59.999Z"))).number ≡ 0
   -- By the promises: the row, what GET shows of it, and the year of a line that met 10.
   pub kept : MadeForYears 1709202600000 (bucket_of (lent_of (kept_for (bytes "1y")))) (bytes "q/7") (bucket_of (lent_of (byte_step (kept_for (bytes "1y")) (put_at leap_day))))
@@ -294,7 +294,7 @@ pub record Examples : Type 0 where
   -- The run on the sizes of `bucketrun`.
   pub printed_run_lem : printed_run 1024 65536 text ≡ output
   pub date_printed : field_of (first_line (outcome with_locked get).answer) 5 ≡ bytes "2033-01-05T00:00:00.007Z"
-  pub date_read : read_date (field_of (first_line (outcome with_locked get).answer) 5) ≡ some 1988496000007
+  pub date_read : read_date (field_of (first_line (outcome with_locked get).answer) 5) ≡ Some 1988496000007
   pub refused_9 : (hub_served (byte_step (fresh_bytes one_row) locked_put) (asks (bytes "2033-01-05T00:00:00.006Z\tdb\tDELETE\tq/7\t1\tyes"))).number ≡ 9
   pub held_in_bytes : Held (bucket_of (lent_of (left byte_step (fresh_bytes one_row) calls))) (since (bucket_of (lent_of (fresh_bytes one_row))) (byte_events (fresh_bytes one_row) calls)) 1 (InCompliance 1988496000007)
   pub sent_again : SentAgain
@@ -304,7 +304,7 @@ pub record Examples : Type 0 where
   pub no_first_line_only : Demand1 (first_line_only (locked_put ∷ [])) with_locked hold → Demand2 (first_line_only (locked_put ∷ [])) with_locked hold → ⊥
 
 pub examples : Examples
-unfolding field_of place_of is_key_byte is_prefix is_key is_digit digit_more leading_zero number_of positive_of digits leap years_length month_start month_length valid_day days_of guess_of year_of month_of date_in civil_of same_date_in years_later period_end expires_at date_text print_date digit_of two_digits four_digits day_number day_at second_of_day second_at fraction_digit milliseconds fraction_of read_date reply added removed rows_after set_config config_after locked admits half_given needs granted lacks_right short_for_page past_date missing names_marker barred too_late spends full in_range sound_row sound_rules sound_config fits sound default_end block_of is_block whole rights_in read_rights read_key read_prefix read_version read_mode read_until read_switch read_hold read_bypass read_period name_at retention_at terms_at put_of copy_of retain_of set_hold_of delete_of default_of rule_of sweep_of get_of query_by_word other_by_word verb_by_word request_in read_line fields_text ok_text mode_text until_text hold_text refusal_of outcome number numbers_from numbers_bytes spelled rules_at settings_of settings_bytes hub_served hub_comparisons hub_counted fit_rows hub_fresh settings_sound comparisons comparisons_by comparisons_of
+unfolding field_of place_of is_key_byte is_prefix is_key is_digit leading_zero number_of positive_of digits leap years_length month_start month_length valid_day days_of guess_of year_of month_of date_in civil_of same_date_in years_later period_end expires_at date_text print_date digit_of two_digits four_digits day_number day_at second_of_day second_at fraction_digit milliseconds fraction_of read_date reply added removed rows_after set_config config_after locked admits half_given needs granted lacks_right short_for_page past_date missing names_marker barred too_late spends full in_range sound_row sound_rules sound_config fits sound default_end block_of is_block whole rights_in read_rights read_key read_prefix read_version read_mode read_until read_switch read_hold read_bypass read_period name_at retention_at terms_at put_of copy_of retain_of set_hold_of delete_of default_of rule_of sweep_of get_of query_by_word other_by_word verb_by_word request_in read_line fields_text ok_text mode_text until_text hold_text refusal_of outcome number numbers_from numbers_bytes spelled rules_at settings_of settings_bytes hub_served hub_comparisons hub_counted fit_rows hub_fresh settings_sound comparisons comparisons_by comparisons_of
 examples =
     record {
       starred = record {
@@ -340,9 +340,9 @@ examples =
         there = (sweeps_by_midnights_bytes expiring (sweep_at (bytes "2024-05-03T23:59:59.999Z")) 1714780799999 refl refl).noncurrent_stays [] [] newer older refl refl
             (λ h _. clash _ (expired_due _ noncurrent_acts (bytes "q/7") 1714559400000 1714780799999 _ h) refl);
         gone = (sweeps_by_midnights_bytes expiring (sweep_at (bytes "2024-05-04T00:00:00Z")) 1714780800000 refl refl).noncurrent_goes [] [] newer older refl refl
-            (record { place = 0; begins_key = refl; has_days = λ e. let z : ◌≡◌ {A = ℕ} 2 0 = e in omega arith; has_come = record { at = 1714780800000; is_midnight = refl; no_earlier_lem = lit≤ tt; no_later = lit≤ tt } }) refl;
+            (record { place = 0; begins_key = refl; has_days = λ e. let z : ◌≡◌ {A = ℕ} 2 0 = e in omega arith; has_come = record { at = 1714780800000; is_midnight = refl; not_earlier = lit≤ tt; no_later = lit≤ tt } }) refl;
         marked = (sweeps_by_midnights_bytes expiring (sweep_at (bytes "2024-05-05T00:00:00Z")) 1714867200000 refl refl).current_marked newer refl refl
-            (record { place = 0; begins_key = refl; has_days = λ e. let z : ◌≡◌ {A = ℕ} 3 0 = e in omega arith; has_come = record { at = 1714867200000; is_midnight = refl; no_earlier_lem = lit≤ tt; no_later = lit≤ tt } });
+            (record { place = 0; begins_key = refl; has_days = λ e. let z : ◌≡◌ {A = ℕ} 3 0 = e in omega arith; has_come = record { at = 1714867200000; is_midnight = refl; not_earlier = lit≤ tt; no_later = lit≤ tt } });
       };
       counted = record {
         sweep = refl;
@@ -352,10 +352,10 @@ examples =
             (record { same_keys = λ k. either_order (same k (bytes "q/7")) (same k (bytes "q/8")); once = refl });
       };
       by_years = record {
-        no_leap_day_lem = refl;
+        last_of_february = refl;
         leap_day_lem = refl;
         no_leap_century_lem = refl;
-        too_late_lem = refl;
+        is_too_late = refl;
         last_end = refl;
         kept = kept_for_years_bytes (kept_for (bytes "1y")) (put_at leap_day) 1709202600000 (record { word = refl; no_mode = refl; clock_read = refl; counts_years = refl }) refl;
         shows = shows_years_bytes (kept_for (bytes "1y")) (put_at leap_day) get 1709202600000 (record { word = refl; no_mode = refl; clock_read = refl; counts_years = refl }) refl refl;

@@ -1,6 +1,6 @@
 -- An accepted SWEEP marks and removes by midnights.
 use mathlib.Core.Path.{◌≡◌, sym, ◌∙◌, ap, subst⁻¹}
-use mathlib.Core.Option.{some}
+use Rattle.std.specs.Prelude.{Some}
 use lib.Dec.{eqb}
 use lib.ListN.{length}
 use borrow.Author.Tests.{eqb-true}
@@ -34,7 +34,7 @@ sweeps_by_midnights b g clock e d =
     let v : r.said.verb ≡ Sweep = asks_sweep r.bytes r.said (read_same r 2 (bytes "SWEEP") (and_r (eqb (outcome b g).number 0) _ e)) r.reads in
     let w = accepted_of_whole b g z in
     let left_is : bucket_of (step b g) ≡ after (bucket_of b) (asked who Sweep) = accepted_bucket b g _ w r.hears (sym (outcome_number b g) ∙ z) ∙ rw v in
-    let t : some r.said.clock ≡ some clock = sym (line_clock r.bytes r.said r.reads) ∙ ap read_date (sym (read_field r 0)) ∙ d in
+    let t : Some r.said.clock ≡ Some clock = sym (line_clock r.bytes r.said r.reads) ∙ ap read_date (sym (read_field r 0)) ∙ d in
     let same_clock : r.said.clock ≡ clock = cc in
     rw (sym same_clock) (subst⁻¹ (SweptByMidnights who.clock (bucket_of b)) left_is (swept_by_midnights (capacity b.keys) (bucket_of b) who (whole_parts b w).is_sound))
 

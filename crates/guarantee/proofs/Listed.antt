@@ -82,7 +82,7 @@ listed b g p q n h v =
     let c = capacity b.keys in
     let s = model.whole c (bucket_of b) (whole_parts b w).is_sound in
     let does = accepted_request b g q h z in
-    let range = rw v at (accepted_line c (bucket_of b) q (model_accepts b g q w h z)).fields.in_range_lem in
+    let range = rw v at (accepted_line c (bucket_of b) q (model_accepts b g q w h z)).fields.is_in_range in
     let place = and_r (is_prefix p.prefix) _ range in
     let counted = and_r (is_place p.key p.version) _ place in
     record {

@@ -3,7 +3,7 @@ use Prim.Native.Nat.{ℕ, ◌≤◌}
 use mathlib.Core.Path.{◌≡◌, refl, sym, ◌∙◌, ap, ap₂, subst⁻¹}
 use mathlib.Core.Bool.{true, ◌&&◌, false≢true}
 use mathlib.Core.List.{List, [], ◌∷◌, ◌++◌, map, map-append, append-nil}
-use mathlib.Core.Option.{Option, some, none}
+use Rattle.std.specs.Prelude.{Option, Some, None}
 use native.Mathlib.Omega.{arith}
 use lib.Dec.{eqb, ltb}
 use lib.ListN.{length, take, drop, length-take, length-map, take-append-drop}
@@ -54,7 +54,7 @@ use Rattle.guarantee.proofs.Listed.{Listed, listed, page_sound, page_keys, page_
 record ServedPage (prefix key version : List ℕ) (b : Lent) (g : Call) : Type 0 where
   number : ℕ
   count : ℕ
-  version_is : number_of largest_number version ≡ some number
+  version_is : number_of largest_number version ≡ Some number
   count_is : count_sent (exchange b g) ≡ count
   is_listed : Listed b g (page prefix key number count)
 
@@ -127,16 +127,16 @@ module _ {prefix key version : List ℕ} {b : Lent} {g : Call} (s : ServedPage p
   record GoesOn : Type 0 where
     last : Row
     key_is : last_key (outcome b g).answer ≡ last.key
-    version_is : number_of largest_number (last_version (outcome b g).answer) ≡ some last.number
+    version_is : number_of largest_number (last_version (outcome b g).answer) ≡ Some last.number
     rest : rows_after_place prefix last.key last.number rows ≡ drop s.count wanted
 
   -- It has rows: an empty page has no version in its last line that could be read.
-  not_empty : (n : ℕ) → number_of largest_number (last_version (outcome b g).answer) ≡ some n → (xs : List Row) → take s.count wanted ≡ xs → 1 ≤ length xs
+  not_empty : (n : ℕ) → number_of largest_number (last_version (outcome b g).answer) ≡ Some n → (xs : List Row) → take s.count wanted ≡ xs → 1 ≤ length xs
   unfolding last_version field_of number_of
-  not_empty n v [] e = let z : ◌≡◌ {A = Option ℕ} none (some n) = rw (shown_rows, e) at v in let y : ◌≡◌ {A = ℕ} 0 1 = cc in absurd (omega arith)
+  not_empty n v [] e = let z : ◌≡◌ {A = Option ℕ} None (Some n) = rw (shown_rows, e) at v in let y : ◌≡◌ {A = ℕ} 0 1 = cc in absurd (omega arith)
   not_empty n v (x ∷ xs) e = omega arith
 
-  goes_on : (n : ℕ) → number_of largest_number (last_version (outcome b g).answer) ≡ some n → GoesOn
+  goes_on : (n : ℕ) → number_of largest_number (last_version (outcome b g).answer) ≡ Some n → GoesOn
   goes_on n v =
       let a = s.is_listed in
       let room = drop (length (page_text (take s.count wanted))) g.answer in
@@ -164,7 +164,7 @@ module _ {prefix key version : List ℕ} {b : Lent} {g : Call} (s : ServedPage p
 -- Pages from a place on show the lines of the matching rows after it.
 record ShownFrom (prefix key version : List ℕ) (b : Lent) (es : List Exchange) : Type 0 where
   number : ℕ
-  version_is : number_of largest_number version ≡ some number
+  version_is : number_of largest_number version ≡ Some number
   all_is : all_shown es ≡ map row_line (rows_after_place prefix key number (bucket_of b).rows)
 
 pages_from : (prefix key version : List ℕ) (b : Lent) (gs : List Call) → are_pages prefix key version (exchanges b gs) ≡ true → ShownFrom prefix key version b (exchanges b gs)
@@ -176,7 +176,7 @@ pages_from prefix key version b (g ∷ h ∷ gs) e =
     let s = served_page prefix key version b g (and_l _ _ e) in
     let next = pages_from prefix (last_key (outcome b g).answer) (last_version (outcome b g).answer) (step b g) (h ∷ gs) (and_r (is_page_from prefix key version (exchange b g)) _ e) in
     let f = goes_on s next.number next.version_is in
-    let same : some next.number ≡ some f.last.number = sym next.version_is ∙ f.version_is in
+    let same : Some next.number ≡ Some f.last.number = sym next.version_is ∙ f.version_is in
     let number_is : next.number ≡ f.last.number = cc in
     record {
       number = s.number;
@@ -218,7 +218,7 @@ pub pages_show_all : PagesShowAll
 unfolding digits
 pages_show_all prefix b gs e =
     let p = pages_from prefix [] (bytes "0") b gs e in
-    let z : some p.number ≡ some 0 = sym p.version_is ∙ number_back largest_number 0 (omega arith) in
+    let z : Some p.number ≡ Some 0 = sym p.version_is ∙ number_back largest_number 0 (omega arith) in
     let zero_is : p.number ≡ 0 = cc in
     shows_lines prefix b (whole_first prefix [] (bytes "0") b gs e) (all_shown (exchanges b gs)) (p.all_is ∙ rw zero_is (ap (map row_line) (from_start prefix (bucket_of b).rows)))
 

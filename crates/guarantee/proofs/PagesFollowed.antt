@@ -10,7 +10,7 @@ use Rattle.buffers.specs.Words.{number, spelled}
 use Rattle.text.specs.Fields.{field_of, place_of}
 use Rattle.text.specs.Lines.{first_line}
 use Rattle.text.specs.Keys.{is_key_byte, is_prefix, is_key}
-use Rattle.text.specs.Numbers.{is_digit, digit_more, leading_zero, number_of, positive_of}
+use Rattle.text.specs.Numbers.{is_digit, leading_zero, number_of, positive_of}
 use Rattle.text.specs.Printing.{digits}
 use Rattle.calendar.specs.Calendar.{leap, years_length, month_start, month_length, valid_day, days_of, guess_of, year_of, month_of, date_in, civil_of}
 use Rattle.dates.specs.Printing.{date_text, print_date}
@@ -122,7 +122,7 @@ pub record PagesFollowed : Type 0 where
   pub late_totals_bytes : PrintsTotals (now_sent (lent_of listed) late.sent) (byte_exchange listed late) (byte_exchanges filled_bytes pages)
 
 pub pages_followed : PagesFollowed
-unfolding field_of place_of is_key_byte is_prefix is_key is_digit digit_more leading_zero number_of positive_of digits leap years_length month_start month_length valid_day days_of guess_of year_of month_of date_in civil_of date_text print_date digit_of two_digits four_digits day_number day_at second_of_day second_at fraction_digit milliseconds fraction_of read_date reply added rows_after config_after half_given needs granted lacks_right past_date missing names_marker barred too_late spends full in_range sound_row sound_rules sound_config fits sound block_of is_block whole rights_in read_rights read_key read_prefix read_version read_mode read_until read_switch read_hold read_bypass retention_at terms_at put_of delete_of query_by_word other_by_word verb_by_word request_in read_line fields_text ok_text mode_text until_text hold_text refusal_of outcome number numbers_from numbers_bytes spelled rules_at settings_of settings_bytes hub_served fit_rows hub_fresh settings_sound short_for_page comes_after names_place list_of report_of kind_fields page_text rows_said lines_shown last_key last_version locked
+unfolding field_of place_of is_key_byte is_prefix is_key is_digit leading_zero number_of positive_of digits leap years_length month_start month_length valid_day days_of guess_of year_of month_of date_in civil_of date_text print_date digit_of two_digits four_digits day_number day_at second_of_day second_at fraction_digit milliseconds fraction_of read_date reply added rows_after config_after half_given needs granted lacks_right past_date missing names_marker barred too_late spends full in_range sound_row sound_rules sound_config fits sound block_of is_block whole rights_in read_rights read_key read_prefix read_version read_mode read_until read_switch read_hold read_bypass retention_at terms_at put_of delete_of query_by_word other_by_word verb_by_word request_in read_line fields_text ok_text mode_text until_text hold_text refusal_of outcome number numbers_from numbers_bytes spelled rules_at settings_of settings_bytes hub_served fit_rows hub_fresh settings_sound short_for_page comes_after names_place list_of report_of kind_fields page_text rows_said lines_shown last_key last_version locked
 pages_followed =
     record {
       follow = refl;

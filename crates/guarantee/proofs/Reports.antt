@@ -4,7 +4,7 @@ use mathlib.Core.Path.{◌≡◌, sym, ◌∙◌, ap, ap₂, subst⁻¹}
 use mathlib.Core.Logic.{inl, inr}
 use mathlib.Core.Bool.{Bool, true, false, not, ◌&&◌, ◌||◌, false≢true, and-true, and-false}
 use mathlib.Core.List.{List, [], ◌∷◌, map}
-use mathlib.Core.Option.{some}
+use Rattle.std.specs.Prelude.{Some}
 use native.Mathlib.Omega.{arith}
 use lib.Dec.{eqb, leb, ltb}
 use lib.ListN.{length, length-map}
@@ -76,7 +76,7 @@ module _ (now m d : ℕ) where
       elim (either (eqb m 0)) [
         | inl z ↦ rw (z, ne_eqb m compliance (λ q. omega (arith, eqb-true m 0 z)), ne_eqb m governance (λ q. omega (arith, eqb-true m 0 z))) (sym (and-false (ltb now d)))
         | inr z ↦
-            let reads : read_date (until_text m d) ≡ some d = until_reads m d (eqb-false m 0 z) l in
+            let reads : read_date (until_text m d) ≡ Some d = until_reads m d (eqb-false m 0 z) l in
             elim (or_one (eqb m governance) _ (and_l _ _ (rw z at s))) [
               | inl g ↦ rw (z, g, reads, ne_eqb m compliance (λ q. omega (arith, eqb-true m governance g))) (sym (and-true (ltb now d)))
               | inr c ↦ rw (z, c, reads, ne_eqb m governance (λ q. omega (arith, eqb-true m compliance c))) (sym (and-true (ltb now d)))

@@ -4,7 +4,7 @@ use mathlib.Core.Path.{◌≡◌, refl, sym, ◌∙◌, ap, ap₂, subst⁻¹}
 use mathlib.Core.Logic.{◌⊎◌, inl, inr}
 use mathlib.Core.Bool.{Bool, true, false}
 use mathlib.Core.List.{List, [], ◌∷◌, ◌++◌}
-use mathlib.Core.Option.{some}
+use Rattle.std.specs.Prelude.{Some}
 use native.Mathlib.Omega.{arith}
 use lib.Dec.{eqb}
 use lib.ListN.{length, take, drop}
@@ -221,8 +221,8 @@ sent_twice b g again e s l =
 module _ (s u : List ℕ) (v w : Verb) (a : AsksPut s v) (c : AsksPut u w) where
   same_put : field_of u 3 ≡ field_of s 3 → field_of u 4 ≡ field_of s 4 → field_of u 5 ≡ field_of s 5 → w ≡ Put (field_of s 3) a.body a.size c.terms
   same_put e3 e4 e5 =
-      let eb : some c.body ≡ some a.body = sym c.body_is ∙ rw e4 a.body_is in
-      let es : some c.size ≡ some a.size = sym c.size_is ∙ rw e5 a.size_is in
+      let eb : Some c.body ≡ Some a.body = sym c.body_is ∙ rw e4 a.body_is in
+      let es : Some c.size ≡ Some a.size = sym c.size_is ∙ rw e5 a.size_is in
       let b : c.body ≡ a.body = cc in
       let z : c.size ≡ a.size = cc in
       c.verb_is ∙ rw (e3, b, z)

@@ -3,7 +3,7 @@ use Prim.Native.Nat.{ℕ}
 use mathlib.Core.Path.{◌≡◌, refl, sym, ◌∙◌, ap}
 use mathlib.Core.Bool.{true}
 use mathlib.Core.List.{List}
-use mathlib.Core.Option.{Option, some, none}
+use Rattle.std.specs.Prelude.{Option, Some, None}
 use native.Mathlib.Omega.{arith}
 use lib.ListN.{length}
 use Rattle.buffers.specs.Choices.{then_some}
@@ -24,15 +24,15 @@ pub record Read (g : Call) : Type 0 where
   pub bytes : List ℕ
   pub sent_is : g.sent ≡ line bytes
   pub said : Said
-  pub reads : read_line bytes ≡ some said
+  pub reads : read_line bytes ≡ Some said
   pub hears : heard g ≡ says (asked (length g.answer) said)
 
 pub heard_read : (g : Call) (q : Request) → heard g ≡ says q → Read g
 heard_read g q h = by_sent g.sent refl q h
   where
     by_said : (s : List ℕ) → g.sent ≡ line s → (o : Option Said) → read_line s ≡ o → (q : Request) → then_some o (unreadable (length g.answer)) (λ x. says (asked (length g.answer) x)) ≡ says q → Read g
-    by_said s t none r q h = let z : ◌≡◌ {A = ℕ} 0 1 = cc in absurd (omega arith)
-    by_said s t (some x) r q h = record { bytes = s; sent_is = t; said = x; reads = r; hears = ap (heard_of (length g.answer)) t ∙ rw r }
+    by_said s t None r q h = let z : ◌≡◌ {A = ℕ} 0 1 = cc in absurd (omega arith)
+    by_said s t (Some x) r q h = record { bytes = s; sent_is = t; said = x; reads = r; hears = ap (heard_of (length g.answer)) t ∙ rw r }
 
     by_sent : (t : Sent) → g.sent ≡ t → (q : Request) → heard g ≡ says q → Read g
     by_sent (line s) t q h = by_said s t (read_line s) refl q (sym (ap (heard_of (length g.answer)) t) ∙ h)

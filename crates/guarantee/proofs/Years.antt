@@ -3,7 +3,7 @@ use Prim.Native.Nat.{ℕ, ◌+◌, ◌/◌, ◌≤◌, ◌<◌, max}
 use mathlib.Core.Path.{◌≡◌, refl, sym, ◌∙◌, ap, subst, subst⁻¹}
 use mathlib.Core.Logic.{inl, inr}
 use mathlib.Core.Bool.{true, false}
-use mathlib.Core.Option.{some, none}
+use Rattle.std.specs.Prelude.{Some, None}
 use native.Mathlib.Omega.{arith}
 use lib.Dec.{eqb, ltb, lit<}
 use lib.ListN.{length}
@@ -65,12 +65,12 @@ module _ (b : Bucket) (g : Call) (clock : ℕ) (x : TakesYears b g.sent clock) (
             rw (w, read_field r 5) (copy_asks_row r.bytes r.said (read_same r 2 (bytes "COPY") copy) r.reads)
       ]
 
-  no_mode : asks.terms.retention.mode ≡ none
+  no_mode : asks.terms.retention.mode ≡ None
   no_mode = asks.no_mode (read_same r 6 (bytes "-") x.no_mode)
 
   clock_is : q.context.clock ≡ clock
   clock_is =
-      let t : some q.context.clock ≡ some clock = sym (line_clock r.bytes r.said r.reads) ∙ ap read_date (sym (read_field r 0)) ∙ x.clock_read in
+      let t : Some q.context.clock ≡ Some clock = sym (line_clock r.bytes r.said r.reads) ∙ ap read_date (sym (read_field r 0)) ∙ x.clock_read in
       let c : q.context.clock ≡ clock = cc in
       c
 
@@ -130,9 +130,9 @@ shows_years b g get clock x t e =
     let word : field_of r.bytes 2 ≡ bytes "GET" = read_same r 2 (bytes "GET") (and_r (eqb (outcome left get).number 0) _ served) in
     let key : field_of r.bytes 3 ≡ row.key = read_same r 3 (key_sent g.sent) (and_l _ _ fields) ∙ sym made.key_is in
     let current : field_of r.bytes 4 ≡ bytes "-" = read_same r 4 (bytes "-") (and_r (same (sent_field get.sent 3) (key_sent g.sent)) _ fields) in
-    let n = name row.key none in
+    let n = name row.key None in
     let verb : r.said.verb ≡ Ask (Get n) = asks_current r.bytes r.said word current r.reads ∙ rw key in
-    let found : row_of (bucket_of left).rows n ≡ some row = rw made.is_added (current_new row (bucket_of b).rows) in
+    let found : row_of (bucket_of left).rows n ≡ Some row = rw made.is_added (current_new row (bucket_of b).rows) in
     let p = sound_whole (capacity b.keys) (bucket_of b) (whole_parts b (is_whole b g clock x t)).is_sound in
     let has_mode : row.mode ≡ 0 → ⊥ = λ h. years_mode (default_of (bucket_of b)) (config_default (bucket_of b).settings.config p.config_sound) x.counts_years (sym made.mode_is ∙ h) in
     let years = (default_of (bucket_of b)).count in
@@ -199,7 +199,7 @@ module _ (b : Lent) (g : Call) (clock : ℕ) (x : TakesYears (bucket_of b) g.sen
             ltb-true 9999 (later_year clock bucket) (sym (ten_is j) ∙ meets_ten (whole b) c bucket (said j) (j.first_is 10 z));
         none_taken = λ late t.
             let m = kept_for_years b g clock x t in
-            let year_is = m.ends.too_late_lem ∙ ap (λ (t : ℕ). ltb 9999 ((civil_of (t / day)).year + (default_of bucket).count)) m.created_now in
+            let year_is = m.ends.is_too_late ∙ ap (λ (t : ℕ). ltb 9999 ((civil_of (t / day)).year + (default_of bucket).count)) m.created_now in
             let over : ltb 9999 (later_year clock bucket) ≡ false = sym year_is ∙ le-ltb latest m.row.until m.in_time in
             omega (arith, late, ltb-false 9999 (later_year clock bucket) over);
         not_11 = λ late z.

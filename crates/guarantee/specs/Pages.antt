@@ -1,6 +1,6 @@
 -- Pages of versions: what pages that follow each other show, by what a caller sees of them.
 use Rattle.std.specs.Prelude.{ℕ, ◌≡◌, Bool, true, false, ◌&&◌, List, [], ◌∷◌, ◌++◌, map, eqb, ltb, length}
-use Rattle.std.proofs.Math.Option.{some}
+use Rattle.std.specs.Prelude.{Some}
 use Rattle.buffers.specs.Choices.{or_zero}
 use Rattle.buffers.specs.Lists.{keep, all, any, same}
 use Rattle.buffers.specs.Texts.{bytes}
@@ -83,8 +83,8 @@ PagesShowAllBytes = (prefix : List ℕ) (b : Bytes) (gs : List Call) → follow_
 -- A line has the row's nine fields, and both dates read as the row's instants; a row without a mode has no date.
 pub record LineReadsBack (x : Row) (l : List ℕ) : Type 0 where
   pub nine : fields l ≡ line_fields x
-  pub created : read_date (field_of l 3) ≡ some x.created
-  pub until : (x.mode ≡ 0 → ⊥) → read_date (field_of l 7) ≡ some x.until
+  pub created : read_date (field_of l 3) ≡ Some x.created
+  pub until : (x.mode ≡ 0 → ⊥) → read_date (field_of l 7) ≡ Some x.until
   pub no_date : x.mode ≡ 0 → field_of l 7 ≡ bytes "-"
 
 -- Row by row.

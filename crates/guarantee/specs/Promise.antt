@@ -1,6 +1,6 @@
 -- The three demands, over bytes and buffers.
 use Rattle.std.specs.Prelude.{ℕ, ◌≤◌, ◌≡◌, true, not, List}
-use Rattle.std.proofs.Math.Option.{some}
+use Rattle.std.specs.Prelude.{Some}
 use Rattle.buffers.specs.Lists.{all}
 use Rattle.text.specs.Fields.{field_of}
 use Rattle.text.specs.Lines.{first_line}
@@ -44,8 +44,8 @@ pub record Demand2 (hub : Hub) (b : Lent) (g : Call) : Type 0 where
 -- And a printed date reads back as the same instant: in the answer buffer after an accepted GET, the fifth field behind `ok` reads as the date of the row that it names.
 abbrev pub DateReadsBack : Lent → Call → Type 0
 DateReadsBack b g =
-    (n : Name) (q : Request) (x : Row) → (outcome b g).number ≡ 0 → heard g ≡ says q → q.verb ≡ Ask (Get n) → row_of (bucket_of b).rows n ≡ some x
-    → (x.mode ≡ 0 → ⊥) → read_date (field_of (first_line (outcome b g).answer) 5) ≡ some x.until
+    (n : Name) (q : Request) (x : Row) → (outcome b g).number ≡ 0 → heard g ≡ says q → q.verb ≡ Ask (Get n) → row_of (bucket_of b).rows n ≡ Some x
+    → (x.mode ≡ 0 → ⊥) → read_date (field_of (first_line (outcome b g).answer) 5) ≡ Some x.until
 
 -- The lock clause of what a list of calls leaves of a bucket.
 abbrev pub KeptSince : Lent → List Call → Type 0

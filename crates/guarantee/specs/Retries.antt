@@ -8,6 +8,7 @@ use Rattle.model.specs.Requests.{numbered, Terms, Put, Request, says}
 use Rattle.model.specs.Time.{now_of}
 use Rattle.model.specs.Effects.{after}
 use Rattle.model.specs.Retries.{IsRetry}
+use Rattle.model.specs.declared.Refusal.TheVariants.{Unsound, ShortAnswer, Unreadable, HalfGiven, NoRight, PastDate}
 use Rattle.model.specs.Refusals.{least_room, out_of_range, half_given, lacks_right, past_date, Check, check, first_of}
 use Rattle.model.specs.Answers.{made}
 use Rattle.model.specs.LockClause.{History, makes, puts_under, puts_on_hold, none_of}
@@ -35,12 +36,12 @@ at_time b time = lent (settings_at b.settings time) b.numbers b.keys
 -- The conditions up to 6, on the line as it is written.
 abbrev pub written_checks : Lent → Request → List Check
 written_checks b q =
-    check 1 (not (whole b))
-    ∷ check 2 (ltb q.context.room least_room)
-    ∷ check 3 (out_of_range q.context q.verb)
-    ∷ check 4 (half_given q.verb)
-    ∷ check 5 (lacks_right (bucket_of b).settings.config q.context.who q.verb)
-    ∷ check 6 (past_date (now_of (bucket_of b) q.context).stamp q.verb)
+    check Unsound (not (whole b))
+    ∷ check ShortAnswer (ltb q.context.room least_room)
+    ∷ check Unreadable (out_of_range q.context q.verb)
+    ∷ check HalfGiven (half_given q.verb)
+    ∷ check NoRight (lacks_right (bucket_of b).settings.config q.context.who q.verb)
+    ∷ check PastDate (past_date (now_of (bucket_of b) q.context).stamp q.verb)
     ∷ []
 
 -- What a PUT comes to that is a retry of the row x.

@@ -1,6 +1,6 @@
 -- Document 02, M-104: what is made by a default of years is kept until the same month, day and time of day in the later year, GET shows that date, and 10 comes where that year is above 9999.
 use Rattle.std.specs.Prelude.{ℕ, ◌+◌, ◌<◌, max, ◌≡◌, Bool, true, ◌&&◌, ◌||◌, List}
-use Rattle.std.proofs.Math.Option.{some}
+use Rattle.std.specs.Prelude.{Some}
 use Rattle.buffers.specs.Choices.{pick}
 use Rattle.buffers.specs.Lists.{same}
 use Rattle.buffers.specs.Texts.{bytes}
@@ -32,7 +32,7 @@ key_sent s = pick (says_put s) (sent_field s 3) (sent_field s 5)
 pub record TakesYears (b : Bucket) (s : Sent) (clock : ℕ) : Type 0 where
   pub word : (says_put s || same (sent_field s 2) (bytes "COPY")) ≡ true
   pub no_mode : same (sent_field s 6) (bytes "-") ≡ true
-  pub clock_read : read_date (sent_field s 0) ≡ some clock
+  pub clock_read : read_date (sent_field s 0) ≡ Some clock
   pub counts_years : CountsYears b
 
 -- The call took a version number, as every accepted PUT and COPY does that is no retry.
@@ -53,7 +53,7 @@ shows_current k e = is_served (bytes "GET") e && (same (sent_field e.sent 3) k &
 -- The fifth field behind `ok` is a date at which these years end, and reads so beside the text of now.
 pub record EndIsShown (years now : ℕ) (answer : List ℕ) : Type 0 where
   pub end : ℕ
-  pub reads : read_date (field_of (first_line answer) 5) ≡ some end
+  pub reads : read_date (field_of (first_line answer) 5) ≡ Some end
   pub ends : YearsEnd years now end
   pub printed : PrintedYearsAfter years (print_date now) (field_of (first_line answer) 5)
 

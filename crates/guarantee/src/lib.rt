@@ -20,10 +20,13 @@ pub fn serve_lines(
 {
     let mut after = s;
     let mut i = 0;
+    // From line feed to line feed, as the definition goes: by `split_inclusive` the proof didn't close (`returns`).
     while i < text.len() {
         let end = i + text::line_length(&text[i..]);
-        let r = engine::serve(after, rows, keys, &text[i..end], answer);
-        after = r.settings;
+        after = match engine::serve(after, rows, keys, &text[i..end], answer) {
+            Ok(served) => served.settings,
+            Err(_) => after,
+        };
         i = end + 1;
     }
     after

@@ -1,58 +1,48 @@
 // The row that a line names. The definitions are in specs/Named.antt.
 ghost use Rattle.std.specs.Prelude.{◌≡◌};
-ghost use Rattle.table.specs.Layout.{rows_of};
-ghost use Rattle.search.specs.Searching.{Searchable};
 ghost use Rattle.fields.specs.Meaning.{version_means, Inside};
 ghost use Rattle.request.specs.Meaning.{name_means};
-ghost use Rattle.judge.specs.State.{rows_in, Ready};
 ghost use Rattle.judge.specs.Named.{found_by, row_named, data_named};
 
 use crate::Named;
-use fields::Version;
+use model::Refusal;
 use request::Name;
-use search::Found;
-use settings::State;
+use table::Table;
 
 // Where the row that a key and a version field name stands.
-fn find_named(rows: &[u64], keys: &[u8], used: usize, key: &[u8], version: Version) -> Found
-    requires { Searchable rows.now keys.now used }
-    ensures { result ≡ found_by (rows_of rows.now keys.now used) key.now (version_means version) }
+fn find_named(table: &Table, key: &[u8], version: Option<u64>) -> Result<usize, usize>
+    ensures { result ≡ found_by table.now.rows key.now (version_means version) }
 {
     match version {
-        Version::Current => search::find_current(rows, keys, used, key),
-        Version::Numbered(n) => search::find_version(rows, keys, used, key, n),
+        None => search::find_current(table, key),
+        Some(n) => search::find_version(table, key, n),
     }
 }
 
-// The row that a line names: refusal 7 where it is not there.
-pub fn row_named(rows: &[u64], keys: &[u8], line: &[u8], s: State, name: Name) -> Named
-    requires ready { Ready s rows.now keys.now }
-    requires inside { Inside line.now name.key }
-    ensures { result ≡ row_named (rows_in s rows.now keys.now) (name_means line.now name) }
+// The row that a line names.
+#[tactic(auto, using(crate::proofs::Looking::finding))]
+pub fn row_named(table: &Table, line: &[u8], name: Name) -> Result<Named, Refusal>
+    requires { Inside line.now name.key }
+    ensures { result ≡ row_named table.now.rows (name_means line.now name) }
 {
-    let key = name.key;
-    let version = name.version;
-    let used = s.used;
-    let found = find_named(rows, keys, used, text::part(line, key), version);
-    match found {
-        Found::At(i) => Named::Row(i, table::numbers_at(rows, i)),
-        Found::Place(_) => Named::Refused(model::NO_ROW),
-    }
+    let Ok(at) = find_named(table, text::part(line, name.key), name.version) else {
+        return Err(Refusal::NoRow);
+    };
+    Ok(Named {
+        at,
+        numbers: table.numbers_at(at),
+    })
 }
 
-// The row that a line names and that must be data: refusal 7 where it is not there, 8 where it is a marker.
-pub fn data_named(rows: &[u64], keys: &[u8], line: &[u8], s: State, name: Name) -> Named
-    requires ready { Ready s rows.now keys.now }
-    requires inside { Inside line.now name.key }
-    ensures { result ≡ data_named (rows_in s rows.now keys.now) (name_means line.now name) }
+// The row that a line names and that must be data.
+#[tactic(auto, unfolding(crate::specs::Named::data_named))]
+pub fn data_named(table: &Table, line: &[u8], name: Name) -> Result<Named, Refusal>
+    requires { Inside line.now name.key }
+    ensures { result ≡ data_named table.now.rows (name_means line.now name) }
 {
-    match row_named(rows, keys, line, s, name) {
-        Named::Refused(refusal) => Named::Refused(refusal),
-        Named::Row(i, n) => {
-            if n.kind == model::MARKER {
-                return Named::Refused(model::IS_MARKER);
-            }
-            Named::Row(i, n)
-        }
+    let named = row_named(table, line, name)?;
+    if named.numbers.is_marker() {
+        return Err(Refusal::IsMarker);
     }
+    Ok(named)
 }

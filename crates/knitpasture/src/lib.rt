@@ -1,7 +1,8 @@
 // The entries of the hub: the settings lent by reference or as bytes, the rows as numbers or as bytes. The definitions are in specs/.
 #![tactic(auto)]
 
-ghost use Rattle.std.specs.Prelude.{◌≡◌, ◌*◌, length, replicate};
+ghost use Rattle.std.specs.Prelude.{◌≡◌, ◌*◌, true, false, [], length, IfOk};
+ghost use Rattle.model.specs.Refusal.{code_of};
 ghost use Rattle.settings.specs.Bytes.{settings_length, settings_bytes};
 ghost use Rattle.settings.specs.Meaning.{fresh_settings};
 ghost use Rattle.bucket.specs.Whole.{lent, key_of};
@@ -9,10 +10,21 @@ ghost use Rattle.outcome.specs.Calls.{call};
 ghost use Rattle.outcome.specs.Outcome.{outcome};
 ghost use Rattle.outcome.specs.Comparisons.{comparisons_of};
 ghost use Rattle.knitpasture.specs.Lent.{lent_outcome, lent_outcome_from, EntriesServed};
-ghost use Rattle.knitpasture.specs.Bytes.{numbers_from, numbers_bytes, as_bytes, spelled_by, byte_outcome, words_served, spelled_served, hub_served, words_comparisons, hub_comparisons, hub_counted, hub_key, fresh_outcome, fit_rows, words_fresh, hub_fresh};
+ghost use Rattle.knitpasture.specs.Bytes.{numbers_from, numbers_bytes, as_bytes, spelled_by, byte_outcome, words_served, spelled_served, hub_served, words_comparisons, hub_comparisons, hub_counted, hub_key, spelling, fresh_outcome, fit_rows, words_fresh, hub_fresh};
 
 use engine::Counted;
-use settings::Settings;
+use model::Refusal;
+use settings::{Settings, State};
+
+// What C is told of a call: 0, or the refusal's number.
+fn status(called: Result<u64, Refusal>) -> u64
+    ensures { result ≡ code_of called }
+{
+    match called {
+        Ok(_) => 0,
+        Err(refusal) => refusal.number(),
+    }
+}
 
 // Serves a line on settings that are lent and altered here, and returns 0 or the refusal.
 pub fn knitpasture_serve_lent(
@@ -24,16 +36,13 @@ pub fn knitpasture_serve_lent(
 ) -> u64
     ensures { lent_outcome result (lent settings.new rows.new keys.new) answer.new ≡ lent_outcome_from (outcome (lent settings.old rows.old keys.old) (call line.now answer.old)) }
 {
-    let r = engine::serve(*settings, rows, keys, line, answer);
-    *settings = r.settings;
-    r.number
-}
-
-// What serving returns: 0 or the refusal, and the comparisons of a prefix with a key that an accepted line made.
-#[derive(Clone, Copy)]
-struct Called {
-    number: u64,
-    comparisons: u64,
+    match engine::serve(*settings, rows, keys, line, answer) {
+        Ok(served) => {
+            *settings = served.settings;
+            0
+        }
+        Err(refusal) => refusal.number(),
+    }
 }
 
 // Serves a line on settings as bytes, whose entries are lent on; the state afterwards is returned and not yet written.
@@ -43,7 +52,7 @@ fn serve_entries(
     keys: &mut [u8],
     line: &[u8],
     answer: &mut [u8],
-) -> Counted
+) -> Result<Counted, Refusal>
     requires { length settings.old ≡ settings_length }
     ensures { EntriesServed settings.old rows.old keys.old (call line.now answer.old) result settings.new rows.new keys.new answer.new }
 {
@@ -51,35 +60,23 @@ fn serve_entries(
     engine::serve_counted(s, &mut settings[48..], rows, keys, line, answer)
 }
 
-// Serves a line on settings as bytes and rows as numbers; only an accepted line alters them.
-#[tactic(auto, using(outcome::proofs::Demands::outcome_refused), unfolding(crate::specs::Bytes::words_served, crate::specs::Bytes::words_comparisons))]
+// Serves a line on settings as bytes and rows as numbers; only an accepted line alters them, and tells its comparisons of a prefix with a key.
 fn serve_words(
     settings: &mut [u8],
     rows: &mut [u64],
     keys: &mut [u8],
     line: &[u8],
     answer: &mut [u8],
-) -> Called
-    ensures answer_after { byte_outcome result.number (as_bytes settings.new rows.new keys.new) answer.new ≡ words_served (as_bytes settings.old rows.old keys.old) (call line.now answer.old) }
-    ensures comparisons_value { result.comparisons ≡ words_comparisons (as_bytes settings.old rows.old keys.old) (call line.now answer.old) }
+) -> Result<u64, Refusal>
+    ensures answer_after { byte_outcome (code_of result) (as_bytes settings.new rows.new keys.new) answer.new ≡ words_served (as_bytes settings.old rows.old keys.old) (call line.now answer.old) }
+    ensures comparisons_value { IfOk result (λ comparisons. comparisons ≡ words_comparisons (as_bytes settings.old rows.old keys.old) (call line.now answer.old)) }
 {
     if settings.len() != model::SETTINGS_BYTES {
-        return Called {
-            number: model::UNSOUND,
-            comparisons: 0,
-        };
+        return Err(Refusal::Unsound);
     }
-    let counted = serve_entries(settings, rows, keys, line, answer);
-    let done = counted.done;
-    let called = Called {
-        number: done.number,
-        comparisons: counted.comparisons,
-    };
-    if done.number != 0 {
-        return called;
-    }
-    settings::put_state(settings, done.state);
-    called
+    let counted = serve_entries(settings, rows, keys, line, answer)?;
+    settings::put_state(settings, counted.done.state);
+    Ok(counted.comparisons)
 }
 
 // The same without the comparisons.
@@ -92,22 +89,7 @@ pub fn knitpasture_serve_words(
 ) -> u64
     ensures { byte_outcome result (as_bytes settings.new rows.new keys.new) answer.new ≡ words_served (as_bytes settings.old rows.old keys.old) (call line.now answer.old) }
 {
-    let called = serve_words(settings, rows, keys, line, answer);
-    called.number
-}
-
-// Room for the numbers of 64 rows: less to clear, where the table is small.
-fn few_numbers() -> [u64; 512]
-    ensures { (result ≡ replicate 512 0) × (length result ≡ 512) }
-{
-    [0u64; 512]
-}
-
-// Room for the numbers of the largest table.
-fn many_numbers() -> [u64; 8192]
-    ensures { (result ≡ replicate 8192 0) × (length result ≡ 8192) }
-{
-    [0u64; 8192]
+    status(serve_words(settings, rows, keys, line, answer))
 }
 
 // Reads the numbers that the bytes spell.
@@ -115,11 +97,8 @@ fn read_numbers(b: &[u8], numbers: &mut [u64])
     requires { length b.now ≡ 8 * length numbers.old }
     ensures { numbers.new ≡ numbers_from (length numbers.old) b.now }
 {
-    let n = numbers.len();
-    let mut i = 0;
-    while i < n {
+    for i in 0..numbers.len() {
         numbers[i] = buffers::word_at(b, 8 * i);
-        i += 1;
     }
 }
 
@@ -128,11 +107,8 @@ fn write_numbers(numbers: &[u64], b: &mut [u8])
     requires { length b.old ≡ 8 * length numbers.now }
     ensures { b.new ≡ numbers_bytes numbers.now }
 {
-    let n = numbers.len();
-    let mut i = 0;
-    while i < n {
+    for i in 0..numbers.len() {
         buffers::put_word(b, 8 * i, numbers[i]);
-        i += 1;
     }
 }
 
@@ -144,51 +120,49 @@ fn serve_spelled(
     line: &[u8],
     answer: &mut [u8],
     numbers: &mut [u64],
-) -> Called
+) -> Result<u64, Refusal>
     requires { (length settings.old ≡ settings_length) × (length rows.old ≡ 8 * length numbers.old) }
-    ensures answer_after { byte_outcome result.number (as_bytes settings.new rows.new keys.new) answer.new ≡ spelled_served (length numbers.old) (as_bytes settings.old rows.old keys.old) (call line.now answer.old) }
-    ensures comparisons_value { result.comparisons ≡ comparisons_of (spelled_by (length numbers.old) (as_bytes settings.old rows.old keys.old)) (call line.now answer.old) }
+    ensures answer_after { byte_outcome (code_of result) (as_bytes settings.new rows.new keys.new) answer.new ≡ spelled_served (length numbers.old) (as_bytes settings.old rows.old keys.old) (call line.now answer.old) }
+    ensures comparisons_value { IfOk result (λ comparisons. comparisons ≡ comparisons_of (spelled_by (length numbers.old) (as_bytes settings.old rows.old keys.old)) (call line.now answer.old)) }
 {
     read_numbers(rows, numbers);
-    let called = serve_words(settings, numbers, keys, line, answer);
-    if called.number != 0 {
-        return called;
-    }
+    let comparisons = serve_words(settings, numbers, keys, line, answer)?;
     write_numbers(numbers, rows);
-    called
+    Ok(comparisons)
+}
+
+// Whether settings and rows are as long as those of at most 1024 rows are.
+fn can_spell(settings: &[u8], rows: &[u8]) -> bool
+    ensures { result ≡ spelling (as_bytes settings.now rows.now []) true false }
+{
+    settings.len() == model::SETTINGS_BYTES
+        && rows.len() <= model::TABLE_BYTES
+        && rows.len() % 8 == 0
 }
 
 // Serves a line on settings and rows as bytes; only an accepted line alters them.
+#[tactic(auto, using(crate::proofs::Serving::few_served, crate::proofs::Serving::most_served, crate::proofs::Serving::few_count, crate::proofs::Serving::most_count), unfolding(crate::specs::Bytes::hub_served, crate::specs::Bytes::hub_comparisons))]
 fn serve_bytes(
     settings: &mut [u8],
     rows: &mut [u8],
     keys: &mut [u8],
     line: &[u8],
     answer: &mut [u8],
-) -> Called
-    ensures answer_after { byte_outcome result.number (as_bytes settings.new rows.new keys.new) answer.new ≡ hub_served (as_bytes settings.old rows.old keys.old) (call line.now answer.old) }
-    ensures comparisons_value { result.comparisons ≡ hub_comparisons (as_bytes settings.old rows.old keys.old) (call line.now answer.old) }
+) -> Result<u64, Refusal>
+    ensures answer_after { byte_outcome (code_of result) (as_bytes settings.new rows.new keys.new) answer.new ≡ hub_served (as_bytes settings.old rows.old keys.old) (call line.now answer.old) }
+    ensures comparisons_value { IfOk result (λ comparisons. comparisons ≡ hub_comparisons (as_bytes settings.old rows.old keys.old) (call line.now answer.old)) }
 {
-    let wrong = Called {
-        number: model::UNSOUND,
-        comparisons: 0,
-    };
-    if settings.len() != model::SETTINGS_BYTES {
-        return wrong;
-    }
-    if rows.len() > model::TABLE_BYTES {
-        return wrong;
-    }
-    if rows.len() % 8 != 0 {
-        return wrong;
+    if !can_spell(settings, rows) {
+        return Err(Refusal::Unsound);
     }
     let n = rows.len() / 8;
-    if rows.len() <= 4096 {
-        let mut few = few_numbers();
-        return serve_spelled(settings, rows, keys, line, answer, &mut few[0..n]);
+    // Less to clear, where the table is small.
+    if n <= 512 {
+        let mut numbers = [0; 512];
+        return serve_spelled(settings, rows, keys, line, answer, &mut numbers[..n]);
     }
-    let mut numbers = many_numbers();
-    serve_spelled(settings, rows, keys, line, answer, &mut numbers[0..n])
+    let mut numbers = [0; 8192];
+    serve_spelled(settings, rows, keys, line, answer, &mut numbers[..n])
 }
 
 // Serves a line on settings and rows as bytes, and returns 0 or the refusal.
@@ -201,8 +175,7 @@ pub fn knitpasture_serve(
 ) -> u64
     ensures { byte_outcome result (as_bytes settings.new rows.new keys.new) answer.new ≡ hub_served (as_bytes settings.old rows.old keys.old) (call line.now answer.old) }
 {
-    let called = serve_bytes(settings, rows, keys, line, answer);
-    called.number
+    status(serve_bytes(settings, rows, keys, line, answer))
 }
 
 // The same, and an accepted line leaves the comparisons of a prefix with a key that it made.
@@ -217,12 +190,13 @@ pub fn knitpasture_serve_counted(
     ensures answer_after { byte_outcome result (as_bytes settings.new rows.new keys.new) answer.new ≡ hub_served (as_bytes settings.old rows.old keys.old) (call line.now answer.old) }
     ensures comparisons_after { comparisons.new ≡ hub_counted (as_bytes settings.old rows.old keys.old) (call line.now answer.old) comparisons.old }
 {
-    let called = serve_bytes(settings, rows, keys, line, answer);
-    if called.number != 0 {
-        return called.number;
+    match serve_bytes(settings, rows, keys, line, answer) {
+        Ok(count) => {
+            *comparisons = count;
+            0
+        }
+        Err(refusal) => refusal.number(),
     }
-    *comparisons = called.comparisons;
-    0
 }
 
 // The length of the key at a position of the numbers that the rows spell.
@@ -232,55 +206,27 @@ fn key_length(settings: &[u8], rows: &[u8], keys: &[u8], at: usize, numbers: &mu
 {
     read_numbers(rows, numbers);
     let s = settings::state_in(settings);
-    let key = bucket::key_with(s, &settings[48..], numbers, keys, at);
-    key.len()
+    bucket::key_with(s, &settings[48..], numbers, keys, at).len()
 }
 
 // The length of a used row's key, which stands in the key bytes from the row's second on; 0 for the empty part.
+#[tactic(auto, using(crate::proofs::Serving::key_served, crate::proofs::Serving::part_most), unfolding(crate::specs::Bytes::hub_key))]
 pub fn knitpasture_key(settings: &[u8], rows: &[u8], keys: &[u8], at: usize) -> usize
     ensures { result ≡ length (hub_key (as_bytes settings.now rows.now keys.now) at) }
 {
-    if settings.len() != model::SETTINGS_BYTES {
+    if !can_spell(settings, rows) {
         return 0;
     }
-    if rows.len() > model::TABLE_BYTES {
-        return 0;
-    }
-    if rows.len() % 8 != 0 {
-        return 0;
-    }
-    let n = rows.len() / 8;
-    let mut numbers = many_numbers();
-    key_length(settings, rows, keys, at, &mut numbers[0..n])
+    let mut numbers = [0; 8192];
+    key_length(settings, rows, keys, at, &mut numbers[..rows.len() / 8])
 }
 
 // Whether as many key bytes are those of 1 to 1024 rows.
+#[tactic(auto, unfolding(crate::specs::Bytes::fit_rows))]
 fn fit_rows(n: usize) -> bool
     ensures { result ≡ fit_rows n }
 {
-    if n < 64 {
-        return false;
-    }
-    if n > model::TABLE_BYTES {
-        return false;
-    }
-    n % 64 == 0
-}
-
-// Sets every byte to zero.
-fn clear(b: &mut [u8])
-    ensures { b.new ≡ replicate (length b.old) 0 }
-{
-    let n = b.len();
-    buffers::move_down_bytes(b, n);
-}
-
-// Sets every number to zero.
-fn clear_numbers(s: &mut [u64])
-    ensures { s.new ≡ replicate (length s.old) 0 }
-{
-    let n = s.len();
-    buffers::move_down_numbers(s, n);
+    (64..=model::TABLE_BYTES).contains(&n) && n % 64 == 0
 }
 
 // Makes the bytes those of fresh settings.
@@ -288,44 +234,40 @@ fn put_fresh(settings: &mut [u8])
     requires { length settings.old ≡ settings_length }
     ensures { settings.new ≡ settings_bytes fresh_settings }
 {
-    clear(settings);
-    settings::put_state(settings, settings::state_of(settings::fresh()));
+    settings.fill(0);
+    settings::put_state(settings, State::from(settings::fresh()));
 }
 
 // Makes the buffers those of a fresh bucket, the rows as numbers; returns 0, or 1 where the lengths don't fit one capacity.
+#[tactic(auto, unfolding(crate::specs::Bytes::words_fresh))]
 pub fn knitpasture_fresh_words(settings: &mut [u8], rows: &mut [u64], keys: &mut [u8]) -> u64
     ensures { fresh_outcome result (as_bytes settings.new rows.new keys.new) ≡ words_fresh (as_bytes settings.old rows.old keys.old) }
 {
-    if settings.len() != model::SETTINGS_BYTES {
-        return model::UNSOUND;
-    }
-    if rows.len() != keys.len() / 8 {
-        return model::UNSOUND;
-    }
-    if !fit_rows(keys.len()) {
-        return model::UNSOUND;
+    if settings.len() != model::SETTINGS_BYTES
+        || rows.len() != keys.len() / 8
+        || !fit_rows(keys.len())
+    {
+        return Refusal::Unsound.number();
     }
     put_fresh(settings);
-    clear_numbers(rows);
-    clear(keys);
+    rows.fill(0u64);
+    keys.fill(0);
     0
 }
 
 // The same with the rows as bytes.
+#[tactic(auto, unfolding(crate::specs::Bytes::hub_fresh))]
 pub fn knitpasture_fresh(settings: &mut [u8], rows: &mut [u8], keys: &mut [u8]) -> u64
     ensures { fresh_outcome result (as_bytes settings.new rows.new keys.new) ≡ hub_fresh (as_bytes settings.old rows.old keys.old) }
 {
-    if settings.len() != model::SETTINGS_BYTES {
-        return model::UNSOUND;
-    }
-    if rows.len() != keys.len() {
-        return model::UNSOUND;
-    }
-    if !fit_rows(keys.len()) {
-        return model::UNSOUND;
+    if settings.len() != model::SETTINGS_BYTES
+        || rows.len() != keys.len()
+        || !fit_rows(keys.len())
+    {
+        return Refusal::Unsound.number();
     }
     put_fresh(settings);
-    clear(rows);
-    clear(keys);
+    rows.fill(0);
+    keys.fill(0);
     0
 }

@@ -1,12 +1,14 @@
 -- The least days decide: an action is due by some rule's days where it is by the least that the rules set.
-use Rattle.std.proofs.Common.{◌≡◌, ℕ, ◌≤◌, Bool, true, false, not, ◌&&◌, ◌||◌, eqb, ltb, leb, List, [], ◌∷◌, sym, refl, ◌∙◌, ap₂, inl, inr, arith, ltb-false, ltb-true, le-leb, leb-true}
-use Rattle.buffers.specs.Lists.{all}
+use Rattle.std.proofs.Common.{◌≡◌, ℕ, ◌≤◌, Bool, true, false, not, ◌&&◌, ◌||◌, eqb, ltb, leb, List, [], ◌∷◌, ◌++◌, append-nil, sym, refl, ap, ◌∙◌, ap₂, inl, inr, arith, ltb-false, ltb-true, le-leb, leb-true}
+use Rattle.std.proofs.lemmas.Bool.Decides.{nat_tests}
+use Rattle.buffers.specs.Lists.{all, begins}
 use Rattle.buffers.proofs.Choices.{pick_ways}
 use Rattle.buffers.proofs.Tests.{either, clash, and_l, and_r}
-use Rattle.buffers.proofs.Lists.{all_as, all_keep}
+use Rattle.buffers.proofs.Lists.{all_as, all_keep, keep_append}
 use Rattle.calendar.specs.Periods.{day_start, expires_at}
 use Rattle.calendar.proofs.Periods.{more_days, expired_today}
 use Rattle.model.specs.Settings as model
+use Rattle.model.specs.Settings.{is_set}
 use Rattle.model.specs.Sweep.{applying, due}
 use Rattle.lifecycle.specs.declared.Limits.{Limits}
 use Rattle.lifecycle.specs.Least.{lesser, least, limits_of}
@@ -60,6 +62,25 @@ module _ (s t : ℕ) where
 pub over_today : (d s t m : ℕ) → m ≡ day_start t → over d s m ≡ over d s t
 unfolding over
 over_today d s t m e = rw (e, expired_today s d t)
+
+-- ## The least of days, in any order
+
+lesser_swap : (a b c : ℕ) → lesser a (lesser b c) ≡ lesser b (lesser a c)
+unfolding lesser
+lesser_swap a b c = grind (arith, nat_tests)
+
+least_last : (days : model.Rule → ℕ) (us : List model.Rule) (u : model.Rule) → least days (us ++ u ∷ []) ≡ lesser (days u) (least days us)
+least_last days [] u = refl
+least_last days (v ∷ us) u = ap (lesser (days v)) (least_last days us u) ∙ lesser_swap (days v) (days u) (least days us)
+
+-- A rule sets as much behind others as in front of them.
+pub limits_last : (us : List model.Rule) (u : model.Rule) (k : List ℕ) → limits_of (us ++ u ∷ []) k ≡ limits_of (u ∷ us) k
+unfolding limits_of
+limits_last us u k =
+    elim (either (is_set u && begins u.prefix k)) [
+      | inl e ↦ simp (keep_append, e, least_last)
+      | inr e ↦ simp (keep_append, e, append-nil)
+    ]
 
 -- ## Few days
 

@@ -1,140 +1,79 @@
--- Fates as bytes, and how many they count.
-use Rattle.std.proofs.Common.{◌≡◌, ℕ, suc, ◌+◌, ◌-◌, ◌<◌, ◌≤◌, eqb, List, [], ◌∷◌, ◌++◌, length, get_or, take, drop, sym, refl, ap, ◌∙◌, inl, inr, add-one, arith, length-append, take-suc, take_at, take-add, ne_eqb}
-use mathlib.Core.Option.{none}
-use Rattle.buffers.specs.Lists.{total}
+-- The fates of all rows, and how many rows they remove and markers they add.
+use Rattle.std.proofs.Common.{◌≡◌, ℕ, ◌+◌, ◌<◌, ◌≤◌, List, [], ◌∷◌, length, take, drop, sym, refl, arith, length-append, take_at, take-suc-set, set, add-one}
+use denote.Enum.Bare.{sameb}
+use mir.Val.{bool_byte}
+use Rattle.std.specs.Prelude.{None}
 use Rattle.buffers.proofs.Lists.{total_append}
-use Rattle.buffers.proofs.Tests.{either}
+use Rattle.model.specs.contracts.Fate.{the_type}
+use Rattle.model.specs.declared.Fate.{Fate}
+use Rattle.model.specs.declared.Fate.TheVariants.{Stays, Goes, Gains}
 use Rattle.model.specs.Rows.{Row}
 use Rattle.model.specs.Settings.{Rule}
+use Rattle.model.specs.Sweep.{marks, removes, fates}
 use Rattle.model.proofs.Sweeping.{each_fate}
-use Rattle.model.specs.Sweep.{Fate, stays, goes, gains, marks, removes, fates}
-use Rattle.lifecycle.specs.Fates.{fate_byte, fate_bytes, fates_after, fate_of, fates_in}
-use Rattle.buffers.specs.Ranges.{Within}
-use Rattle.buffers.specs.Words.{number}
-use Rattle.lifecycle.specs.Judging.{Counted, Passed}
+use Rattle.lifecycle.specs.Fates.{fates_after}
+use Rattle.lifecycle.specs.Judging.{Counted, CountedOn}
 
--- ## The byte of a fate
+module _ (us : List Rule) (t : ℕ) (xs : List Row) (entry : List Fate) where
+  -- The first fates after a judgement are the rows'.
+  pub fates_after_lem : take (length xs) (fates_after us t xs entry) ≡ fates us t None xs
+  unfolding fates_after
+  fates_after_lem = take_at (fates us t None xs) (drop (length xs) entry) (length xs) (each_fate us t None xs)
 
-pub byte_stays : (f : Fate) → stays ≡ f → 0 ≡ fate_byte f
-byte_stays f e = ap fate_byte e
+  pub after_long : length xs ≤ length (fates_after us t xs entry)
+  unfolding fates_after
+  after_long = let a = length-append (fates us t None xs) (drop (length xs) entry) in let b = each_fate us t None xs in omega arith
 
-pub byte_goes : (f : Fate) → goes ≡ f → 1 ≡ fate_byte f
-byte_goes f e = ap fate_byte e
+-- ## Counting
 
-pub byte_gains : (f : Fate) → gains ≡ f → 2 ≡ fate_byte f
-byte_gains f e = ap fate_byte e
+-- What a test for a fate comes to as a number.
+pub goes_is : (v : Fate) → bool_byte (sameb the_type v Goes) ≡ removes v
+goes_is Stays = refl
+goes_is Goes = refl
+goes_is Gains = refl
 
-pub ruleset bytes_of = (byte_stays, byte_goes, byte_gains)
+pub gains_is : (v : Fate) → bool_byte (sameb the_type v Gains) ≡ marks v
+gains_is Stays = refl
+gains_is Goes = refl
+gains_is Gains = refl
 
-fates_back : (fs : List Fate) → fates_in (fate_bytes fs) ≡ fs
-fates_back [] = refl
-fates_back (stays ∷ fs) = ap (λ (l : List Fate). stays ∷ l) (fates_back fs)
-fates_back (goes ∷ fs) = ap (λ (l : List Fate). goes ∷ l) (fates_back fs)
-fates_back (gains ∷ fs) = ap (λ (l : List Fate). gains ∷ l) (fates_back fs)
+pub counted_all : Counted [] 0 0
+counted_all = record { gone = record { is = refl; most = omega arith }; come = record { is = refl; most = omega arith } }
 
-bytes_length : (fs : List Fate) → length (fate_bytes fs) ≡ length fs
-bytes_length [] = refl
-bytes_length (f ∷ fs) = ap suc (bytes_length fs)
+pub counted_none : (from : ℕ) (m : List Fate) → CountedOn m m from from 0 0
+counted_none from m = record { few_gone = omega arith; few_come = omega arith; on = λ c d h. let x : c + 0 ≡ c = omega arith in let y : d + 0 ≡ d = omega arith in rw (x, y) h }
 
-module _ (us : List Rule) (t : ℕ) where
-  module _ (xs : List Row) (entry : List ℕ) where
-    all_bytes : length (fate_bytes (fates us t none xs)) ≡ length xs
-    all_bytes = bytes_length (fates us t none xs) ∙ each_fate us t none xs
+few : (f : Fate) → (removes f ≤ 1) × (marks f ≤ 1)
+few Stays = (omega arith, omega arith)
+few Goes = (omega arith, omega arith)
+few Gains = (omega arith, omega arith)
 
-    -- The bytes after a judgement stand for the rows' fates.
-    pub fates_after_lem : fates_in (take (length xs) (fates_after us t xs entry)) ≡ fates us t none xs
-    unfolding fates_after
-    fates_after_lem = ap fates_in (take_at (fate_bytes (fates us t none xs)) (drop (length xs) entry) (length xs) all_bytes) ∙ fates_back (fates us t none xs)
+one_more : (i c d r s : ℕ) (v : Fate) (m : List Fate) → i < length m → r ≡ removes v → s ≡ marks v → Counted (take i m) c d → Counted (take (i + 1) (set m i v)) (c + r) (d + s)
+one_more i c d r s v m g e f h =
+    let x = total_append removes (take i m) (v ∷ []) in
+    let y = total_append marks (take i m) (v ∷ []) in
+    let l = length-append (take i m) (v ∷ []) in
+    rw (add-one i, take-suc-set m i v g) (record {
+      gone = record { is = omega (arith, h.gone.is); most = omega (arith, h.gone.most, (few v).0) };
+      come = record { is = omega (arith, h.come.is); most = omega (arith, h.come.most, (few v).1) };
+    })
 
-    pub after_long : length xs ≤ length (fates_after us t xs entry)
-    unfolding fates_after
-    after_long = let a = length-append (fate_bytes (fates us t none xs)) (drop (length xs) entry) in let b = all_bytes in omega arith
-
-pub one_removed : (f : ℕ) → f ≡ 1 → 1 ≡ removes (fate_of f)
-one_removed f h = rw h
-
-pub none_removed : (f : ℕ) → (f ≡ 1 → ⊥) → 0 ≡ removes (fate_of f)
-none_removed f h = elim (either (eqb f 2)) [ inl e ↦ simp (ne_eqb f 1 h, e) | inr e ↦ simp (ne_eqb f 1 h, e) ]
-
-pub one_marked : (f : ℕ) → f ≡ 2 → 1 ≡ marks (fate_of f)
-one_marked f h = rw h
-
-pub none_marked : (f : ℕ) → (f ≡ 2 → ⊥) → 0 ≡ marks (fate_of f)
-none_marked f h = elim (either (eqb f 1)) [ inl e ↦ simp e | inr e ↦ simp (e, ne_eqb f 2 h) ]
-
-pub ruleset counts = (one_removed, none_removed, one_marked, none_marked)
-
--- ## One fate more
-
-pub fates_length : (fs : List ℕ) → length (fates_in fs) ≡ length fs
-fates_length [] = refl
-fates_length (f ∷ fs) = ap suc (fates_length fs)
-
-pub fates_append : (fs gs : List ℕ) → fates_in (fs ++ gs) ≡ fates_in fs ++ fates_in gs
-fates_append [] gs = refl
-fates_append (f ∷ fs) gs = ap (λ (l : List Fate). fate_of f ∷ l) (fates_append fs gs)
-
--- ## Counting the fates
-
-total_more : (of : Fate → ℕ) (m : List ℕ) (i c r : ℕ) → i < length m → Within c (total of (fates_in (take i m))) i → Within r (of (fate_of (get_or m i 0))) 1
-    → Within (c + r) (total of (fates_in (take (i + 1) m))) (i + 1)
-total_more of m i c r h x y =
+-- One fate more.
+pub counted_more : (from i : ℕ) (v : Fate) (entry m : List Fate) (c d r s : ℕ) → CountedOn entry m from i c d → from ≤ i → i < length m → r ≡ removes v → s ≡ marks v → CountedOn entry (set m i v) from (i + 1) (c + r) (d + s)
+counted_more from i v entry m c d r s h l g e f =
+    let k = few v in
     record {
-      is = let e = total_append of (fates_in (take i m)) (fate_of (get_or m i 0) ∷ []) in rw (add-one i, take-suc m i 0 h, fates_append) (omega (arith, x.is, y.is));
-      most = omega (arith, x.most, y.most);
+      few_gone = omega (arith, h.few_gone, k.0);
+      few_come = omega (arith, h.few_come, k.1);
+      on = λ a b p. let x : a + (c + r) ≡ a + c + r = omega arith in let y : b + (d + s) ≡ b + d + s = omega arith in rw (x, y) (one_more i (a + c) (b + d) r s v m g e f (h.on a b p));
     }
 
-zeros_total : (of : Fate → ℕ) → of stays ≡ 0 → (l : List ℕ) → number l ≡ 0 → total of (fates_in l) ≡ 0
-unfolding number
-zeros_total of h [] e = refl
-zeros_total of h (b ∷ l) e =
-    let z : b ≡ 0 = omega arith in
-    let x = zeros_total of h l (omega arith) in
-    rw z (omega arith)
-
-total_zeros : (of : Fate → ℕ) → of stays ≡ 0 → (m : List ℕ) (i c : ℕ) → number (take 8 (drop i m)) ≡ 0 → Within c (total of (fates_in (take i m))) i
-    → Within c (total of (fates_in (take (i + 8) m))) (i + 8)
-total_zeros of h m i c e x =
-    let z = zeros_total of h (take 8 (drop i m)) e in
-    let t = total_append of (fates_in (take i m)) (fates_in (take 8 (drop i m))) in
-    record { is = rw (take-add i 8 m, fates_append) (omega (arith, x.is)); most = omega (arith, x.most) }
-
--- ## The ways through pass_zeros
-
-pub pass_start : (m : List ℕ) (a u : ℕ) → a ≤ u → Passed m a a u
-pass_start m a u h = record { low = omega arith; most = h; nothing = λ c d q. q }
-
-module _ (m : List ℕ) (a i u : ℕ) (h : Passed m a i u) (g : 8 ≤ u - i) where
-  pub pass_room : u ≤ length m → i + 8 ≤ length m
-  pass_room k = omega arith
-
-  pub pass_step : (w : ℕ) → w ≡ number (take 8 (drop i m)) → w ≡ 0 → Passed m a (i + 8) u
-  pass_step w e z =
-      let y : number (take 8 (drop i m)) ≡ 0 = sym e ∙ z in
-      record {
-        low = omega (arith, h.low);
-        most = omega arith;
-        nothing =
-            λ c d q.
-            let p = h.nothing c d q in
-            record { gone = total_zeros removes refl m i c y p.gone; come = total_zeros marks refl m i d y p.come };
-      }
-
-pub ruleset pass_cases = (pass_start, pass_room, pass_step)
-
--- ## The ways through count
-
-pub count_start : (m : List ℕ) (i u : ℕ) → Passed m 0 i u → Counted m i 0 0
-count_start m i u h = h.nothing 0 0 (record { gone = record { is = refl; most = omega arith }; come = record { is = refl; most = omega arith } })
-
-module _ (m : List ℕ) (i c d : ℕ) (h : Counted m i c d) where
-  pub count_step : (r s j u : ℕ) → i < u → u ≤ length m → Within r (removes (fate_of (get_or m i 0))) 1 → Within s (marks (fate_of (get_or m i 0))) 1 → Passed m (i + 1) j u
-      → Counted m j (c + r) (d + s)
-  count_step r s j u g k x y p =
-      let q : i < length m = omega arith in
-      p.nothing (c + r) (d + s) (record { gone = total_more removes m i c r q h.gone x; come = total_more marks m i d s q h.come y })
-
-  pub count_end : (u : ℕ) → i ≤ u → u ≤ i → Counted m u c d
-  count_end u g k = let e : i ≡ u = omega arith in rw e at h
-
-pub ruleset count_cases = (count_start, count_step, count_end)
+-- The first of a key's fates, and the others.
+pub counted_first : (from to : ℕ) (v : Fate) (entry exit : List Fate) (c s : ℕ) → from < to → to ≤ length entry → removes v ≡ 0 → s ≡ marks v → CountedOn (set entry from v) exit (from + 1) to c 0 → CountedOn entry exit from to c s
+counted_first from to v entry exit c s g l e f h =
+    let k = few v in
+    record {
+      few_gone = omega (arith, h.few_gone);
+      few_come = omega (arith, k.1);
+      on = λ a b p. let x : a + 0 + c ≡ a + c = omega arith in let y : b + s + 0 ≡ b + s = omega arith in rw (x, y) at (h.on (a + 0) (b + s) (one_more from a b 0 s v entry (omega arith) (sym e) f p));
+    }

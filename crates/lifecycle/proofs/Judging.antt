@@ -1,177 +1,147 @@
--- Judging the rows of the buffers key by key is judging the list, and compares each rule with each different key once.
-use Rattle.std.proofs.Common.{◌≡◌, ℕ, zero, suc, ◌+◌, ◌-◌, ◌*◌, ◌<◌, ◌≤◌, Bool, true, false, eqb, List, [], ◌∷◌, ◌++◌, length, take, drop, sym, refl, ap, ◌∙◌, inl, inr, append_assoc, append-nil, mul-suc, arith, length-drop, take-append-drop, drop_of_length-le, get_or-drop, drop-cons, take-suc, ext_get_or, eqb-true}
+-- Judging a table's rows key by key is judging the list, and compares each rule with each different key once.
+use Rattle.std.proofs.lemmas.List.{length-map}
+use Rattle.std.proofs.Common.{◌≡◌, ℕ, zero, suc, ◌+◌, ◌-◌, ◌*◌, ◌<◌, ◌≤◌, Bool, true, false, eqb, List, [], ◌∷◌, ◌++◌, length, take, drop, sym, refl, ap, ◌∙◌, inl, inr, append_assoc, append-nil, mul-suc, arith, length-drop, length-take, length-take-le, take-append-drop, drop_of_length-le, get_or-drop, drop-cons, take-suc, ext_get_or, eqb-true}
 use mathlib.Core.Bool.{false≢true}
-use mathlib.Core.Option.{Option, some, none}
+use Rattle.std.specs.Prelude.{Option, Some, None}
 use borrow.Author.Tests.{eqb-false}
 use Rattle.buffers.specs.Choices.{pick}
 use Rattle.buffers.specs.Lists.{all, same}
 use Rattle.buffers.proofs.Lists.{same_path, keep_narrower, all_keep}
 use Rattle.buffers.proofs.Tests.{either, and_l}
 use Rattle.calendar.specs.Periods.{day_start}
-use Rattle.calendar.proofs.Periods.{start_midnight}
-use Rattle.model.specs.Rows.{Row, before, ahead, ordered}
+use Rattle.model.specs.declared.Fate.{Fate}
+use Rattle.model.specs.declared.Fate.TheVariants.{Stays}
+use Rattle.model.specs.Rows.{Row, ordered}
 use Rattle.model.specs.Settings as model
 use Rattle.model.specs.Settings.{is_set}
-use Rattle.model.specs.Sweep.{applying, fate, fates}
+use Rattle.model.specs.Sweep.{applying, fates}
 use Rattle.model.specs.Comparisons.{set_rules, comparisons}
-use Rattle.model.proofs.Order.{before_irrefl, ordered_at}
-use Rattle.model.proofs.Comparisons.{beginnings, ordered_back, different_ordered}
-use Rattle.table.specs.Layout.{row_at, rows_of}
-use Rattle.table.specs.Places.{key_at}
-use Rattle.table.proofs.Held.{rows_length, row_at_lem}
-use Rattle.lifecycle.specs.Keys.{KeyThere}
+use Rattle.model.proofs.Comparisons.{beginnings, different_ordered}
+use Rattle.table.specs.Contents.{spare_row, row_no}
 use Rattle.lifecycle.specs.declared.Matched.{Matched}
 use Rattle.lifecycle.specs.declared.KeyDone.{KeyDone}
 use Rattle.lifecycle.specs.declared.Counts.{Counts}
+use Rattle.lifecycle.specs.declared.Judged.{Judged}
 use Rattle.lifecycle.specs.Least.{limits_of, most_comparisons, KeyMatched}
-use Rattle.lifecycle.specs.Flat.{rules_in, Places, Rules, Laid, BoundsLaid}
+use Rattle.lifecycle.specs.declared.laid.LaidRule.{LaidRule}
+use Rattle.lifecycle.specs.LaidRules.{rule_of, rules_in}
 use Rattle.lifecycle.specs.Days.{few_days}
-use Rattle.lifecycle.specs.Fates.{fate_byte, fate_bytes, fates_after, fates_in}
-use Rattle.lifecycle.specs.Judging.{current_by, noncurrent_by, row_before, same_key, version_byte, fate_at, KeysInOrder, KeyEnds, Readable, Older, Stored, JudgedKey, JudgedAll, Counted, JudgedRows}
-use Rattle.lifecycle.proofs.Laying.{laid_most, rules_length}
+use Rattle.lifecycle.specs.Fates.{fates_after}
+use Rattle.lifecycle.specs.Judging.{current_by, noncurrent_by, row_before, same_key, version_fate, fate_at, Counted, CountedOn, KeyEnds, Stored, JudgedKey, JudgedAll, JudgedRows}
 use Rattle.lifecycle.proofs.Days.{current_most, noncurrent_most}
-use Rattle.lifecycle.proofs.Fates.{fates_after_lem}
+use Rattle.lifecycle.proofs.Fates.{fates_after_lem, counted_all}
 use Rattle.lifecycle.proofs.RowFates.{current_is, noncurrent_is}
 use Rattle.lifecycle.proofs.KeyRows.{same_none, same_some, stored_none, stored_more}
 
 -- ## The ways through judge_key
 
-not_back : (x y v w : Row) → x ≡ v → y ≡ w → ahead v w ≡ true → before y.key x.key ≡ false
-not_back x y v w e f a = rw (e, f) (ordered_back v w a)
+-- A key's counts lie within its rows, so that all sums fit.
+pub counts_fit : (x at : ℕ) (m : List Fate) → x ≤ length (take at m) → at ≤ length m → x ≤ at
+counts_fit x at m h l = omega (arith, h, length-take-le at m l)
 
-module _ (n b : List ℕ) (u : ℕ) (h : Readable n b u) where
-  pub in_order : KeysInOrder b u
-  in_order =
-      record {
-        there = λ i g. record { fits = omega (arith, h.blocks); block = h.whole i g };
-        sorted = sorted;
-      }
-    where
-      sorted : (i j : ℕ) → i ≤ j → j < u → before (key_at b j) (key_at b i) ≡ false
-      sorted i j l g =
-          elim (either (eqb i j)) [
-            | inl e ↦ rw (eqb-true i j e) (before_irrefl (key_at b j))
-            | inr e ↦
-                let o : i < j = omega (arith, eqb-false i j e) in
-                let d = row_at n b i in
-                not_back (row_at n b i) (row_at n b j) _ _ (row_at_lem n b u i d (omega arith)) (row_at_lem n b u j d g) (ordered_at (rows_of n b u) i j d h.in_order o (rw (rows_length n b u) g))
-          ]
+module _ (xs : List Row) (i r : ℕ) (e : KeyEnds xs i r) where
+  pub versions_some : i < r
+  versions_some = e.more
 
-  module _ (i : ℕ) (g : i < u) where
-    pub key_there : KeyThere b i
-    key_there = in_order.there i g
+  pub versions_there : r ≤ length xs
+  versions_there = e.most
 
-    pub older : (r : ℕ) → KeyEnds b u i r → Older n (i + 1) r
-    older r e =
-        record {
-          later = omega arith;
-          order = omega (arith, e.more);
-          numbers = omega (arith, h.numbers, e.most);
-          instants = λ j l. h.instants j (omega (arith, e.most));
-        }
+  pub versions_fit : (m : List Fate) → length xs ≤ length m → r ≤ length m
+  versions_fit m l = omega (arith, e.most)
 
-pub versions_some : (b : List ℕ) (u i r : ℕ) → KeyEnds b u i r → i < r
-versions_some b u i r e = e.more
-
-pub versions_fit : (b : List ℕ) (u i r : ℕ) (m : List ℕ) → KeyEnds b u i r → u ≤ length m → r ≤ length m
-versions_fit b u i r m e l = omega (arith, e.most)
-
-module _ (us : List model.Rule) (t : ℕ) (n b : List ℕ) (u : ℕ) (d : u ≡ day_start t) where
-  first_fate : (i : ℕ) → same_key b i ≡ false → current_by (limits_of us (key_at b i)).current u (row_at n b i) ≡ fate us t (row_before n b i) (row_at n b i)
-  first_fate zero e = current_is us t u d (row_at n b 0)
+module _ (us : List model.Rule) (t : ℕ) (xs : List Row) (u : ℕ) (d : u ≡ day_start t) where
+  first_fate : (i : ℕ) → same_key xs i ≡ false → current_by (limits_of us (row_no xs i).key).current u (row_no xs i) ≡ fate_at us t xs i
+  first_fate zero e = current_is us t u d (row_no xs 0)
   first_fate (suc i) e =
-      let s : same (key_at b i) (key_at b (suc i)) ≡ false = sym (same_some b i) ∙ e in
-      rw s (current_is us t u d (row_at n b (suc i)))
+      let s : same (row_no xs i).key (row_no xs (suc i)).key ≡ false = sym (same_some xs i) ∙ e in
+      rw s (current_is us t u d (row_no xs (suc i)))
 
-  later_fate : (i : ℕ) → same_key b i ≡ true → noncurrent_by (limits_of us (key_at b i)).noncurrent (row_at n b (i - 1)).created t u (row_at n b i) ≡ fate us t (row_before n b i) (row_at n b i)
-  later_fate zero e = absurd (false≢true (sym (same_none b) ∙ e))
+  later_fate : (i : ℕ) → same_key xs i ≡ true → noncurrent_by (limits_of us (row_no xs i).key).noncurrent (row_no xs (i - 1)).created t u (row_no xs i) ≡ fate_at us t xs i
+  later_fate zero e = absurd (false≢true (sym (same_none xs) ∙ e))
   later_fate (suc i) e =
-      let s : same (key_at b i) (key_at b (suc i)) ≡ true = sym (same_some b i) ∙ e in
+      let s : same (row_no xs i).key (row_no xs (suc i)).key ≡ true = sym (same_some xs i) ∙ e in
       let p : suc i - 1 ≡ i = omega arith in
-      rw (p, s) (noncurrent_is us t u d (row_at n b i) (row_at n b (suc i)))
+      rw (p, s) (noncurrent_is us t u d (row_no xs i) (row_no xs (suc i)))
 
 -- Up to its end the rows have the key.
-alike_key : (b : List ℕ) (u at r : ℕ) → KeyEnds b u at r → (i : ℕ) → at ≤ i → i < r → key_at b i ≡ key_at b at
-alike_key b u at r e zero p q = let z : zero ≡ at = omega arith in ap (key_at b) z
-alike_key b u at r e (suc i) p q =
+alike_key : (xs : List Row) (at r : ℕ) → KeyEnds xs at r → (i : ℕ) → at ≤ i → i < r → (row_no xs i).key ≡ (row_no xs at).key
+alike_key xs at r e zero p q = let z : zero ≡ at = omega arith in ap (λ (k : ℕ). (row_no xs k).key) z
+alike_key xs at r e (suc i) p q =
     elim (either (eqb (suc i) at)) [
-      | inl s ↦ ap (key_at b) (eqb-true (suc i) at s)
+      | inl s ↦ ap (λ (k : ℕ). (row_no xs k).key) (eqb-true (suc i) at s)
       | inr s ↦
           let y : at ≤ i = omega (arith, eqb-false (suc i) at s) in
-          sym (same_path (key_at b i) (key_at b (suc i)) (sym (same_some b i) ∙ e.alike (suc i) (omega arith) q)) ∙ alike_key b u at r e i y (omega arith)
+          sym (same_path (row_no xs i).key (row_no xs (suc i)).key (sym (same_some xs i) ∙ e.alike (suc i) (omega arith) q)) ∙ alike_key xs at r e i y (omega arith)
     ]
 
-module _ (us : List model.Rule) (b : List ℕ) (at c : ℕ) (m : Matched) (h : KeyMatched us (key_at b at) c m) where
+module _ (us : List model.Rule) (xs : List Row) (at c : ℕ) (m : Matched) (h : KeyMatched us (row_no xs at).key c m) where
   pub current_few : all few_days us ≡ true → m.limits.current ≤ 36500
-  current_few e = current_most us (key_at b at) m.limits e h.limits_are
+  current_few e = current_most us (row_no xs at).key m.limits e h.limits_are
 
   pub noncurrent_few : all few_days us ≡ true → m.limits.noncurrent ≤ 36500
-  noncurrent_few e = noncurrent_most us (key_at b at) m.limits e h.limits_are
+  noncurrent_few e = noncurrent_most us (row_no xs at).key m.limits e h.limits_are
 
-  pub judged_key : (t : ℕ) (n : List ℕ) (used r u : ℕ) (entry exit : List ℕ) → KeyEnds b used at r → same_key b at ≡ false → u ≡ day_start t
-      → ((z : List ℕ) → Stored (version_byte n z m.limits t u at) at r entry exit) → JudgedKey us t n b used at c entry exit (record { end = r; comparisons = m.comparisons })
-  judged_key t n used r u entry exit ends first d s =
+  pub judged_key : (t r u : ℕ) (so_far : Judged) (counts : Counts) (entry exit : List Fate) → KeyEnds xs at r → same_key xs at ≡ false → u ≡ day_start t → so_far.comparisons ≡ c
+      → Stored (version_fate xs m.limits t u at) at r entry exit → CountedOn entry exit at r counts.removed counts.added → Counted (take at entry) so_far.counts.removed so_far.counts.added
+      → JudgedKey us t xs at so_far entry exit (record { end = r; judged = record { counts = record { removed = so_far.counts.removed + counts.removed; added = so_far.counts.added + counts.added }; comparisons = m.comparisons } })
+  judged_key t r u so_far counts entry exit ends first d e s k o =
       record {
         ends = ends;
-        stored = record { long = (s b).long; early = (s b).early; inside = λ i p q. (s b).inside i p q ∙ own i p q; late = (s b).late };
-        counted = h.counted;
+        stored = record { long = s.long; early = s.early; inside = λ i p q. s.inside i p q ∙ own i p q; late = s.late };
+        counts = k.on so_far.counts.removed so_far.counts.added o;
+        compared = rw e h.counted;
       }
     where
-      limits_at : (i : ℕ) → at ≤ i → i < r → m.limits ≡ limits_of us (key_at b i)
-      limits_at i p q = h.limits_are ∙ ap (limits_of us) (sym (alike_key b used at r ends i p q))
+      limits_at : (i : ℕ) → at ≤ i → i < r → m.limits ≡ limits_of us (row_no xs i).key
+      limits_at i p q = h.limits_are ∙ ap (limits_of us) (sym (alike_key xs at r ends i p q))
 
-      own : (i : ℕ) → at ≤ i → i < r → version_byte n b m.limits t u at i ≡ fate_at us t n b i
+      own : (i : ℕ) → at ≤ i → i < r → version_fate xs m.limits t u at i ≡ fate_at us t xs i
       own i p q =
           elim (either (eqb i at)) [
-            | inl e ↦ rw (e, limits_at i p q) (ap fate_byte (first_fate us t n b u d i (ap (same_key b) (eqb-true i at e) ∙ first)))
-            | inr e ↦ rw (e, limits_at i p q) (ap fate_byte (later_fate us t n b u d i (ends.alike i (omega (arith, eqb-false i at e)) q)))
+            | inl e ↦ rw (e, limits_at i p q) (first_fate us t xs u d i (ap (same_key xs) (eqb-true i at e) ∙ first))
+            | inr e ↦ rw (e, limits_at i p q) (later_fate us t xs u d i (ends.alike i (omega (arith, eqb-false i at e)) q))
           ]
 
-pub ruleset key_cases = (start_midnight, in_order, key_there, older, versions_some, versions_fit, current_few, noncurrent_few, judged_key)
+pub ruleset key_cases = (counts_fit, versions_some, versions_there, versions_fit, current_few, noncurrent_few, judged_key)
 
--- ## The rows of the buffers
+-- ## The rows of the table
 
-rows_next : (n b : List ℕ) (u i : ℕ) → i < u → drop i (rows_of n b u) ≡ row_at n b i ∷ drop (suc i) (rows_of n b u)
-rows_next n b u i h =
-    let e = rows_length n b u in
-    drop-cons (rows_of n b u) i (row_at n b i) (omega arith) ∙ rw (← row_at_lem n b u i (row_at n b i) h)
+rows_next : (xs : List Row) (i : ℕ) → i < length xs → drop i xs ≡ row_no xs i ∷ drop (suc i) xs
+rows_next xs i h = drop-cons xs i spare_row h
 
-rows_end : (n b : List ℕ) (u : ℕ) → drop u (rows_of n b u) ≡ []
-rows_end n b u = let e = rows_length n b u in drop_of_length-le (rows_of n b u) {i = u} (omega arith)
+rows_end : (xs : List Row) → drop (length xs) xs ≡ []
+rows_end xs = drop_of_length-le xs {i = length xs} (omega arith)
 
--- Bytes stored for all rows are those of their fates, and the bytes behind them are as they were.
-stored_all : (us : List model.Rule) (t : ℕ) (n b : List ℕ) (u : ℕ) (entry m : List ℕ) → Stored (fate_at us t n b) 0 u entry m → u ≤ length entry → m ≡ fates_after us t (rows_of n b u) entry
+-- Fates stored for all rows are theirs, and those behind them are as they were.
+stored_all : (us : List model.Rule) (t : ℕ) (xs : List Row) (entry m : List Fate) → Stored (fate_at us t xs) 0 (length xs) entry m → length xs ≤ length entry → m ≡ fates_after us t xs entry
 unfolding fates_after
-stored_all us t n b u entry m h l =
-    let d : take u m ≡ fate_bytes (fates us t none (rows_of n b u)) = rw (rows_end n b u, append-nil) at (done u (omega arith)) in
-    sym (take-append-drop u m) ∙ rw (d, behind, rows_length n b u)
+stored_all us t xs entry m h l =
+    let d : take (length xs) m ≡ fates us t None xs = rw (rows_end xs, append-nil) at (done (length xs) (omega arith)) in
+    sym (take-append-drop (length xs) m) ∙ rw (d, behind)
   where
-    done : (i : ℕ) → i ≤ u → take i m ++ fate_bytes (fates us t (row_before n b i) (drop i (rows_of n b u))) ≡ fate_bytes (fates us t none (rows_of n b u))
+    done : (i : ℕ) → i ≤ length xs → take i m ++ fates us t (row_before xs i) (drop i xs) ≡ fates us t None xs
     done zero g = refl
     done (suc i) g =
-        rw (take-suc m i 0 (omega (arith, h.long)), append_assoc, h.inside i (omega arith) (omega arith)) (sym (rw (rows_next n b u i (omega arith))) ∙ done i (omega arith))
+        rw (take-suc m i Stays (omega (arith, h.long)), append_assoc, h.inside i (omega arith) (omega arith)) (sym (rw (rows_next xs i (omega arith))) ∙ done i (omega arith))
 
-    behind : drop u m ≡ drop u entry
+    behind : drop (length xs) m ≡ drop (length xs) entry
     behind =
-        ext_get_or 0 (drop u m) (drop u entry) (rw (length-drop u m, length-drop u entry, h.long))
-        (λ i _. get_or-drop u m i 0 ∙ h.late (u + i) (omega arith) ∙ sym (get_or-drop u entry i 0))
+        ext_get_or Stays (drop (length xs) m) (drop (length xs) entry) (rw (length-drop (length xs) m, length-drop (length xs) entry, h.long))
+        (λ i _. get_or-drop (length xs) m i Stays ∙ h.late (length xs + i) (omega arith) ∙ sym (get_or-drop (length xs) entry i Stays))
 
 -- ## Where keys begin
 
-module _ (n b : List ℕ) (u : ℕ) where
+module _ (xs : List Row) where
   -- how many keys begin from a position on
   abbrev begin_from : ℕ → ℕ
-  begin_from i = beginnings (row_before n b i) (drop i (rows_of n b u))
+  begin_from i = beginnings (row_before xs i) (drop i xs)
 
-  begin_next : (i : ℕ) (s : Bool) → i < u → same_key b i ≡ s → begin_from i ≡ pick s 0 1 + begin_from (suc i)
-  begin_next i s g e = go i g e
-    where
-      go : (i : ℕ) → i < u → same_key b i ≡ s → begin_from i ≡ pick s 0 1 + begin_from (suc i)
-      go zero g e = rw (rows_next n b u 0 g, sym e ∙ same_none b)
-      go (suc i) g e = rw (rows_next n b u (suc i) g, sym (same_some b i) ∙ e)
+  begin_next : (i : ℕ) (s : Bool) → i < length xs → same_key xs i ≡ s → begin_from i ≡ pick s 0 1 + begin_from (suc i)
+  begin_next zero s g e = rw (rows_next xs 0 g, sym e ∙ same_none xs)
+  begin_next (suc i) s g e = rw (rows_next xs (suc i) g, sym (same_some xs i) ∙ e)
 
   -- In the rows of a key one begins, its own.
-  begin_key : (at r : ℕ) → KeyEnds b u at r → same_key b at ≡ false → begin_from at ≡ 1 + begin_from r
+  begin_key : (at r : ℕ) → KeyEnds xs at r → same_key xs at ≡ false → begin_from at ≡ 1 + begin_from r
   begin_key at r e f =
       let z : suc at + (r - suc at) ≡ r = omega (arith, e.more) in
       begin_next at false (omega (arith, e.more, e.most)) f ∙ ap (λ (x : ℕ). 1 + x) (go (r - suc at) (omega (arith, e.more)) ∙ ap begin_from z)
@@ -185,58 +155,64 @@ module _ (n b : List ℕ) (u : ℕ) where
 
 -- ## The loop over the keys
 
--- what holds at each turn: the fates so far are stored, and the comparisons so far and those of the keys to come are all
-pub record JudgingKeys (us : List model.Rule) (t : ℕ) (n b : List ℕ) (u : ℕ) (entry m : List ℕ) (c i : ℕ) : Type 0 where
-  pub low : i ≤ u
-  pub first : i < u → same_key b i ≡ false
+-- what holds at each turn: the fates so far are stored and counted, and the comparisons so far and those of the keys to come are all
+pub record JudgingKeys (us : List model.Rule) (t : ℕ) (xs : List Row) (entry m : List Fate) (c : Judged) (i : ℕ) : Type 0 where
+  pub low : i ≤ length xs
+  pub first : i < length xs → same_key xs i ≡ false
   pub long : length m ≡ length entry
-  pub stored : Stored (fate_at us t n b) 0 i entry m
-  pub few : c ≤ 8 * i
-  pub counted : c + length us * beginnings (row_before n b i) (drop i (rows_of n b u)) ≡ length us * beginnings none (rows_of n b u)
+  pub stored : Stored (fate_at us t xs) 0 i entry m
+  pub few : c.comparisons ≤ 8 * i
+  pub counts : Counted (take i m) c.counts.removed c.counts.added
+  pub counted : c.comparisons + length us * beginnings (row_before xs i) (drop i xs) ≡ length us * beginnings None xs
 
-pub keys_start : (us : List model.Rule) (t : ℕ) (n b : List ℕ) (u : ℕ) (entry : List ℕ) → JudgingKeys us t n b u entry entry 0 0
-keys_start us t n b u entry =
-    record { low = omega arith; first = λ _. same_none b; long = refl; stored = stored_none (fate_at us t n b) 0 entry; few = omega arith; counted = omega arith }
+pub keys_start : (us : List model.Rule) (t : ℕ) (xs : List Row) (entry : List Fate) → JudgingKeys us t xs entry entry (record { counts = record { removed = 0; added = 0 }; comparisons = 0 }) 0
+keys_start us t xs entry =
+    record { counts = counted_all; low = omega arith; first = λ _. same_none xs; long = refl; stored = stored_none (fate_at us t xs) 0 entry; few = omega arith; counted = omega arith }
 
-module _ (us : List model.Rule) (t : ℕ) (n b : List ℕ) (u : ℕ) (entry m : List ℕ) (c i : ℕ) (h : JudgingKeys us t n b u entry m c i) where
-  pub keys_long : u ≤ length entry → u ≤ length m
+module _ (us : List model.Rule) (t : ℕ) (xs : List Row) (entry m : List Fate) (c : Judged) (i : ℕ) (h : JudgingKeys us t xs entry m c i) where
+  pub keys_long : length xs ≤ length entry → length xs ≤ length m
   keys_long l = omega (arith, h.long)
 
-  pub keys_first : i < u → same_key b i ≡ false
+  pub keys_first : i < length xs → same_key xs i ≡ false
   keys_first = h.first
 
-  pub keys_room : (k : ℕ) → i < u → u ≤ 1024 → k ≤ 8 → c + k ≤ most_comparisons
+  pub keys_counted : Counted (take i m) c.counts.removed c.counts.added
+  keys_counted = h.counts
+
+  pub keys_room : (k : ℕ) → i < length xs → length xs ≤ 1024 → k ≤ 8 → c.comparisons + k ≤ most_comparisons
   keys_room k g l e = omega (arith, h.few)
 
-  pub keys_end : u ≤ i → u ≤ length entry → ordered (rows_of n b u) ≡ true → JudgedAll us t (rows_of n b u) u entry m c
+  pub keys_end : length xs ≤ i → length xs ≤ length entry → ordered xs ≡ true → JudgedAll us t xs entry m c
   keys_end g l o =
-      let e : i ≡ u = omega (arith, h.low) in
-      let s : Stored (fate_at us t n b) 0 u entry m = rw e at h.stored in
-      let k : c + length us * 0 ≡ length us * beginnings none (rows_of n b u) = rw (e, rows_end n b u) at h.counted in
+      let e : i ≡ length xs = omega (arith, h.low) in
+      let s : Stored (fate_at us t xs) 0 (length xs) entry m = rw e at h.stored in
+      let k : c.comparisons + length us * 0 ≡ length us * beginnings None xs = rw (e, rows_end xs) at h.counted in
       record {
-        fates_are = stored_all us t n b u entry m s l;
+        fates_are = stored_all us t xs entry m s l;
         enough = omega (arith, h.long);
-        counted = rw (different_ordered (rows_of n b u) o) (omega (arith, k));
+        counts = rw e at h.counts;
+        compared = rw (different_ordered xs o) (omega (arith, k));
       }
 
-pub keys_step : (p d : List ℕ) (k t : ℕ) (n b : List ℕ) (u : ℕ) (entry m : List ℕ) (c i : ℕ) (m' : List ℕ) (r : KeyDone) → JudgingKeys (rules_in p d k) t n b u entry m c i → k ≤ 8 → i < u
-    → JudgedKey (rules_in p d k) t n b u i c m m' r → JudgingKeys (rules_in p d k) t n b u entry m' r.comparisons r.end
-keys_step p d k t n b u entry m c i m' r h l g j =
+pub keys_step : (rs : List LaidRule) (t : ℕ) (xs : List Row) (entry m : List Fate) (c : Judged) (i : ℕ) (m' : List Fate) (r : KeyDone) → JudgingKeys (rules_in rs) t xs entry m c i → length rs ≤ 8 → i < length xs
+    → JudgedKey (rules_in rs) t xs i c m m' r → JudgingKeys (rules_in rs) t xs entry m' r.judged r.end
+keys_step rs t xs entry m c i m' r h l g j =
     record {
       low = j.ends.most;
       first = j.ends.other;
       long = j.stored.long ∙ h.long;
-      stored = stored_more (fate_at (rules_in p d k) t n b) i r.end entry m m' h.stored (omega (arith, j.ends.more)) j.stored;
-      few = omega (arith, h.few, j.counted, j.ends.more, rules_length p d k);
-      counted = omega (arith, j.counted, h.counted, one_key);
+      stored = stored_more (fate_at (rules_in rs) t xs) i r.end entry m m' h.stored (omega (arith, j.ends.more)) j.stored;
+      few = omega (arith, h.few, j.compared, j.ends.more, length-map rs rule_of);
+      counts = j.counts;
+      counted = omega (arith, j.compared, h.counted, one_key);
     }
   where
-    one_key : length (rules_in p d k) * begin_from n b u i ≡ length (rules_in p d k) * begin_from n b u r.end + length (rules_in p d k)
+    one_key : length (rules_in rs) * begin_from xs i ≡ length (rules_in rs) * begin_from xs r.end + length (rules_in rs)
     one_key =
-        let q : 1 + begin_from n b u r.end ≡ suc (begin_from n b u r.end) = omega arith in
-        ap (λ (y : ℕ). length (rules_in p d k) * y) (begin_key n b u i r.end j.ends (h.first g) ∙ q) ∙ mul-suc (length (rules_in p d k)) (begin_from n b u r.end)
+        let q : 1 + begin_from xs r.end ≡ suc (begin_from xs r.end) = omega arith in
+        ap (λ (y : ℕ). length (rules_in rs) * y) (begin_key xs i r.end j.ends (h.first g) ∙ q) ∙ mul-suc (length (rules_in rs)) (begin_from xs r.end)
 
-pub ruleset keys_cases = (keys_start, keys_long, keys_first, keys_room, keys_step, keys_end)
+pub ruleset keys_cases = (keys_start, keys_long, keys_first, keys_counted, keys_room, keys_step, keys_end)
 
 -- ## The rules that are set
 
@@ -246,40 +222,38 @@ applying_set us k = keep_narrower _ is_set (λ u e. and_l (is_set u) _ e) us
 
 fates_set : (us : List model.Rule) (t : ℕ) (y : Option Row) (xs : List Row) → fates (set_rules us) t y xs ≡ fates us t y xs
 fates_set us t y [] = refl
-fates_set us t none (x ∷ xs) = rw (applying_set us x.key, fates_set us t (some x) xs)
-fates_set us t (some y) (x ∷ xs) = rw (applying_set us x.key, fates_set us t (some x) xs)
+fates_set us t None (x ∷ xs) = rw (applying_set us x.key, fates_set us t (Some x) xs)
+fates_set us t (Some y) (x ∷ xs) = rw (applying_set us x.key, fates_set us t (Some x) xs)
 
 few_set : (us : List model.Rule) → all few_days us ≡ true → all few_days (set_rules us) ≡ true
 few_set us e = all_keep few_days is_set us e
 
-module _ (p d : List ℕ) (k : ℕ) (us : List model.Rule) (l : Laid p d k (set_rules us)) (d' : List ℕ) (bs : BoundsLaid p d k d') where
-  laid_are : rules_in p d' k ≡ set_rules us
-  laid_are = bs.kept ∙ l.are
+module _ (rs : List LaidRule) (us : List model.Rule) (laid : rules_in rs ≡ set_rules us) where
+  pub laid_days : all few_days us ≡ true → all few_days (rules_in rs) ≡ true
+  laid_days e = ap (all few_days) laid ∙ few_set us e
 
-  pub laid_few : all few_days us ≡ true → all few_days (rules_in p d' k) ≡ true
-  laid_few e = ap (all few_days) laid_are ∙ few_set us e
-
-  module _ (t : ℕ) (n b : List ℕ) (u : ℕ) (entry exit : List ℕ) (c : ℕ) (h : JudgedAll (rules_in p d' k) t (rows_of n b u) u entry exit c) where
-    pub judged_laid : (r : Counts) → Counted exit u r.removed r.added → JudgedRows us t (rows_of n b u) u entry exit r
+  module _ (t : ℕ) (xs : List Row) (entry exit : List Fate) (r : Judged) (h : JudgedAll (rules_in rs) t xs entry exit r) where
+    pub judged_laid : JudgedRows us t xs entry exit r.counts
     unfolding fates_after
-    judged_laid r g =
-        let f : exit ≡ fates_after us t (rows_of n b u) entry = h.fates_are ∙ rw (laid_are, fates_set us t none (rows_of n b u)) in
-        let e : fates_in (take u exit) ≡ fates us t none (rows_of n b u) =
-        ap (λ (j : ℕ). fates_in (take j exit)) (sym (rows_length n b u)) ∙ rw f (fates_after_lem us t (rows_of n b u) entry) in
+    judged_laid =
+        let f : exit ≡ fates_after us t xs entry = h.fates_are ∙ rw (laid, fates_set us t None xs) in
+        let e : take (length xs) exit ≡ fates us t None xs = rw f (fates_after_lem us t xs entry) in
+        let l = length-take-le (length xs) exit h.enough in
         record {
           fates_are = f;
-          removed = record { is = rw e at g.gone.is; most = g.gone.most };
-          added = record { is = rw e at g.come.is; most = g.come.most };
+          removed = record { is = rw e at h.counts.gone.is; most = omega (arith, h.counts.gone.most) };
+          added = record { is = rw e at h.counts.come.is; most = omega (arith, h.counts.come.most) };
         }
 
-    pub judged_compared : c ≡ comparisons us (rows_of n b u)
+    pub judged_compared : r.comparisons ≡ comparisons us xs
     unfolding comparisons
-    judged_compared = h.counted ∙ rw laid_are
+    judged_compared = h.compared ∙ rw laid
 
-pub laid_places : (p d : List ℕ) (k : ℕ) (us : List model.Rule) → Laid p d k us → Places p d k
-laid_places p d k us l = l.places
+-- The same of an instant that is told otherwise.
+pub judged_on : (us : List model.Rule) (s t : ℕ) (xs : List Row) (entry exit : List Fate) (r : Counts) → s ≡ t → JudgedRows us s xs entry exit r → JudgedRows us t xs entry exit r
+judged_on us s t xs entry exit r e h = rw e at h
 
-pub laid_rules : (p d : List ℕ) (k : ℕ) (d' : List ℕ) → BoundsLaid p d k d' → Rules p d' k
-laid_rules p d k d' bs = bs.rules
+pub laid_few : (n : ℕ) (rs : List LaidRule) → n ≤ 8 → length (take n rs) ≤ 8
+laid_few n rs h = omega (arith, length-take n rs)
 
-pub ruleset laid_cases = (laid_most, laid_places, laid_rules, laid_few, judged_laid, judged_compared)
+pub ruleset laid_cases = (laid_few, laid_days, judged_laid, judged_compared)

@@ -1,6 +1,6 @@
-pub mod Keys
 pub mod Least
-pub mod Flat
+pub mod Bounds
+pub mod LaidRules
 pub mod Fates
 pub mod Days
 pub mod Judging

@@ -1,42 +1,47 @@
 -- Laws by case of finding a page's start and end.
-use Prim.Native.Nat.{ℕ, suc, ◌+◌, ◌≤◌, ◌<◌, min}
+use Prim.Native.Nat.{ℕ, suc, ◌+◌, ◌-◌, ◌≤◌, ◌<◌, min, max}
 use mathlib.Core.Path.{◌≡◌, refl, sym, ◌∙◌, ap}
-use mathlib.Core.Logic.{inl, inr}
-use mathlib.Core.Bool.{Bool, true, false, not}
+use mathlib.Core.Logic.{◌⊎◌, inl, inr}
+use mathlib.Core.Bool.{Bool, true, false, not, ◌&&◌, false≢true}
 use mathlib.Core.List.{List, [], ◌∷◌}
+use lib.ListN.{length}
 use native.Mathlib.Omega.{arith}
 use mir.Syntax.{w64}
 use mir.Val.{Fits}
 use native.Mathlib.Numerals.{add-one}
 use lib.Dec.{eqb, leb, ltb}
-use borrow.Author.Tests.{eqb-true, eqb-false, ne_eqb, leb-true, ltb-false, lt-ltb}
+use borrow.Author.Tests.{eqb-true, eqb-false, ne_eqb, leb-true, ltb-true, ltb-false, lt-ltb, not-true}
 use Rattle.buffers.specs.Choices.{then_some}
-use Rattle.buffers.specs.Lists.{same, begins, all}
+use Rattle.buffers.specs.Lists.{same, all}
 use Rattle.buffers.specs.Ranges.{Within, Span}
 use Rattle.buffers.proofs.Tests.{either, and_i, and_l, and_r, or_l, or_r, or_none}
 use Rattle.buffers.proofs.Lists.{same_path, same_sym}
-use Rattle.table.specs.Layout.{row_at, rows_of}
-use Rattle.table.specs.Places.{key_at}
-use Rattle.table.proofs.Held.{rows_length}
+use Rattle.table.specs.Contents.{row_no}
 use Rattle.model.specs.Rows.{Row, before, ahead, ordered}
-use Rattle.model.specs.Pages.{comes_after}
+use Rattle.model.specs.Pages.{matches, comes_after}
 use Rattle.model.proofs.Order.{before_or, ahead_irrefl, ahead_asym, version_row}
 use Rattle.model.proofs.Pages.{after_version}
-use Rattle.search.specs.Places.{leading, nth_row, found_if, key_place, version_place, version_in}
-use Rattle.search.specs.Searching.{Searchable}
-use Rattle.search.specs.declared.Found.{Found}
-use Rattle.search.specs.declared.Found.TheVariants.{At, Place}
-use Rattle.search.proofs.Positions.{rows_row, leading_most, leading_as, none_lead, version_used, version_free}
-use Rattle.search.proofs.Halving.{leading_stops, leading_passes, key_ahead, Between, middle, middle_length, has_version}
-use Rattle.listing.specs.Places.{place_after, page_start, up_to, prefix_end, page_end, Ends}
+use Rattle.search.specs.Places.{leading, nth_row, found_if, key_place, version_place, version_in, place_found}
+use Rattle.std.specs.Prelude.{Result}
+use Rattle.std.specs.Prelude.{Ok, Err}
+use Rattle.search.proofs.Positions.{row_there, leading_most, leading_as, none_lead, version_used, version_free}
+use Rattle.search.specs.Halving.{Halved}
+use Rattle.search.proofs.Halving.{leading_stops, leading_passes, key_ahead, halved_most}
+use Rattle.std.specs.declared.cmp.Ordering.{Ordering}
+use Rattle.std.specs.declared.cmp.Ordering.TheVariants.{Less, Equal, Greater}
+use Rattle.listing.specs.Places.{place_after, page_start, up_to, prefix_end, page_end, is_prefix_order, Ends}
 use Rattle.listing.proofs.Order.{before_first, up_to_falls}
 
 -- ## The place after a key and a version
 
+-- the row is the version
+abbrev has_version : List ℕ → ℕ → Row → Bool
+has_version k v x = same x.key k && eqb x.number v
+
 -- behind the row that was found, or at the place where it belongs
-abbrev behind_found : Found → ℕ
-behind_found (At i) = suc i
-behind_found (Place i) = i
+abbrev behind_found : Result ℕ ℕ → ℕ
+behind_found (Ok i) = suc i
+behind_found (Err i) = i
 
 module _ (k : List ℕ) (v : ℕ) (given : eqb v 0 ≡ false) where
   -- After the version come the rows that its own row is ahead of.
@@ -86,103 +91,73 @@ module _ (k : List ℕ) (v : ℕ) (given : eqb v 0 ≡ false) where
   unfolding version_in version_place place_after
   version_after xs o = found_after xs o
 
-module _ (n b : List ℕ) (u : ℕ) (k : List ℕ) (v : ℕ) where
-  pub after_none : (r : ℕ) → v ≡ 0 → Within r (key_place k (rows_of n b u)) u → Within r (place_after k v (rows_of n b u)) u
+module _ (xs : List Row) (k : List ℕ) (v : ℕ) where
+  pub after_none : (r : ℕ) → v ≡ 0 → Within r (key_place k xs) (length xs) → Within r (place_after k v xs) (length xs)
   unfolding place_after key_place
   after_none r z w =
-      record { is = w.is ∙ rw z (leading_as (λ x. before x.key k) (λ x. not (comes_after k 0 x)) (λ x. sym (before_first k x)) (rows_of n b u)); most = w.most }
+      record { is = w.is ∙ rw z (leading_as (λ x. before x.key k) (λ x. not (comes_after k 0 x)) (λ x. sym (before_first k x)) xs); most = w.most }
 
-  module _ (s : Searchable n b u) (h : v ≡ 0 → ⊥) (r : Found) (i : ℕ) (e : r ≡ version_in k v (rows_of n b u)) where
-    pub after_at : r ≡ At i → Within (i + 1) (place_after k v (rows_of n b u)) u
-    after_at t =
-        record { is = rw add-one (ap behind_found (sym t ∙ e) ∙ version_after k v (ne_eqb v 0 h) (rows_of n b u) s.in_order); most = omega (arith, version_used n b u k r i v e t) }
+  module _ (o : ordered xs ≡ true) (h : v ≡ 0 → ⊥) (r : Result ℕ ℕ) (i : ℕ) (e : r ≡ version_in k v xs) where
+    pub after_at : r ≡ Ok i → Within (i + 1) (place_after k v xs) (length xs)
+    after_at t = record { is = rw add-one (ap behind_found (sym t ∙ e) ∙ version_after k v (ne_eqb v 0 h) xs o); most = omega (arith, version_used xs k r i v e t) }
 
-    pub after_place : r ≡ Place i → Within i (place_after k v (rows_of n b u)) u
-    after_place t = record { is = ap behind_found (sym t ∙ e) ∙ version_after k v (ne_eqb v 0 h) (rows_of n b u) s.in_order; most = version_free n b u k r i v e t }
+    pub after_place : r ≡ Err i → Within i (place_after k v xs) (length xs)
+    after_place t = record { is = ap behind_found (sym t ∙ e) ∙ version_after k v (ne_eqb v 0 h) xs o; most = version_free xs k r i v e t }
 
 -- A place at most one behind a row that is found fits; of any such place, so that the wrong one fails by its place.
-pub after_fits : (n b : List ℕ) (u : ℕ) (k : List ℕ) (v : ℕ) (r : Found) (i j : ℕ) → r ≡ version_in k v (rows_of n b u) → r ≡ At i → leb j 1 ≡ true → Fits w64 u → Fits w64 (i + j)
-after_fits n b u k v r i j e t h f = let g = version_used n b u k r i v e t in let l = leb-true j 1 h in let m : i + j ≤ u = omega arith in omega (arith, f)
+pub after_fits : (xs : List Row) (k : List ℕ) (v : ℕ) (r : Result ℕ ℕ) (i j u : ℕ) → r ≡ version_in k v xs → r ≡ Ok i → leb j 1 ≡ true → u ≡ length xs → Fits w64 u → Fits w64 (i + j)
+after_fits xs k v r i j u e t h l f = let g = version_used xs k r i v e t in let k = leb-true j 1 h in let m : i + j ≤ u = omega arith in omega (arith, f)
 
 pub ruleset after_cases = (after_none, after_at, after_place)
 
 -- ## The page's start
 
-module _ (p k : List ℕ) (v u : ℕ) (xs : List Row) (f a : ℕ) (x : Within f (key_place p xs) u) (y : Within a (place_after k v xs) u) where
-  pub start_after : f < a → Within a (page_start p k v xs) u
-  unfolding page_start
-  start_after h = record { is = omega (arith, x.is, y.is); most = y.most }
-
-  pub start_first : a ≤ f → Within f (page_start p k v xs) u
-  unfolding page_start
-  start_first h = record { is = omega (arith, x.is, y.is); most = x.most }
-
-pub ruleset start_cases = (start_after, start_first)
+-- The later of the two places.
+pub start_within : (p k : List ℕ) (v u : ℕ) (xs : List Row) (f a r : ℕ) → Within f (key_place p xs) u → Within a (place_after k v xs) u → r ≡ max f a → Within r (page_start p k v xs) u
+unfolding page_start
+start_within p k v u xs f a r x y e = record { is = omega (arith, x.is, y.is); most = omega (arith, x.most, y.most) }
 
 -- ## The page's end
 
--- what holds at each turn: the page's end is from low to high
-pub record Ending (n b p : List ℕ) (u start count low high : ℕ) : Type 0 where
-  pub between : Between n b u (page_end p start count (rows_of n b u)) low high
-  pub begun : Span (key_place p (rows_of n b u)) start low
-  pub few : high ≤ start + count
+module _ (xs : List Row) (p : List ℕ) (start count : ℕ) (o : ordered xs ≡ true) (s : Span (key_place p xs) start (length xs)) (answers : ℕ → Ordering → Type 0)
+    (says : (i : ℕ) (r : Ordering) → answers i r → is_prefix_order r p (row_no xs i) ≡ true) where
+  -- A row from the prefix's place on has no key before the prefix.
+  not_before : (i : ℕ) → i < length xs → start ≤ i → before (row_no xs i).key p ≡ false
+  unfolding key_place
+  not_before i h l =
+      elim (either (before (row_no xs i).key p)) [
+        | inr t ↦ t
+        | inl t ↦ absurd (omega (arith, s.from, leading_passes (λ x. before x.key p) (key_ahead p) xs i (row_no xs i) o (row_there xs i h) t))
+      ]
 
-module _ (n b p : List ℕ) (u start count : ℕ) where
-  pub ending_start : (h : ℕ) → Searchable n b u → Span (key_place p (rows_of n b u)) start u → Within h (min (start + count) u) u → Ending n b p u start count start h
-  unfolding page_end prefix_end
-  ending_start h s f w =
-      let most = leading_most (up_to p) (rows_of n b u) in
-      let long = rows_length n b u in
-      record {
-        between = record { searchable = s; top = w.most; from = omega arith; to = omega (arith, w.is, f.to) };
-        begun = record { from = f.from; to = omega arith };
-        few = omega (arith, w.is);
-      }
+  -- Where the halving ends, the prefix's rows end, or so many rows.
+  module _ (end : ℕ) (e : end ≡ start + min count (length xs - start)) (r : Result ℕ ℕ) (w : Halved answers start end r) where
+    -- so many rows of the prefix are in front
+    in_front : place_found r ≤ page_end p start count xs
+    unfolding page_end prefix_end
+    in_front =
+        elim (either (ltb start (place_found r))) [
+          | inl t ↦
+              let most = halved_most (up_to p) (up_to_falls p) xs o answers (λ i a. or_r (before (row_no xs i).key p) _ (says i Less a)) start end r (omega (arith, s.to)) w (ltb-true start (place_found r) t) in
+              omega (arith, most, w.to)
+          | inr t ↦ omega (arith, ltb-false start (place_found r) t)
+        ]
 
-  module _ (low high : ℕ) (w : Ending n b p u start count low high) where
-    pub ending_is : high ≤ low → Ends start count low (page_end p start count (rows_of n b u)) u
-    ending_is h =
-        let m = w.between in
-        record { is = omega (arith, m.from, m.to); from = w.begun.to; few = omega (arith, w.few, m.from, m.to); to = omega (arith, m.top, m.from, m.to) }
+    at_end : (i : ℕ) → r ≡ Err i → page_end p start count xs ≤ i
+    unfolding page_end prefix_end
+    at_end i t =
+        let here : place_found r ≡ i = ap place_found t in
+        elim (either (ltb i end)) [
+          | inl u ↦
+              let below : i < length xs = omega (arith, ltb-true i end u, s.to) in
+              let last : matches p (row_no xs i) ≡ false = not-true _ (says i Greater (w.missing i t (ltb-true i end u))) in
+              let stop = leading_stops (up_to p) xs i (row_no xs i) (row_there xs i below) (rw (not_before i below (omega (arith, w.from)), last)) in
+              omega (arith, w.from, stop)
+          | inr u ↦ omega (arith, w.to, ltb-false i end u, leading_most (up_to p) xs)
+        ]
 
-    module _ (h : low < high) where
-      below : middle low high < u
-      below = omega (arith, w.between.top)
-
-      module _ (r : Bool) (key : List ℕ) (e : r ≡ begins p key) (f : key ≡ key_at b (middle low high)) where
-        pub ending_passed : r ≡ true → Ending n b p u start count (middle low high + 1) high
-        unfolding page_end prefix_end
-        ending_passed t =
-            let m : begins p (key_at b (middle low high)) ≡ true = rw f at (sym e ∙ t) in
-            let past = leading_passes (up_to p) (up_to_falls p) (rows_of n b u) (middle low high) (row_at n b (middle low high)) w.between.searchable.in_order
-            (rows_row n b u (middle low high) below) (or_r (before (key_at b (middle low high)) p) _ m) in
-            record {
-              between = record { searchable = w.between.searchable; top = w.between.top; from = omega (arith, w.few, w.begun.to); to = w.between.to };
-              begun = record { from = w.begun.from; to = omega (arith, w.begun.to) };
-              few = w.few;
-            }
-
-        -- A row from the prefix's place on has no key before the prefix.
-        not_before : before (key_at b (middle low high)) p ≡ false
-        unfolding key_place
-        not_before =
-            elim (either (before (key_at b (middle low high)) p)) [
-              | inr t ↦ t
-              | inl t ↦
-                  let past = leading_passes (λ x. before x.key p) (key_ahead p) (rows_of n b u) (middle low high) (row_at n b (middle low high)) w.between.searchable.in_order
-                  (rows_row n b u (middle low high) below) t in
-                  absurd (omega (arith, w.begun.from, w.begun.to))
-            ]
-
-        pub ending_stopped : r ≡ false → Ending n b p u start count low (middle low high)
-        unfolding page_end prefix_end
-        ending_stopped t =
-            let m : begins p (key_at b (middle low high)) ≡ false = rw f at (sym e ∙ t) in
-            let stop = leading_stops (up_to p) (rows_of n b u) (middle low high) (row_at n b (middle low high)) (rows_row n b u (middle low high) below) (rw (not_before, m)) in
-            record {
-              between = record { searchable = w.between.searchable; top = omega (arith, below); from = w.between.from; to = omega (arith, w.begun.to) };
-              begun = w.begun;
-              few = omega (arith, w.few);
-            }
-
-pub ruleset ending_cases = (ending_start, ending_is, middle_length, ending_passed, ending_stopped)
+    pub ends_found : (i : ℕ) → (r ≡ Ok i) ⊎ (r ≡ Err i) → Ends start count i (page_end p start count xs) (length xs)
+    ends_found i (inl t) = absurd (false≢true (says i Equal (w.found i t)))
+    ends_found i (inr t) =
+        let here : place_found r ≡ i = ap place_found t in
+        record { is = omega (arith, in_front, at_end i t); from = omega (arith, w.from); few = omega (arith, w.to); to = omega (arith, w.to, s.to) }

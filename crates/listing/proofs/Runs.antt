@@ -15,8 +15,7 @@ use Rattle.model.specs.Requests.{page}
 use Rattle.model.specs.Pages.{matches, comes_after, rows_after_place, page_rows}
 use Rattle.model.proofs.Order.{ordered_drop}
 use Rattle.model.proofs.Pages.{from_start}
-use Rattle.table.specs.Layout.{row_at, rows_of}
-use Rattle.table.proofs.Held.{rows_length, row_at_lem}
+use Rattle.table.specs.Contents.{spare_row, row_no}
 use Rattle.search.specs.Places.{leading, key_place}
 use Rattle.search.proofs.Positions.{none_lead}
 use Rattle.search.proofs.Halving.{key_ahead}
@@ -126,16 +125,14 @@ prefix_run p xs count start end l o e f =
 -- ## Row by row
 
 -- the rows from start on and before i
-abbrev pub run : List ℕ → List ℕ → ℕ → ℕ → ℕ → List Row
-run rows keys used start i = take (i - start) (drop start (rows_of rows keys used))
+abbrev pub run : List Row → ℕ → ℕ → List Row
+run xs start i = take (i - start) (drop start xs)
 
 -- A row more at the end.
-pub run_next : (n b : List ℕ) (u start i : ℕ) → start ≤ i → i < u → run n b u start (i + 1) ≡ run n b u start i ++ row_at n b i ∷ []
-run_next n b u start i h l =
-    let xs = drop start (rows_of n b u) in
-    let z : Row = row_at n b i in
+pub run_next : (xs : List Row) (start i : ℕ) → start ≤ i → i < length xs → run xs start (i + 1) ≡ run xs start i ++ row_no xs i ∷ []
+run_next xs start i h l =
     let q : i + 1 - start ≡ suc (i - start) = omega arith in
     let s : start + (i - start) ≡ i = omega arith in
-    let here : get_or xs (i - start) z ≡ z = get_or-drop start (rows_of n b u) (i - start) z ∙ rw s (sym (row_at_lem n b u i z l)) in
-    let below : i - start < length xs = rw (length-drop start (rows_of n b u), rows_length n b u) (omega arith) in
-    rw q (take-suc xs (i - start) z below ∙ ap (λ (x : Row). take (i - start) xs ++ x ∷ []) here)
+    let here : get_or (drop start xs) (i - start) spare_row ≡ row_no xs i = get_or-drop start xs (i - start) spare_row ∙ rw s in
+    let below : i - start < length (drop start xs) = rw (length-drop start xs) (omega arith) in
+    rw q (take-suc (drop start xs) (i - start) spare_row below ∙ ap (λ (x : Row). run xs start i ++ x ∷ []) here)

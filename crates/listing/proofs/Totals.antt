@@ -1,50 +1,51 @@
 -- Laws of REPORT's totals: a row more, and all rows of a run.
-use Prim.Native.Nat.{ℕ, ◌+◌, ◌-◌, ◌*◌, ◌≤◌, ◌<◌}
+use Prim.Native.Nat.{ℕ, ◌+◌, ◌-◌, ◌≤◌, ◌<◌}
 use mathlib.Core.Path.{◌≡◌, sym, ◌∙◌, ap, ap₂, subst}
 use mathlib.Core.Logic.{inl, inr}
 use mathlib.Core.Bool.{Bool, true, false}
 use mathlib.Core.List.{List, [], ◌∷◌, ◌++◌}
 use native.Mathlib.Omega.{arith}
 use native.Mathlib.Nat.{add-zero}
+use lib.Dec.{eqb}
 use lib.ListN.{length, length-append}
-use borrow.Author.Tests.{eq-eqb, ne_eqb}
+use borrow.Author.Tests.{eq-eqb, ne_eqb, eqb-true, eqb-false}
 use Rattle.buffers.specs.Choices.{pick}
 use Rattle.buffers.specs.Lists.{keep, total}
 use Rattle.buffers.specs.Ranges.{Within, Span}
 use Rattle.buffers.specs.Writes.{Wrote}
 use Rattle.buffers.proofs.Tests.{either}
 use Rattle.buffers.proofs.Lists.{keep_append, total_append}
-use Rattle.model.specs.Rows.{Row, is_data, is_marker, largest_size}
+use Rattle.model.specs.Rows.{Row, ordered, is_data, is_marker, largest_size}
 use Rattle.model.specs.Locks.{locked}
 use Rattle.model.specs.Reports as model
 use Rattle.model.specs.Reports.{is_locked_data, totals, totals_of}
 use Rattle.model.specs.Pages.{matches}
 use Rattle.model.specs.Answers.{reported}
-use Rattle.table.specs.Layout.{row_at, rows_of}
-use Rattle.table.specs.Places.{row_from, row_numbers, key_at}
+use Rattle.table.specs.Contents.{row_no, numbers_in_row}
+use Rattle.table.specs.Places.{row_from}
 use Rattle.table.specs.declared.Numbers.{Numbers}
-use Rattle.table.proofs.Held.{rows_length}
 use Rattle.search.specs.Places.{key_place}
 use Rattle.answers.specs.declared.Totals.{Totals}
 use Rattle.answers.specs.Text.{longest_answer, answer_text}
 use Rattle.answers.specs.Meaning.{totals_mean}
 use Rattle.listing.specs.Places.{page_end, Ends}
 use Rattle.listing.specs.Totals.{with_row, Bounded, Countable}
-use Rattle.listing.specs.Ready.{Reportable}
 use Rattle.listing.proofs.Runs.{run, run_next, prefix_run}
 
 -- ## A row more
 
 module _ (t : Totals) (n : Numbers) (instant : ℕ) where
-  pub data_more : (b : Bool) (l : ℕ) → n.kind ≡ 1 → ((k : List ℕ) → b ≡ locked instant false (row_from n k)) → Within l (pick b 1 0) 1 → (k : List ℕ)
+  pub data_more : (d : Bool) → ((k : List ℕ) → d ≡ is_data (row_from n k)) → d ≡ true → (b : Bool) → ((k : List ℕ) → b ≡ locked instant false (row_from n k)) → (l : ℕ) → l ≡ pick b 1 0 → (k : List ℕ)
       → totals_mean (record { versions = t.versions + 1; markers = t.markers; size = t.size + n.size; locked = t.locked + l }) ≡ with_row instant (row_from n k) (totals_mean t)
-  data_more b l d f e k = rw (e.is, f k, eq-eqb n.kind 1 d, ne_eqb n.kind 2 (λ q. omega arith), add-zero)
+  data_more d f e b g l h k =
+      let q : n.kind ≡ 1 = eqb-true n.kind 1 (sym (f k) ∙ e) in
+      rw (h, g k, eq-eqb n.kind 1 q, ne_eqb n.kind 2 (λ z. omega arith), add-zero)
 
-  pub marker_more : (n.kind ≡ 1 → ⊥) → ((n.kind ≡ 1 → ⊥) → n.kind ≡ 2) → (k : List ℕ)
+  pub marker_more : (d : Bool) → ((k : List ℕ) → d ≡ is_data (row_from n k)) → d ≡ false → ((n.kind ≡ 1 → ⊥) → n.kind ≡ 2) → (k : List ℕ)
       → totals_mean (record { versions = t.versions; markers = t.markers + 1; size = t.size; locked = t.locked }) ≡ with_row instant (row_from n k) (totals_mean t)
-  marker_more d m k = rw (ne_eqb n.kind 1 d, eq-eqb n.kind 2 (m d)) (simp add-zero)
-
-pub ruleset row_cases = (data_more, marker_more)
+  marker_more d f e m k =
+      let q : eqb n.kind 1 ≡ false = sym (f k) ∙ e in
+      rw (q, eq-eqb n.kind 2 (m (eqb-false n.kind 1 q))) (simp add-zero)
 
 -- Of a run with a row more.
 count_more : (p : Row → Bool) (xs : List Row) (x : Row) → length (keep p (xs ++ x ∷ [])) ≡ length (keep p xs) + pick (p x) 1 0
@@ -87,25 +88,25 @@ bounded_more c t r now x b s e =
 -- ## All rows of a run
 
 -- what holds at each turn: the rows from start on and before i are counted
-pub record Totalling (rows : List ℕ) (start end instant : ℕ) (t : Totals) (i : ℕ) : Type 0 where
-  pub countable : Countable rows end
+pub record Totalling (xs : List Row) (start end instant : ℕ) (t : Totals) (i : ℕ) : Type 0 where
+  pub countable : Countable xs end
   pub span : Span start i end
   pub bounded : Bounded (i - start) t
-  pub is : (keys : List ℕ) (used : ℕ) → end ≤ used → totals_mean t ≡ totals instant (run rows keys used start i)
+  pub is : totals_mean t ≡ totals instant (run xs start i)
 
-module _ (rows : List ℕ) (start end instant : ℕ) where
-  pub totalling_start : Countable rows end → start ≤ end → Totalling rows start end instant (record { versions = 0; markers = 0; size = 0; locked = 0 }) start
+module _ (xs : List Row) (start end instant : ℕ) where
+  pub totalling_start : Countable xs end → start ≤ end → Totalling xs start end instant (record { versions = 0; markers = 0; size = 0; locked = 0 }) start
   totalling_start c s =
       let none : start - start ≡ 0 = omega arith in
       record {
         countable = c;
         span = record { from = omega arith; to = s };
         bounded = record { versions = omega arith; markers = omega arith; size = omega arith; locked = omega arith };
-        is = λ keys used l. rw none;
+        is = rw none;
       }
 
-  module _ (t : Totals) (i : ℕ) (w : Totalling rows start end instant t i) where
-    pub totalling_end : end ≤ i → (keys : List ℕ) (used : ℕ) → end ≤ used → totals_mean t ≡ totals instant (run rows keys used start end)
+  module _ (t : Totals) (i : ℕ) (w : Totalling xs start end instant t i) where
+    pub totalling_end : end ≤ i → totals_mean t ≡ totals instant (run xs start end)
     totalling_end h = let q : i ≡ end = omega (arith, w.span.to) in rw q at w.is
 
     module _ (h : i < end) where
@@ -115,48 +116,46 @@ module _ (rows : List ℕ) (start end instant : ℕ) where
           let few = w.countable.few in
           record { versions = omega (arith, b.versions); markers = omega (arith, b.markers); size = omega (arith, b.size); locked = omega (arith, b.locked) }
 
-      pub row_fits : 8 * i + 8 ≤ length rows
-      row_fits = omega (arith, w.countable.fit)
+      pub row_within : i < length xs
+      row_within = omega (arith, w.countable.there)
 
-      module _ (n : Numbers) (e : n ≡ row_numbers rows i) where
+      module _ (n : Numbers) (e : n ≡ numbers_in_row (row_no xs i)) where
         pub row_sized : n.size ≤ largest_size
         row_sized = rw e (w.countable.sized i h)
 
         pub row_kind : (n.kind ≡ 1 → ⊥) → n.kind ≡ 2
         row_kind = rw e (w.countable.kinds i h)
 
-        pub totalling_more : (r : Totals) → ((k : List ℕ) → totals_mean r ≡ with_row instant (row_from n k) (totals_mean t)) → Totalling rows start end instant r (i + 1)
+        pub totalling_more : (r : Totals) → ((k : List ℕ) → totals_mean r ≡ with_row instant (row_from n k) (totals_mean t)) → Totalling xs start end instant r (i + 1)
         totalling_more r f =
             let one_more : i + 1 - start ≡ i - start + 1 = omega (arith, w.span.from) in
             record {
               countable = w.countable;
               span = record { from = omega (arith, w.span.from); to = omega arith };
               bounded = rw one_more (bounded_more (i - start) t r instant (row_from n []) w.bounded row_sized (f []));
-              is = λ keys used l.
-                  let row : row_from n (key_at keys i) ≡ row_at rows keys i = rw e in
-                  f (key_at keys i) ∙ ap₂ (with_row instant) row (w.is keys used l) ∙ sym (totals_more instant (run rows keys used start i) (row_at rows keys i))
-                  ∙ ap (totals instant) (sym (run_next rows keys used start i w.span.from (omega arith)));
+              is =
+                  let row : row_from n (row_no xs i).key ≡ row_no xs i = rw e in
+                  f (row_no xs i).key ∙ ap₂ (with_row instant) row w.is ∙ sym (totals_more instant (run xs start i) (row_no xs i))
+                  ∙ ap (totals instant) (sym (run_next xs start i w.span.from row_within));
             }
 
-pub ruleset totalling_cases = (totalling_start, totalling_end, row_bounded, row_fits, row_sized, row_kind)
+pub ruleset totalling_cases = (totalling_start, totalling_end, row_bounded, row_within, row_sized, row_kind)
 
 -- ## The rows of a prefix
 
 -- As many of them as a page may have can be counted.
-pub run_countable : (rows keys : List ℕ) (u start count end place : ℕ) → Reportable rows keys u → Ends start count end place u → Countable rows end
-run_countable rows keys u start count end place l e =
-    let c = l.countable in
+pub run_countable : (xs : List Row) (start count end place : ℕ) → Countable xs (length xs) → Ends start count end place (length xs) → Countable xs end
+run_countable xs start count end place c e =
     let to = e.to in
-    record { fit = omega (arith, c.fit); few = omega (arith, c.few); sized = λ i h. c.sized i (omega arith); kinds = λ i h. c.kinds i (omega arith) }
+    record { there = to; few = omega (arith, c.few); sized = λ i h. c.sized i (omega arith); kinds = λ i h. c.kinds i (omega arith) }
 
 -- All of them come to the report.
-pub report_wrote : (rows keys p : List ℕ) (u start end : ℕ) (instant : ℕ) (t : Totals) (out exit : List ℕ) (r : ℕ) → Reportable rows keys u → Within start (key_place p (rows_of rows keys u)) u
-    → Ends start u end (page_end p start u (rows_of rows keys u)) u → ((keys : List ℕ) (used : ℕ) → end ≤ used → totals_mean t ≡ totals instant (run rows keys used start end))
-    → Wrote out 0 (answer_text (reported (totals_mean t))) longest_answer exit r → Wrote out 0 (answer_text (reported (totals_of p instant (rows_of rows keys u)))) longest_answer exit r
-report_wrote rows keys p u start end instant t out exit r l s e f w =
-    let xs = rows_of rows keys u in
-    let all_rows : run rows keys u start end ≡ keep (matches p) xs = prefix_run p xs u start end (rows_length rows keys u) l.searchable.in_order s.is e.is in
+pub report_wrote : (xs : List Row) (p : List ℕ) (u start end : ℕ) (instant : ℕ) (t : Totals) (out exit : List ℕ) (r : ℕ) → ordered xs ≡ true → u ≡ length xs
+    → Within start (key_place p xs) (length xs) → Ends start u end (page_end p start u xs) (length xs) → totals_mean t ≡ totals instant (run xs start end)
+    → Wrote out 0 (answer_text (reported (totals_mean t))) longest_answer exit r → Wrote out 0 (answer_text (reported (totals_of p instant xs))) longest_answer exit r
+report_wrote xs p u start end instant t out exit r o l s e f w =
+    let all_rows : run xs start end ≡ keep (matches p) xs = prefix_run p xs u start end (sym l) o s.is e.is in
     let P : model.Totals → Type 0 = λ z. Wrote out 0 (answer_text (reported z)) longest_answer exit r in
-    subst P (f keys u e.to ∙ ap (totals instant) all_rows) w
+    subst P (f ∙ ap (totals instant) all_rows) w
 
 pub ruleset report_cases = (run_countable, report_wrote)

@@ -51,7 +51,7 @@ pub record Examples : Type 0 where
   pub behind_own : place_after (bytes "q/7") 4 table ≡ 3
   pub without_row : place_after (bytes "q/7") 5 table ≡ 2
   pub no_such_key : place_after (bytes "q/77") 1 table ≡ 3
-  pub behind_all_lem : place_after (bytes "z") 0 table ≡ 5
+  pub behind_every_row : place_after (bytes "z") 0 table ≡ 5
   -- where the prefix's rows end; a prefix that no key has ends where it would start
   pub end_of_q : prefix_end (bytes "q/") table ≡ 4
   pub end_of_all : prefix_end [] table ≡ 5
@@ -89,7 +89,7 @@ examples =
       behind_own = refl;
       without_row = refl;
       no_such_key = refl;
-      behind_all_lem = refl;
+      behind_every_row = refl;
       end_of_q = refl;
       end_of_all = refl;
       end_of_none = refl;

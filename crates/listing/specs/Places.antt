@@ -1,5 +1,7 @@
 -- Where a page's rows stand in an ordered table: one run, from its start to its end.
-use Rattle.std.specs.Prelude.{ℕ, ◌+◌, ◌-◌, ◌≤◌, min, max, ◌≡◌, Bool, not, ◌||◌, List}
+use Rattle.std.specs.Prelude.{ℕ, ◌+◌, ◌-◌, ◌≤◌, min, max, ◌≡◌, Bool, false, not, ◌||◌, List}
+use Rattle.std.specs.declared.cmp.Ordering.{Ordering}
+use Rattle.std.specs.declared.cmp.Ordering.TheVariants.{Less, Equal, Greater}
 use Rattle.model.specs.Rows.{Row, before}
 use Rattle.model.specs.Pages.{matches, comes_after}
 use Rattle.search.specs.Places.{leading, key_place}
@@ -15,6 +17,12 @@ page_start prefix k v xs = max (key_place prefix xs) (place_after k v xs)
 -- the row's key is before the prefix or begins with it
 abbrev pub up_to : List ℕ → Row → Bool
 up_to prefix x = before x.key prefix || matches prefix x
+
+-- what an `Ordering` says of a row and the end of a prefix's rows, from where these begin on
+abbrev pub is_prefix_order : Ordering → List ℕ → Row → Bool
+is_prefix_order Less prefix x = matches prefix x
+is_prefix_order Equal prefix x = false
+is_prefix_order Greater prefix x = not (matches prefix x)
 
 -- behind the last row whose key begins with the prefix
 unfoldable pub prefix_end : List ℕ → List Row → ℕ

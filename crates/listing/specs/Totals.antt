@@ -4,7 +4,7 @@ use Rattle.buffers.specs.Choices.{pick}
 use Rattle.model.specs.Rows.{Row, is_data, is_marker, largest_size}
 use Rattle.model.specs.Reports as model
 use Rattle.model.specs.Reports.{is_locked_data}
-use Rattle.table.specs.Places.{row_numbers}
+use Rattle.table.specs.Contents.{row_no}
 use Rattle.answers.specs.declared.Totals.{Totals}
 
 -- the totals with a row more
@@ -25,8 +25,8 @@ pub record Bounded (count : ℕ) (t : Totals) : Type 0 where
   pub locked : t.locked ≤ count
 
 -- No sum of these rows' numbers is too large, and each row is data or a marker.
-pub record Countable (rows : List ℕ) (end : ℕ) : Type 0 where
-  pub fit : 8 * end ≤ length rows
+pub record Countable (xs : List Row) (end : ℕ) : Type 0 where
+  pub there : end ≤ length xs
   pub few : end ≤ 1024
-  pub sized : (i : ℕ) → i < end → (row_numbers rows i).size ≤ largest_size
-  pub kinds : (i : ℕ) → i < end → ((row_numbers rows i).kind ≡ 1 → ⊥) → (row_numbers rows i).kind ≡ 2
+  pub sized : (i : ℕ) → i < end → (row_no xs i).size ≤ largest_size
+  pub kinds : (i : ℕ) → i < end → ((row_no xs i).kind ≡ 1 → ⊥) → (row_no xs i).kind ≡ 2

@@ -4,7 +4,7 @@ use mathlib.Core.Path.{◌≡◌, refl}
 use mathlib.Core.Logic.{◌⊎◌, inl, inr}
 use mathlib.Core.Bool.{Bool, true, false}
 use mathlib.Core.List.{List}
-use mathlib.Core.Option.{Option, some, none}
+use Rattle.std.specs.Prelude.{Option, Some, None}
 use native.Mathlib.Omega.{arith}
 use lib.Dec.{leb, ltb}
 use borrow.Author.Tests.{not-false}
@@ -26,8 +26,8 @@ pub meant_either : (xs : List Row) (v : Verb) (P : Verb → Type 0) → P v → 
 meant_either xs (Put k body size t) P p r = go (retry_of xs k body size)
   where
     go : (o : Option Row) → P (then_some o (Put k body size t) (λ x. Ask (Repeat (numbered x.number))))
-    go none = p
-    go (some x) = r (numbered x.number)
+    go None = p
+    go (Some x) = r (numbered x.number)
 meant_either xs (Copy n k t) P p r = p
 meant_either xs (Retain n t y) P p r = p
 meant_either xs (Hold n on) P p r = p
@@ -48,7 +48,7 @@ pub record FieldsPass (c : ℕ) (b : Bucket) (g : Context) (now : Now) (v : Verb
   pub whole : sound c b ≡ true
   pub roomy : ltb g.room 256 ≡ false
   pub instant : leb g.clock latest ≡ true
-  pub in_range_lem : in_range v ≡ true
+  pub is_in_range : in_range v ≡ true
   pub not_half : half_given v ≡ false
   pub permitted : lacks_right b.settings.config g.who v ≡ false
   pub page_fits : short_for_page g.room v ≡ false
@@ -68,7 +68,7 @@ pub record Accepted (c : ℕ) (b : Bucket) (g : Context) (now : Now) (w : Verb) 
 pub retry_fields : (c : ℕ) (b : Bucket) (g : Context) (now : Now) (v : Verb) (n : Version) → FieldsPass c b g now v → FieldsPass c b g now (Ask (Repeat n))
 unfolding in_range half_given needs lacks_right short_for_page past_date
 retry_fields c b g now v n p =
-    record { whole = p.whole; roomy = p.roomy; instant = p.instant; in_range_lem = refl; not_half = refl; permitted = refl; page_fits = refl; future = refl }
+    record { whole = p.whole; roomy = p.roomy; instant = p.instant; is_in_range = refl; not_half = refl; permitted = refl; page_fits = refl; future = refl }
 
 fields_meant : (c : ℕ) (b : Bucket) (g : Context) (now : Now) (v : Verb) → FieldsPass c b g now v → FieldsPass c b g now (meant b.rows v)
 fields_meant c b g now v p = meant_either b.rows v (λ w. FieldsPass c b g now w) p (λ n. retry_fields c b g now v n p)
@@ -105,7 +105,7 @@ module _ (c : ℕ) (b : Bucket) (q : Request) where
         whole = not-false _ s1.0;
         roomy = s2.0;
         instant = and_l _ _ ranges;
-        in_range_lem = and_r (leb q.context.clock latest) _ ranges;
+        is_in_range = and_r (leb q.context.clock latest) _ ranges;
         not_half = s4.0;
         permitted = s5.0;
         page_fits = s6.0;
@@ -135,4 +135,4 @@ module _ (c : ℕ) (b : Bucket) (q : Request) where
   accepts l =
       let w = l.written in
       let p = l.meaning in
-      simp (w.whole, w.roomy, w.instant, w.in_range_lem, w.not_half, w.permitted, w.page_fits, w.future, p.present, p.no_marker, p.free, p.in_time, p.unspent, p.fitting)
+      simp (w.whole, w.roomy, w.instant, w.is_in_range, w.not_half, w.permitted, w.page_fits, w.future, p.present, p.no_marker, p.free, p.in_time, p.unspent, p.fitting)

@@ -4,7 +4,7 @@ use mathlib.Core.Path.{◌≡◌, refl, ◌∙◌}
 use mathlib.Core.Logic.{inl, inr}
 use mathlib.Core.Bool.{Bool, true, false, not, ◌&&◌, false≢true}
 use mathlib.Core.List.{List, [], ◌∷◌}
-use mathlib.Core.Option.{Option, some, none}
+use Rattle.std.specs.Prelude.{Option, Some, None}
 use native.Mathlib.Omega.{arith}
 use lib.Dec.{eqb, ltb}
 use borrow.Author.Tests.{eqb-true, eq-eqb, ne_eqb, ltb-true}
@@ -23,7 +23,7 @@ use Rattle.model.proofs.Invariant.{Known, Invariant}
 use Rattle.model.proofs.Placing.{held_as, Under}
 
 -- The one row of a version is carried over where it is data.
-carried_one : (b : Bucket) (v : ℕ) (x : Row) → versions v b.rows ≡ x ∷ [] → carried b v ≡ pick (is_data x) (some x) none
+carried_one : (b : Bucket) (v : ℕ) (x : Row) → versions v b.rows ≡ x ∷ [] → carried b v ≡ pick (is_data x) (Some x) None
 carried_one b v x q = rw q
 
 module _ (c : ℕ) (b : Bucket) (s : sound c b ≡ true) (d : distinct b.rows ≡ true) where
@@ -81,7 +81,7 @@ module _ (c : ℕ) (b : Bucket) (s : sound c b ≡ true) (d : distinct b.rows �
 -- ## Each data row counts
 
 -- What was made before the lines stays made with the same.
-making_stays : (earlier : ℕ → Option Making) (es : List Event) (v : ℕ) (m : Making) → earlier v ≡ some m → making_from earlier es v ≡ some m
+making_stays : (earlier : ℕ → Option Making) (es : List Event) (v : ℕ) (m : Making) → earlier v ≡ Some m → making_from earlier es v ≡ Some m
 making_stays earlier [] v m q = q
 making_stays earlier (e ∷ es) v m q = making_stays (making_after earlier e) es v m (rw q)
 
@@ -89,9 +89,9 @@ pub each_counts : EachCounts
 each_counts b d xs ys x q k es =
     let v = x.number in
     let once : versions v b.rows ≡ x ∷ [] = rw q (differ_alone xs ys x (rw q at d)) in
-    let found : carried b v ≡ some x = carried_one b v x once ∙ rw (eq-eqb x.kind 1 k) in
+    let found : carried b v ≡ Some x = carried_one b v x once ∙ rw (eq-eqb x.kind 1 k) in
     record {
       made = making_stays (carried_making b) es v (making_of x) (rw found);
       under = carried_over (rw found (and_i _ _ (eq-eqb x.mode x.mode refl) (eq-eqb x.until x.until refl))) refl;
-      on_hold_lem = λ h. carried_over (rw found (eq-eqb x.hold 1 h)) refl;
+      was_put_on_hold = λ h. carried_over (rw found (eq-eqb x.hold 1 h)) refl;
     }

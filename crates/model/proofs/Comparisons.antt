@@ -4,7 +4,7 @@ use mathlib.Core.Path.{◌≡◌, refl, sym, ◌∙◌, ap}
 use mathlib.Core.Logic.{inl, inr}
 use mathlib.Core.Bool.{Bool, true, false, not, ◌||◌, false≢true}
 use mathlib.Core.List.{List, [], ◌∷◌}
-use mathlib.Core.Option.{Option, some, none}
+use Rattle.std.specs.Prelude.{Option, Some, None}
 use native.Mathlib.Omega.{arith}
 use lib.ListN.{length}
 use borrow.Author.Tests.{not-true}
@@ -101,8 +101,8 @@ different_many ks ds d =
 -- How many of the rows after y have another key than the row before them.
 abbrev pub beginnings : Option Row → List Row → ℕ
 beginnings y [] = 0
-beginnings none (x ∷ xs) = 1 + beginnings (some x) xs
-beginnings (some y) (x ∷ xs) = pick (same y.key x.key) 0 1 + beginnings (some x) xs
+beginnings None (x ∷ xs) = 1 + beginnings (Some x) xs
+beginnings (Some y) (x ∷ xs) = pick (same y.key x.key) 0 1 + beginnings (Some x) xs
 
 -- No row goes back to an earlier key.
 pub ordered_back : (x y : Row) → ahead x y ≡ true → before y.key x.key ≡ false
@@ -136,7 +136,7 @@ keys_behind x y ys o =
     ]
 
 -- In a table in order there are as many different keys as places where one begins.
-pub different_ordered : (xs : List Row) → ordered xs ≡ true → length (different (row_keys xs)) ≡ beginnings none xs
+pub different_ordered : (xs : List Row) → ordered xs ≡ true → length (different (row_keys xs)) ≡ beginnings None xs
 different_ordered [] o = refl
 different_ordered (x ∷ []) o = refl
 different_ordered (x ∷ y ∷ ys) o =

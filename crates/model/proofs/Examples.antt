@@ -3,7 +3,7 @@ use Prim.Native.Nat.{ℕ, ◌+◌, ◌-◌}
 use mathlib.Core.Path.{◌≡◌, refl}
 use mathlib.Core.Bool.{Bool, true, false}
 use mathlib.Core.List.{List, [], ◌∷◌}
-use mathlib.Core.Option.{Option, some, none}
+use Rattle.std.specs.Prelude.{Option, Some, None}
 use lib.Dec.{lit<}
 use lib.ListN.{take, drop}
 use Rattle.buffers.specs.Texts.{bytes}
@@ -34,21 +34,21 @@ abbrev key : List ℕ
 key = bytes "q/7"
 
 abbrev first : Option Version
-first = some (numbered 1)
+first = Some (numbered 1)
 
 abbrev plain : Terms
-plain = record { retention = no_retention; hold = none }
+plain = record { retention = no_retention; hold = None }
 
 -- 2024-03-01T00:00:00Z, the same day at 6 and at 12, and the day after.
 abbrev lines : List Heard
 lines =
-    line 1709251200000 (Set (DefaultRetention (some compliance) (some (record { count = 1; unit = days }))))
+    line 1709251200000 (Set (DefaultRetention (Some compliance) (Some (record { count = 1; unit = days }))))
     ∷ line 1709251200000 (Put key 41 300 plain)
     ∷ line 1709294400000 (DeleteVersion key (numbered 1) true)
     ∷ line 1709294400000 (AddMarker key false)
     ∷ line 1709272800000 (Ask (Get (name key first)))
     ∷ line 1709337600000 (DeleteVersion key (numbered 1) false)
-    ∷ line 1709337600000 (Ask (Get (name key none)))
+    ∷ line 1709337600000 (Ask (Get (name key None)))
     ∷ []
 
 -- ## The starred examples
@@ -58,13 +58,13 @@ abbrev D : ℕ
 D = 1000000
 
 abbrev until : ℕ → ℕ → Option Bool → Terms
-until m d h = record { retention = record { mode = some m; date = some d }; hold = h }
+until m d h = record { retention = record { mode = Some m; date = Some d }; hold = h }
 
 abbrev put_until : Heard
-put_until = line 1 (Put key 41 300 (until compliance D none))
+put_until = line 1 (Put key 41 300 (until compliance D None))
 
 abbrev retain_until : ℕ → Verb
-retain_until d = Retain (name key first) (record { mode = some compliance; date = some d }) true
+retain_until d = Retain (name key first) (record { mode = Some compliance; date = Some d }) true
 
 -- What the second of two lines gets.
 abbrev second : Heard → Heard → List Reply
@@ -103,7 +103,7 @@ answering_sweep gone come = ok done ∷ ok (made (numbered 1)) ∷ ok (made (num
 
 -- What a PUT of this body and length on hold is answered, in a table of one row that a PUT of 41 and 300 filled.
 abbrev replies_again : ℕ → ℕ → List Reply
-replies_again body size = replies 1 fresh (line 1 (Put key 41 300 plain) ∷ line 2 (Put key body size (record { retention = no_retention; hold = some true })) ∷ [])
+replies_again body size = replies 1 fresh (line 1 (Put key 41 300 plain) ∷ line 2 (Put key body size (record { retention = no_retention; hold = Some true })) ∷ [])
 
 -- What a PUT is answered, then a line of this verb, then the PUT again.
 abbrev sent_after : Verb → List Reply
@@ -117,7 +117,7 @@ report_at t =
     drop 4 (replies 4 fresh
     (put_until
     ∷ line 2 (AddMarker key false)
-    ∷ line 3 (Put (bytes "q/8") 42 301 (record { retention = no_retention; hold = some true }))
+    ∷ line 3 (Put (bytes "q/8") 42 301 (record { retention = no_retention; hold = Some true }))
     ∷ line 3 (Put (bytes "r") 43 302 plain)
     ∷ line t (Ask (Report (bytes "q/")))
     ∷ []))
@@ -134,15 +134,15 @@ four = take 4 lines
 -- A GOVERNANCE lock outlasts a RETAIN of its own that lengthens it, and a refused one that shortens it.
 abbrev governed : List Heard
 governed =
-    line 1 (Put key 41 300 (until governance D none))
-    ∷ line 2 (Retain (name key none) (record { mode = some governance; date = some (D + 5) }) false)
-    ∷ line 3 (Retain (name key none) (record { mode = some governance; date = some D }) false)
+    line 1 (Put key 41 300 (until governance D None))
+    ∷ line 2 (Retain (name key None) (record { mode = Some governance; date = Some (D + 5) }) false)
+    ∷ line 3 (Retain (name key None) (record { mode = Some governance; date = Some D }) false)
     ∷ []
 
 -- A hold outlasts a DELETE with bypass.
-abbrev on_hold_lem : List Heard
-on_hold_lem =
-    line 1 (Put key 41 300 (record { retention = no_retention; hold = some true }))
+abbrev was_put_on_hold : List Heard
+was_put_on_hold =
+    line 1 (Put key 41 300 (record { retention = no_retention; hold = Some true }))
     ∷ line 2 (DeleteVersion key (numbered 1) true)
     ∷ []
 
@@ -168,7 +168,7 @@ sent =
     ∷ line 100 (DeleteVersion (bytes "q/8") (numbered 8) false)
     ∷ line 1000 (DeleteVersion (bytes "q/9") (numbered 2) true)
     ∷ line 1000 (DeleteVersion key (numbered 4294967295) true)
-    ∷ line 1000 (Copy (name (bytes "q/9") none) (bytes "r/1") plain)
+    ∷ line 1000 (Copy (name (bytes "q/9") None) (bytes "r/1") plain)
     ∷ []
 
 abbrev since_old : History
@@ -180,9 +180,9 @@ pub record Carried : Type 0 where
   pub governance_held : Held (run 5 old sent) since_old 8 (InGovernance D)
   pub hold_held : Held (run 5 old sent) since_old 2 OnHold
   -- The copy is made with what its source, carried over, counts as made with.
-  pub copied : made_with since_old 4294967296 ≡ some (record { key = bytes "r/1"; body = 42; size = 301; created = 1000 })
+  pub copied : made_with since_old 4294967296 ≡ Some (record { key = bytes "r/1"; body = 42; size = 301; created = 1000 })
   -- A marker carried over counts as made with nothing.
-  pub marker_unmade : made_with since_old 4294967295 ≡ none
+  pub marker_unmade : made_with since_old 4294967295 ≡ None
 
 -- ## The end of the numbers
 
@@ -218,12 +218,12 @@ pub record Examples : Type 0 where
   pub another_length : replies_again 41 301 ≡ ok (made (numbered 1)) ∷ no 12 ∷ []
   pub marker_on_top : sent_after (AddMarker key false) ≡ ok (made (numbered 1)) ∷ ok (marked (numbered 2)) ∷ ok (made (numbered 3)) ∷ []
   pub other_on_top : sent_after (Put key 42 300 plain) ≡ ok (made (numbered 1)) ∷ ok (made (numbered 2)) ∷ ok (made (numbered 3)) ∷ []
-  pub copied_on_top : sent_after (Copy (name key none) key plain) ≡ ok (made (numbered 1)) ∷ ok (made (numbered 2)) ∷ ok (repeated (numbered 2)) ∷ []
+  pub copied_on_top : sent_after (Copy (name key None) key plain) ≡ ok (made (numbered 1)) ∷ ok (made (numbered 2)) ∷ ok (repeated (numbered 2)) ∷ []
   pub before_its_date : report_at (D - 1) ≡ totalling 2
   pub on_its_date : report_at D ≡ totalling 1
   pub compliance_held : Held (run 1024 fresh four) (since fresh (line_events 1024 fresh four)) 1 (InCompliance 1709337600000)
   pub governance_held : Held (run 1 fresh governed) (since fresh (line_events 1 fresh governed)) 1 (InGovernance D)
-  pub hold_held : Held (run 1 fresh on_hold_lem) (since fresh (line_events 1 fresh on_hold_lem)) 1 OnHold
+  pub hold_held : Held (run 1 fresh was_put_on_hold) (since fresh (line_events 1 fresh was_put_on_hold)) 1 OnHold
   pub carried_over_lem : Carried
   pub last_number : at_the_end ≡ ok (made (numbered 18446744073709551614)) ∷ no 11 ∷ []
 
@@ -249,7 +249,7 @@ examples =
       on_its_date = refl;
       compliance_held = (lock_clause 1024 fresh refl refl four).in_compliance 1 1709337600000 (_ ∷ []) (by_line (_ ∷ []) _ refl refl) (lit< tt);
       governance_held = (lock_clause 1 fresh refl refl governed).in_governance 1 D (_ ∷ []) (by_line [] _ refl refl) refl (lit< tt);
-      hold_held = (lock_clause 1 fresh refl refl on_hold_lem).on_hold 1 [] (by_line [] _ refl refl) refl;
+      hold_held = (lock_clause 1 fresh refl refl was_put_on_hold).on_hold 1 [] (by_line [] _ refl refl) refl;
       carried_over_lem = record {
         answered = refl;
         compliance_held = (lock_clause 5 old refl refl sent).in_compliance 1 D _ (carried_over refl refl) (lit< tt);

@@ -4,7 +4,7 @@ use mathlib.Core.Path.{◌≡◌, refl, sym, ◌∙◌, ap}
 use mathlib.Core.Logic.{inl, inr}
 use mathlib.Core.Bool.{Bool, true, false, not, ◌&&◌, false≢true, and-false, and_comm}
 use mathlib.Core.List.{List, [], ◌∷◌, ◌++◌, append_assoc}
-use mathlib.Core.Option.{Option, some, none}
+use Rattle.std.specs.Prelude.{Option, Some, None}
 use native.Mathlib.Omega.{arith}
 use lib.Dec.{eqb, leb}
 use lib.ListN.{get_or}
@@ -22,7 +22,9 @@ use Rattle.model.specs.Settings.{Rule, Bucket, absent_rule, is_set, sound}
 use Rattle.model.specs.Requests.{Sweep, Context}
 use Rattle.model.specs.Time.{now_of}
 use Rattle.model.specs.Locks.{locked}
-use Rattle.model.specs.Sweep.{marker, applying, due, Fate, stays, goes, gains, current_fate, fate, in_place, marks, swept, counted}
+use Rattle.model.specs.declared.Fate.{Fate}
+use Rattle.model.specs.declared.Fate.TheVariants.{Stays, Goes, Gains}
+use Rattle.model.specs.Sweep.{marker, applying, due, current_fate, fate, in_place, marks, swept, counted}
 use Rattle.model.specs.Effects.{row_of, same_version, rows_after, after}
 use Rattle.model.specs.Expiry.{Expired, by_number, by_key, CurrentExpired, NoncurrentExpired, SweptByMidnights}
 use Rattle.model.proofs.Sweeping.{last_of, last_of_lem, swept_append, all_swept}
@@ -95,16 +97,16 @@ module _ (rules : List Rule) (now : Now) (p : Row → Bool) (lo : ℕ) (fails : 
 
   -- So the first that passes is looked for behind them.
   first_behind : (n : ℕ) (early rest : List Row) → lo ≤ n → all (λ x. not (p x)) early ≡ true
-      → first p (swept rules now n none (early ++ rest)) ≡ first p (swept rules now (n + counted marks rules now.judge none early) (last_of none early) rest)
-  first_behind n early rest l e = ap (first p) (swept_append rules now n none early rest) ∙ first_skip p (swept rules now n none early) _ (none_left n none early l e)
+      → first p (swept rules now n None (early ++ rest)) ≡ first p (swept rules now (n + counted marks rules now.judge None early) (last_of None early) rest)
+  first_behind n early rest l e = ap (first p) (swept_append rules now n None early rest) ∙ first_skip p (swept rules now n None early) _ (none_left n None early l e)
 
 -- ## Under its own number
 
 -- What a fate leaves of the row itself.
 abbrev left_by : Fate → Row → Option Row
-left_by stays x = some x
-left_by goes x = none
-left_by gains x = some x
+left_by Stays x = Some x
+left_by Goes x = None
+left_by Gains x = Some x
 
 module _ (rules : List Rule) (now : Now) (x : Row) (next : ℕ) (below : x.number < next) where
   -- A marker has a higher number.
@@ -115,38 +117,38 @@ module _ (rules : List Rule) (now : Now) (x : Row) (next : ℕ) (below : x.numbe
         | inr t ↦ rw t
       ]
 
-  left_in_place : (f : Fate) (n : ℕ) (rest : List Row) → next ≤ n → first (same_version x) rest ≡ none → first (same_version x) (in_place f now.stamp n x ++ rest) ≡ left_by f x
-  left_in_place stays n rest l e = rw (version_refl x)
-  left_in_place goes n rest l e = e
-  left_in_place gains n rest l e =
+  left_in_place : (f : Fate) (n : ℕ) (rest : List Row) → next ≤ n → first (same_version x) rest ≡ None → first (same_version x) (in_place f now.stamp n x ++ rest) ≡ left_by f x
+  left_in_place Stays n rest l e = rw (version_refl x)
+  left_in_place Goes n rest l e = e
+  left_in_place Gains n rest l e =
       let m : same_version x (marker now.stamp n x.key) ≡ false = simp (same_refl x.key, ne_eqb x.number n (λ q. omega arith)) in
       rw (m, version_refl x)
 
-  version_left : (early late : List Row) → ordered (early ++ x ∷ late) ≡ true → first (same_version x) (swept rules now next none (early ++ x ∷ late)) ≡ left_by (fate rules now.judge (last_of none early) x) x
+  version_left : (early late : List Row) → ordered (early ++ x ∷ late) ≡ true → first (same_version x) (swept rules now next None (early ++ x ∷ late)) ≡ left_by (fate rules now.judge (last_of None early) x) x
   version_left early late o =
-      let f = fate rules now.judge (last_of none early) x in
-      let n : ℕ = next + counted marks rules now.judge none early in
+      let f = fate rules now.judge (last_of None early) x in
+      let n : ℕ = next + counted marks rules now.judge None early in
       first_behind rules now (same_version x) next marker_other next early (x ∷ late) (omega arith) (others_before early x late o)
       ∙ left_in_place f n _ (omega arith)
-      (first_none (same_version x) (swept rules now (n + marks f) (some x) late)
-      (none_left rules now (same_version x) next marker_other (n + marks f) (some x) late (omega arith) (others_behind early x late o)))
+      (first_none (same_version x) (swept rules now (n + marks f) (Some x) late)
+      (none_left rules now (same_version x) next marker_other (n + marks f) (Some x) late (omega arith) (others_behind early x late o)))
 
 -- ## A key's current row
 
 -- The key's current row after a fate.
 abbrev top_by : Fate → ℕ → ℕ → Row → Option Row
-top_by stays created n x = some x
-top_by goes created n x = none
-top_by gains created n x = some (marker created n x.key)
+top_by Stays created n x = Some x
+top_by Goes created n x = None
+top_by Gains created n x = Some (marker created n x.key)
 
 -- The row before, if there is one, is of another key.
 abbrev OtherKey : List ℕ → Option Row → Type 0
-OtherKey k none = Unit {0}
-OtherKey k (some y) = same y.key k ≡ false
+OtherKey k None = Unit {0}
+OtherKey k (Some y) = same y.key k ≡ false
 
 current_fate_lem : (rules : List Rule) (t : ℕ) (o : Option Row) (x : Row) → OtherKey x.key o → fate rules t o x ≡ current_fate (applying rules x.key) t x
-current_fate_lem rules t none x h = refl
-current_fate_lem rules t (some y) x h = rw h
+current_fate_lem rules t None x h = refl
+current_fate_lem rules t (Some y) x h = rw h
 
 -- A row of this key, as `row_of` looks for it where no version is named.
 abbrev of_key : List ℕ → Row → Bool
@@ -156,27 +158,27 @@ last_other : (k : List ℕ) (o : Option Row) (early : List Row) → OtherKey k o
 last_other k o [] h e = h
 last_other k o (z ∷ early) h e =
     let d : same k z.key ≡ false = sym (and_comm (same k z.key) true) ∙ not-true (of_key k z) (and_l _ _ e) in
-    last_other k (some z) early (same_sym z.key k ∙ d) (and_r (not (of_key k z)) _ e)
+    last_other k (Some z) early (same_sym z.key k ∙ d) (and_r (not (of_key k z)) _ e)
 
 module _ (rules : List Rule) (now : Now) (x : Row) where
   abbrev own_fate : Fate
   own_fate = current_fate (applying rules x.key) now.judge x
 
-  top_in_place : (n : ℕ) (late : List Row) → first (of_key x.key) (in_place own_fate now.stamp n x ++ swept rules now (n + marks own_fate) (some x) late) ≡ top_by own_fate now.stamp n x
+  top_in_place : (n : ℕ) (late : List Row) → first (of_key x.key) (in_place own_fate now.stamp n x ++ swept rules now (n + marks own_fate) (Some x) late) ≡ top_by own_fate now.stamp n x
   top_in_place n late =
-      pick_ways (λ (f : Fate). first (of_key x.key) (in_place f now.stamp n x ++ swept rules now (n + marks f) (some x) late) ≡ top_by f now.stamp n x)
+      pick_ways (λ (f : Fate). first (of_key x.key) (in_place f now.stamp n x ++ swept rules now (n + marks f) (Some x) late) ≡ top_by f now.stamp n x)
       (is_data x && due (λ u. u.current_days) (applying rules x.key) now.judge x.created)
       (λ _. rw (same_refl x.key)) (λ _. rw (same_refl x.key))
 
   module _ (xs : List Row) (at : FoundAt (of_key x.key) xs x) where
-    first_fate : fate rules now.judge (last_of none at.early) x ≡ own_fate
-    first_fate = current_fate_lem rules now.judge (last_of none at.early) x (last_other x.key none at.early tt at.none_before)
+    first_fate : fate rules now.judge (last_of None at.early) x ≡ own_fate
+    first_fate = current_fate_lem rules now.judge (last_of None at.early) x (last_other x.key None at.early tt at.none_before)
 
-    current_left : (n : ℕ) → first (of_key x.key) (swept rules now n none xs) ≡ top_by own_fate now.stamp (n + counted marks rules now.judge none at.early) x
+    current_left : (n : ℕ) → first (of_key x.key) (swept rules now n None xs) ≡ top_by own_fate now.stamp (n + counted marks rules now.judge None at.early) x
     current_left n =
-        ap (λ (l : List Row). first (of_key x.key) (swept rules now n none l)) at.list_is
+        ap (λ (l : List Row). first (of_key x.key) (swept rules now n None l)) at.list_is
         ∙ first_behind rules now (of_key x.key) 0 (λ z m h _. h) n at.early (x ∷ at.late) (omega arith) at.none_before
-        ∙ rw first_fate (top_in_place (n + counted marks rules now.judge none at.early) at.late)
+        ∙ rw first_fate (top_in_place (n + counted marks rules now.judge None at.early) at.late)
 
 -- ## The statement
 
@@ -191,30 +193,30 @@ module _ (c : ℕ) (b : Bucket) (who : Context) (s : sound c b ≡ true) where
   left = after b (asked who Sweep)
 
   -- What any row comes to, by its fate.
-  row_left : (early : List Row) (x : Row) (late : List Row) → b.rows ≡ early ++ x ∷ late → row_of left.rows (by_number x) ≡ left_by (fate rules now.judge (last_of none early) x) x
+  row_left : (early : List Row) (x : Row) (late : List Row) → b.rows ≡ early ++ x ∷ late → row_of left.rows (by_number x) ≡ left_by (fate rules now.judge (last_of None early) x) x
   unfolding rows_after
   row_left early x late e =
       let w = whole c b s in
       let below = (row_parts _ _ x (all_middle _ early x late (rw e at w.rows_sound))).below in
-      ap (λ (xs : List Row). first (same_version x) (swept rules now b.settings.next none xs)) e ∙ version_left rules now x b.settings.next below early late (rw e at w.in_order)
+      ap (λ (xs : List Row). first (same_version x) (swept rules now b.settings.next None xs)) e ∙ version_left rules now x b.settings.next below early late (rw e at w.in_order)
 
   -- A key's current row.
-  module _ (x : Row) (is_current : row_of b.rows (by_key x) ≡ some x) where
+  module _ (x : Row) (is_current : row_of b.rows (by_key x) ≡ Some x) where
     abbrev marked : Bool
     marked = is_data x && due (λ u. u.current_days) (applying rules x.key) now.judge x.created
 
     place : FoundAt (of_key x.key) b.rows x
     place = found_at (of_key x.key) b.rows x is_current
 
-    kept : row_of left.rows (by_number x) ≡ some x
+    kept : row_of left.rows (by_number x) ≡ Some x
     kept =
         row_left place.early x place.late place.list_is
-        ∙ rw (first_fate rules now x b.rows place) (pick_ways (λ (f : Fate). left_by f x ≡ some x) marked (λ _. refl) (λ _. refl))
+        ∙ rw (first_fate rules now x b.rows place) (pick_ways (λ (f : Fate). left_by f x ≡ Some x) marked (λ _. refl) (λ _. refl))
 
     abbrev number : ℕ
-    number = b.settings.next + counted marks rules now.judge none place.early
+    number = b.settings.next + counted marks rules now.judge None place.early
 
-    top_is : row_of left.rows (by_key x) ≡ top_by (pick marked gains stays) now.stamp number x
+    top_is : row_of left.rows (by_key x) ≡ top_by (pick marked Gains Stays) now.stamp number x
     unfolding rows_after
     top_is = current_left rules now x b.rows place b.settings.next
 
@@ -233,13 +235,13 @@ module _ (c : ℕ) (b : Bucket) (who : Context) (s : sound c b ≡ true) where
     abbrev gone_by : Bool
     gone_by = due (λ u. u.noncurrent_days) (applying rules x.key) now.judge newer.created
 
-    left_is : row_of left.rows (by_number x) ≡ left_by (pick (gone_by && not (locked now.judge false x)) goes stays) x
-    left_is = row_left (early ++ newer ∷ []) x late (rows_are ∙ sym (append_assoc early (newer ∷ []) (x ∷ late))) ∙ rw (last_of_lem none early newer, k, same_refl x.key)
+    left_is : row_of left.rows (by_number x) ≡ left_by (pick (gone_by && not (locked now.judge false x)) Goes Stays) x
+    left_is = row_left (early ++ newer ∷ []) x late (rows_are ∙ sym (append_assoc early (newer ∷ []) (x ∷ late))) ∙ rw (last_of_lem None early newer, k, same_refl x.key)
 
-    goes_when : NoncurrentExpired who.clock b left newer x → locked now.judge false x ≡ false → row_of left.rows (by_number x) ≡ none
+    goes_when : NoncurrentExpired who.clock b left newer x → locked now.judge false x ≡ false → row_of left.rows (by_number x) ≡ None
     goes_when h l = rw (expired_due _ noncurrent_acts x.key newer.created now.judge rules h, l) at left_is
 
-    stays_else : (NoncurrentExpired who.clock b left newer x → locked now.judge false x ≡ false → ⊥) → row_of left.rows (by_number x) ≡ some x
+    stays_else : (NoncurrentExpired who.clock b left newer x → locked now.judge false x ≡ false → ⊥) → row_of left.rows (by_number x) ≡ Some x
     stays_else n =
         elim (either (locked now.judge false x)) [
           | inl l ↦ rw (l, and-false gone_by) at left_is

@@ -1,4 +1,7 @@
 -- Facts on conditions and on a list of lines: the first condition that holds, version numbers, and time.
+use Rattle.model.specs.declared.Refusal.{Refusal}
+use Rattle.model.specs.declared.Refusal.TheVariants.{Unsound, ShortAnswer, Unreadable, HalfGiven, NoRight, PastDate, NoRow, IsMarker, Locked, DateTooLate, NumbersSpent, TableFull, ShortForPage}
+use Rattle.model.specs.Refusal.{number_of}
 use Prim.Native.Nat.{ℕ, ◌≤◌}
 use mathlib.Core.Path.{◌≡◌, refl, sym, ap, ap₂}
 use mathlib.Core.Logic.{inl, inr}
@@ -12,7 +15,7 @@ use Rattle.buffers.specs.Lists.{all, any}
 use Rattle.buffers.proofs.Tests.{either, and_l, and_r, or_r}
 use Rattle.model.specs.Settings.{Bucket, sound}
 use Rattle.model.specs.Requests.{Heard}
-use Rattle.model.specs.Refusals.{Check, check, first_of, FirstHolds}
+use Rattle.model.specs.Refusals.{Check, first_of, FirstHolds}
 use Rattle.model.specs.Run.{run, line_events}
 use Rattle.model.specs.LockClause.{since, time_after, distinct}
 use Rattle.model.proofs.Distinct.{once_differ}
@@ -36,7 +39,7 @@ first_holds [] n e z = absurd (z (sym e))
 first_holds (x ∷ xs) n e z =
     elim (either x.holds) [
       | inl h ↦
-          let same : x ≡ check n true = ap₂ check (rw h at e) h in
+          let same : ◌≡◌ {A = Check} x (record { number = n; holds = true }) = ap₂ (λ (m : ℕ) (b : Bool). record { number = m; holds = b }) (rw h at e) h in
           record { before = []; after = xs; at = ap (λ (y : Check). y ∷ xs) same; none_before = refl }
       | inr h ↦
           let s = first_holds xs n (rw h at e) z in
@@ -80,3 +83,19 @@ always_distinct c b s d ls =
 -- The bucket's time is that of its history: no accepted line sets it back.
 pub always_time : (c : ℕ) (b : Bucket) → sound c b ≡ true → distinct b.rows ≡ true → (ls : List Heard) → (run c b ls).settings.time ≡ time_after (since b (line_events c b ls))
 always_time c b s d ls = (good_history c b s d ls).invariant.time
+
+-- Every refusal has a number from 1 on.
+pub number_not_0 : (e : Refusal) → number_of e ≡ 0 → ⊥
+number_not_0 Unsound h = omega arith
+number_not_0 ShortAnswer h = omega arith
+number_not_0 Unreadable h = omega arith
+number_not_0 HalfGiven h = omega arith
+number_not_0 NoRight h = omega arith
+number_not_0 PastDate h = omega arith
+number_not_0 NoRow h = omega arith
+number_not_0 IsMarker h = omega arith
+number_not_0 Locked h = omega arith
+number_not_0 DateTooLate h = omega arith
+number_not_0 NumbersSpent h = omega arith
+number_not_0 TableFull h = omega arith
+number_not_0 ShortForPage h = omega arith

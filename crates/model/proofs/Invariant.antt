@@ -4,7 +4,7 @@ use mathlib.Core.Path.{◌≡◌, refl, sym, ◌∙◌, ap}
 use mathlib.Core.Logic.{◌⊎◌, inl, inr}
 use mathlib.Core.Bool.{Bool, true, false, not, true≢false}
 use mathlib.Core.List.{List, [], ◌∷◌}
-use mathlib.Core.Option.{Option, some, none}
+use Rattle.std.specs.Prelude.{Option, Some, None}
 use native.Mathlib.Omega.{arith}
 use lib.Dec.{eqb, leb}
 use borrow.Author.Tests.{eqb-true, eqb-false, ne_eqb, leb-true, leb-false}
@@ -29,7 +29,7 @@ use Rattle.model.proofs.History.{followed, made_snoc, time_snoc}
 
 -- A version's row is data with what the version was made with, or a marker.
 abbrev pub Known : History → ℕ → Row → Type 0
-Known past v x = ((x.kind ≡ 1) × (made_with past v ≡ some (making_of x))) ⊎ (x.kind ≡ 2)
+Known past v x = ((x.kind ≡ 1) × (made_with past v ≡ Some (making_of x))) ⊎ (x.kind ≡ 2)
 
 -- The version has no row, or one, which is known.
 abbrev pub AtMostOne : List Row → History → ℕ → Type 0
@@ -38,7 +38,7 @@ AtMostOne ys past v = (ys ≡ []) ⊎ ((x : Row) × (ys ≡ x ∷ []) × Known p
 pub record Invariant (b : Bucket) (past : History) : Type 0 where
   pub time : b.settings.time ≡ time_after past
   pub unused : (v : ℕ) → b.settings.next ≤ v → versions v b.rows ≡ []
-  pub unmade : (v : ℕ) → b.settings.next ≤ v → made_with past v ≡ none
+  pub unmade : (v : ℕ) → b.settings.next ≤ v → made_with past v ≡ None
   pub single : (v : ℕ) → AtMostOne (versions v b.rows) past v
 
 -- An accepted line, from its parts, and the history with it at the end.
@@ -55,24 +55,24 @@ with past b g w = followed past (event_of b g w ∷ [])
 
 -- A named row that is no marker is data, stands once, and is as it was made.
 pub record Found (xs : List Row) (past : History) (n : Name) (x : Row) : Type 0 where
-  pub found : row_of xs n ≡ some x
+  pub found : row_of xs n ≡ Some x
   pub once : versions x.number xs ≡ x ∷ []
-  pub is_data_lem : x.kind ≡ 1
-  pub made : made_with past x.number ≡ some (making_of x)
+  pub kind_is_data : x.kind ≡ 1
+  pub made : made_with past x.number ≡ Some (making_of x)
 
 pub find : (xs : List Row) (past : History) (n : Name) → ((v : ℕ) → AtMostOne (versions v xs) past v) → not (is_some (row_of xs n)) ≡ false → then_some (row_of xs n) false is_marker ≡ false → (x : Row) × Found xs past n x
 find xs past n s f g = go (row_of xs n) refl f g
   where
     go : (o : Option Row) → row_of xs n ≡ o → not (is_some (row_of xs n)) ≡ false → then_some (row_of xs n) false is_marker ≡ false → (x : Row) × Found xs past n x
-    go none q f g = absurd (true≢false (rw q at f))
-    go (some x) q f g =
+    go None q f g = absurd (true≢false (rw q at f))
+    go (Some x) q f g =
         elim (s x.number) [
           | inl z ↦ absurd (found_some _ xs x q z)
           | inr y ↦
               let same : x ≡ y.0 = found_one _ xs x y.0 q y.1 in
               let known : Known past x.number x = rw same (rw same at y.2) in
               elim known [
-                | inl k ↦ (x, record { found = q; once = y.1 ∙ ap (λ (r : Row). r ∷ []) (sym same); is_data_lem = k.0; made = k.1 })
+                | inl k ↦ (x, record { found = q; once = y.1 ∙ ap (λ (r : Row). r ∷ []) (sym same); kind_is_data = k.0; made = k.1 })
                 | inr k ↦ absurd (eqb-false x.kind 2 (rw q at g) k)
               ]
         ]
@@ -80,11 +80,11 @@ find xs past n s f g = go (row_of xs n) refl f g
 -- ## The rows that a line adds
 
 -- The line makes a version whose number was not taken.
-made_now : (b : Bucket) (past : History) (g : Context) (w : Verb) (v : ℕ) → made_with past v ≡ none → answers v (event_of b g w) ≡ true → made_with (with past b g w) v ≡ making_by (λ u. made_with past u) (event_of b g w) w
+made_now : (b : Bucket) (past : History) (g : Context) (w : Verb) (v : ℕ) → made_with past v ≡ None → answers v (event_of b g w) ≡ true → made_with (with past b g w) v ≡ making_by (λ u. made_with past u) (event_of b g w) w
 made_now b past g w v e m = made_snoc past (event_of b g w) v ∙ simp (e, m)
 
 -- A version that was made before stays made with the same.
-pub made_before : (b : Bucket) (past : History) (g : Context) (w : Verb) (v : ℕ) (m : Making) → made_with past v ≡ some m → made_with (with past b g w) v ≡ some m
+pub made_before : (b : Bucket) (past : History) (g : Context) (w : Verb) (v : ℕ) (m : Making) → made_with past v ≡ Some m → made_with (with past b g w) v ≡ Some m
 made_before b past g w v m e = made_snoc past (event_of b g w) v ∙ simp e
 
 -- A PUT's row.
@@ -151,7 +151,7 @@ numbered_after c b past g (AddMarker k y) p i v l =
 numbered_after c b past g (DeleteVersion k u y) p i v l = inl (keep_none v _ b.rows (i.unused v l))
 numbered_after c b past g (Set s) p i v l = inl (i.unused v l)
 numbered_after c b past g Sweep p i v l =
-    elim (swept_new b.settings.config.rules (now_of b g) b.settings.next none b.rows v l (i.unused v l)) [
+    elim (swept_new b.settings.config.rules (now_of b g) b.settings.next None b.rows v l (i.unused v l)) [
       | inl s ↦ inl s.0
       | inr s ↦ inr (s.0, s.1, inr s.2, s.3)
     ]
@@ -167,7 +167,7 @@ none_after b now (Hold n on) v l e = change_none v _ _ (λ _. refl) b.rows e
 none_after b now (AddMarker k y) v l e = insert_other v _ b.rows (ne_eqb _ v (λ q. omega arith)) ∙ e
 none_after b now (DeleteVersion k u y) v l e = keep_none v _ b.rows e
 none_after b now (Set s) v l e = e
-none_after b now Sweep v l e = swept_none b.settings.config.rules now b.settings.next none b.rows v l e
+none_after b now Sweep v l e = swept_none b.settings.config.rules now b.settings.next None b.rows v l e
 none_after b now (Ask q) v l e = e
 
 -- The answer to a DELETE or a GET makes no version.
@@ -176,8 +176,8 @@ removal_answers true u v = refl
 removal_answers false u v = refl
 
 pub shown_answers : (o : Option Row) (v : ℕ) → gives_number v (then_some o done (λ x. shown x)) ≡ false
-shown_answers none v = refl
-shown_answers (some x) v = refl
+shown_answers None v = refl
+shown_answers (Some x) v = refl
 
 -- A line makes no version whose number it leaves for later.
 not_made : (b : Bucket) (g : Context) (w : Verb) (v : ℕ) → b.settings.next + added b (now_of b g) w ≤ v → answers v (event_of b g w) ≡ false
@@ -187,7 +187,7 @@ not_made b g (Copy n k t) v l = ne_eqb _ v (λ q. omega arith)
 not_made b g (Retain n r y) v l = refl
 not_made b g (Hold n on) v l = refl
 not_made b g (AddMarker k y) v l = refl
-not_made b g (DeleteVersion k u y) v l = removal_answers (then_some (row_of b.rows (name k (some u))) false is_marker) u v
+not_made b g (DeleteVersion k u y) v l = removal_answers (then_some (row_of b.rows (name k (Some u))) false is_marker) u v
 not_made b g (Set s) v l = refl
 not_made b g Sweep v l = refl
 not_made b g (Ask (Get n)) v l = shown_answers (row_of b.rows n) v

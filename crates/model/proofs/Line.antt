@@ -4,7 +4,7 @@ use mathlib.Core.Path.{◌≡◌, refl, ◌∙◌}
 use mathlib.Core.Logic.{inl, inr}
 use mathlib.Core.Bool.{Bool, true, false, not, ◌&&◌}
 use mathlib.Core.List.{List, [], ◌∷◌}
-use mathlib.Core.Option.{some, none}
+use Rattle.std.specs.Prelude.{Some, None}
 use native.Mathlib.Omega.{arith}
 use lib.Dec.{eqb}
 use borrow.Author.Tests.{eq-eqb, ne_eqb, not-false}
@@ -54,14 +54,14 @@ pub data Change (xs : List Row) (now : ℕ) (w : Verb) (v : ℕ) (x : Row) (ys :
   dropped : (bypass : Bool) → ys ≡ [] → locked now bypass x ≡ false → ((names_in xs v w && bypass_of w) ≡ false → bypass ≡ false) → Change xs now w v x ys
 
 -- A named row names its version.
-names_version : (v : ℕ) (xs : List Row) (n : Name) (x : Row) → versions v xs ≡ x ∷ [] → row_of xs n ≡ some x → then_some (row_of xs n) false (λ y. eqb y.number v) ≡ true
+names_version : (v : ℕ) (xs : List Row) (n : Name) (x : Row) → versions v xs ≡ x ∷ [] → row_of xs n ≡ Some x → then_some (row_of xs n) false (λ y. eqb y.number v) ≡ true
 names_version v xs n x e f = rw f (eq-eqb x.number v (number_is v xs x e))
 
 retained : (c : ℕ) (b : Bucket) (g : Context) (now : Now) (n : Name) (r : Retention) (y : Bool) → Accepted c b g now (Retain n r y) → (v : ℕ) (x : Row) → versions v b.rows ≡ x ∷ [] → Change b.rows now.judge (Retain n r y) v x (versions v (rows_after b now (Retain n r y)))
 unfolding rows_after barred in_range
 retained c b g now n r y p v x e =
     let moved = change_version v (is_named b.rows n) (set_retention (or_zero r.mode) (or_zero r.date)) (λ _. refl) b.rows x e in
-    let ranges : is_retention r ≡ true = and_r (is_name n) _ p.fields.in_range_lem in
+    let ranges : is_retention r ≡ true = and_r (is_name n) _ p.fields.is_in_range in
     elim (either (is_named b.rows n x)) [
       | inl t ↦
           let f = named_row_lem v b.rows n x e t in
@@ -81,11 +81,11 @@ held b now n on v x e =
 deleted : (c : ℕ) (b : Bucket) (g : Context) (now : Now) (k : List ℕ) (u : Version) (y : Bool) → Accepted c b g now (DeleteVersion k u y) → (v : ℕ) (x : Row) → versions v b.rows ≡ x ∷ [] → Change b.rows now.judge (DeleteVersion k u y) v x (versions v (rows_after b now (DeleteVersion k u y)))
 unfolding rows_after barred
 deleted c b g now k u y p v x e =
-    let left = keep_version v (λ z. not (is_named b.rows (name k (some u)) z)) b.rows x e in
-    elim (either (is_named b.rows (name k (some u)) x)) [
+    let left = keep_version v (λ z. not (is_named b.rows (name k (Some u)) z)) b.rows x e in
+    elim (either (is_named b.rows (name k (Some u)) x)) [
       | inl t ↦
-          let f = named_row_lem v b.rows (name k (some u)) x e t in
-          dropped y (left ∙ rw t) (rw f at p.free) (λ q. rw (names_version v b.rows (name k (some u)) x e f) at q)
+          let f = named_row_lem v b.rows (name k (Some u)) x e t in
+          dropped y (left ∙ rw t) (rw f at p.free) (λ q. rw (names_version v b.rows (name k (Some u)) x e f) at q)
       | inr t ↦ kept (left ∙ rw t)
     ]
 
@@ -100,7 +100,7 @@ changed c b g now (AddMarker k y) p v x l e = kept (insert_other v _ b.rows (ne_
 changed c b g now (DeleteVersion k u y) p v x l e = deleted c b g now k u y p v x e
 changed c b g now (Set s) p v x l e = kept e
 changed c b g now Sweep p v x l e =
-    elim (swept_version b.settings.config.rules now b.settings.next none b.rows v x l e) [
+    elim (swept_version b.settings.config.rules now b.settings.next None b.rows v x l e) [
       | inl s ↦ kept s
       | inr s ↦ dropped false s.0 s.1 (λ _. refl)
     ]

@@ -4,7 +4,7 @@ use mathlib.Core.Path.{◌≡◌, sym, ◌∙◌}
 use mathlib.Core.Logic.{◌⊎◌, inl, inr}
 use mathlib.Core.Bool.{Bool, true, false, ◌&&◌, true≢false, false≢true}
 use mathlib.Core.List.{List, nil≢cons}
-use mathlib.Core.Option.{Option, some, none}
+use Rattle.std.specs.Prelude.{Option, Some, None}
 use native.Mathlib.Omega.{arith}
 use lib.Dec.{eqb, leb}
 use borrow.Author.Tests.{eqb-true, leb-true, leb-false, lt-ltb}
@@ -54,12 +54,12 @@ held_after c b past g w p i v L h s =
 -- ## COMPLIANCE
 
 late_is : (t : ℕ) (d : Option ℕ) → no_earlier t d ≡ true → t ≤ or_zero d
-late_is t none e = absurd (false≢true e)
-late_is t (some d) e = leb-true t d e
+late_is t None e = absurd (false≢true e)
+late_is t (Some d) e = leb-true t d e
 
 pub the_is : (n : ℕ) (m : Option ℕ) → is_the n m ≡ true → or_zero m ≡ n
-the_is n none e = absurd (false≢true e)
-the_is n (some m) e = eqb-true m n e
+the_is n None e = absurd (false≢true e)
+the_is n (Some m) e = eqb-true m n e
 
 compliance_locked : (now : ℕ) (y : Bool) (x : Row) → now < x.until → x.mode ≡ compliance → locked now y x ≡ false → ⊥
 unfolding locked
@@ -90,8 +90,8 @@ governance_locked now x l m e =
     true≢false (rw (lt-ltb now x.until l, m) at n)
 
 mode_is : (m : Option ℕ) → is_some m ≡ true → is_mode_field m ≡ true → (or_zero m ≡ governance) ⊎ (or_zero m ≡ compliance)
-mode_is none e f = absurd (false≢true e)
-mode_is (some m) e f =
+mode_is None e f = absurd (false≢true e)
+mode_is (Some m) e f =
     elim (or_one (eqb m governance) _ f) [
       | inl g ↦ inl (eqb-true m governance g)
       | inr g ↦ inr (eqb-true m compliance g)

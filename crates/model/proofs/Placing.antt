@@ -3,7 +3,7 @@ use Prim.Native.Nat.{ℕ, ◌<◌}
 use mathlib.Core.Path.{◌≡◌, refl, sym, ◌∙◌}
 use mathlib.Core.Logic.{inl, inr}
 use mathlib.Core.Bool.{Bool, true, false, ◌&&◌, false≢true}
-use mathlib.Core.Option.{Option, some, none}
+use Rattle.std.specs.Prelude.{Option, Some, None}
 use native.Mathlib.Omega.{arith}
 use lib.Dec.{eqb}
 use borrow.Author.Tests.{eqb-true, ne_eqb}
@@ -33,12 +33,12 @@ Under mode d x = (x.mode ≡ mode) × (x.until ≡ d)
 
 -- The lock fields of a PUT or COPY that put its version under a mode until d give its row that mode and date.
 given_under : (b : Bucket) (g : Context) (w : Verb) (mode d : ℕ) (r : Retention) → (o : Option ℕ) → r.mode ≡ o → 0 < mode → gives mode d (event_of b g w) r ≡ true → (new_mode b.settings.config r ≡ mode) × (new_until b.settings.config (now_of b g).stamp r ≡ d)
-given_under b g w mode d r none q l e =
+given_under b g w mode d r None q l e =
     let f : (eqb b.settings.config.default.mode mode && eqb (default_end b.settings.config (now_of b g).stamp) d) ≡ true = rw q at e in
     let m : b.settings.config.default.mode ≡ mode = eqb-true _ mode (and_l _ _ f) in
     let has : eqb b.settings.config.default.mode 0 ≡ false = ne_eqb b.settings.config.default.mode 0 (λ z. omega arith) in
     (rw q m, simp (q, has) (eqb-true _ d (and_r (eqb b.settings.config.default.mode mode) _ f)))
-given_under b g w mode d r (some n) q l e =
+given_under b g w mode d r (Some n) q l e =
     elim (or_one (is_the mode r.mode && is_the d r.date) _ e) [
       | inl f ↦
           let m : n ≡ mode = eqb-true n mode (rw q at (and_l (is_the mode r.mode) _ f)) in
@@ -54,7 +54,7 @@ named_held b past g w n f same_number same_kind same_making rows (x, s) v e =
       record {
         row = f x;
         once = rw (rows, sym is) (change_version x.number (is_named b.rows n) f same_number b.rows x s.once ∙ rw (found_named b.rows n x s.found));
-        is_data = same_kind x ∙ s.is_data_lem;
+        is_data = same_kind x ∙ s.kind_is_data;
         unaltered = rw (sym is, same_making x) (made_before b past g w x.number (making_of x) s.made);
         lock = refl;
       },
@@ -99,8 +99,8 @@ puts_held c b past g Sweep p i mode d v l e = absurd (false≢true e)
 puts_held c b past g (Ask q) p i mode d v l e = absurd (false≢true e)
 
 on_is : (o : Option Bool) → is_on o ≡ true → new_hold o ≡ 1
-on_is none e = absurd (false≢true e)
-on_is (some on) e = rw e
+on_is None e = absurd (false≢true e)
+on_is (Some on) e = rw e
 
 -- The line that puts the version on hold.
 pub holds_held : (c : ℕ) (b : Bucket) (past : History) (g : Context) (w : Verb) → Accepted c b g (now_of b g) w → Invariant b past → (v : ℕ) → puts_on_hold past v (event_of b g w) ≡ true → Held (after b (asked g w)) (with past b g w) v OnHold

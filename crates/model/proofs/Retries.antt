@@ -4,7 +4,7 @@ use mathlib.Core.Path.{◌≡◌, refl, ◌∙◌, ap}
 use mathlib.Core.Logic.{◌⊎◌, inl, inr}
 use mathlib.Core.Bool.{true, false, not}
 use mathlib.Core.List.{List, [], ◌∷◌}
-use mathlib.Core.Option.{Option, some, none}
+use Rattle.std.specs.Prelude.{Option, Some, None}
 use native.Mathlib.Omega.{arith}
 use lib.Dec.{eqb, ltb}
 use borrow.Author.Tests.{eqb-true, eq-eqb, le-ltb}
@@ -29,27 +29,27 @@ use Rattle.model.proofs.Invariant.{asked}
 -- ## The row that a PUT is a retry of
 
 module _ (xs : List Row) (k : List ℕ) (body size : ℕ) where
-  pub retry_of_lem : (x : Row) → IsRetry xs k body size x → retry_of xs k body size ≡ some x
-  retry_of_lem x r = simp (r.is_current, eq-eqb x.kind 1 r.is_data_lem, eq-eqb x.body body r.same_body, eq-eqb x.size size r.same_size)
+  pub retry_of_lem : (x : Row) → IsRetry xs k body size x → retry_of xs k body size ≡ Some x
+  retry_of_lem x r = simp (r.is_current, eq-eqb x.kind 1 r.kind_is_data, eq-eqb x.body body r.same_body, eq-eqb x.size size r.same_size)
 
-  is_retry : (x : Row) → row_of xs (name k none) ≡ some x → repeats body size x ≡ true → IsRetry xs k body size x
+  is_retry : (x : Row) → row_of xs (name k None) ≡ Some x → repeats body size x ≡ true → IsRetry xs k body size x
   is_retry x e r =
       let sizes = and_r (is_data x) _ r in
-      record { is_current = e; is_data_lem = eqb-true x.kind 1 (and_l _ _ r); same_body = eqb-true x.body body (and_l _ _ sizes); same_size = eqb-true x.size size (and_r (eqb x.body body) _ sizes) }
+      record { is_current = e; kind_is_data = eqb-true x.kind 1 (and_l _ _ r); same_body = eqb-true x.body body (and_l _ _ sizes); same_size = eqb-true x.size size (and_r (eqb x.body body) _ sizes) }
 
   -- There is such a row, or none.
-  retry_or_none : (retry_of xs k body size ≡ none) ⊎ ((x : Row) × IsRetry xs k body size x)
-  retry_or_none = go (row_of xs (name k none)) refl
+  retry_or_none : (retry_of xs k body size ≡ None) ⊎ ((x : Row) × IsRetry xs k body size x)
+  retry_or_none = go (row_of xs (name k None)) refl
     where
-      go : (o : Option Row) → row_of xs (name k none) ≡ o → (then_some o none (λ x. pick (repeats body size x) (some x) none) ≡ none) ⊎ ((x : Row) × IsRetry xs k body size x)
-      go none e = inl refl
-      go (some x) e =
+      go : (o : Option Row) → row_of xs (name k None) ≡ o → (then_some o None (λ x. pick (repeats body size x) (Some x) None) ≡ None) ⊎ ((x : Row) × IsRetry xs k body size x)
+      go None e = inl refl
+      go (Some x) e =
           elim (either (repeats body size x)) [
             | inl r ↦ inr (x, is_retry x e r)
             | inr r ↦ inl (rw r)
           ]
 
-  pub no_retry : ((x : Row) → IsRetry xs k body size x → ⊥) → retry_of xs k body size ≡ none
+  pub no_retry : ((x : Row) → IsRetry xs k body size x → ⊥) → retry_of xs k body size ≡ None
   no_retry f = elim retry_or_none [ inl e ↦ e | inr r ↦ absurd (f r.0 r.1) ]
 
 -- ## What a retry meets
@@ -80,7 +80,7 @@ retry_accepted c b g now v n p =
 -- ## A PUT sent again
 
 -- A new row is its key's current one.
-pub current_new : (x : Row) (xs : List Row) → row_of (insert_by_key x xs) (name x.key none) ≡ some x
+pub current_new : (x : Row) (xs : List Row) → row_of (insert_by_key x xs) (name x.key None) ≡ Some x
 current_new x [] = simp (same_refl x.key)
 current_new x (y ∷ ys) =
     elim (either (before y.key x.key)) [
@@ -113,10 +113,10 @@ module _ (b : Bucket) (g : Context) (k : List ℕ) (body size : ℕ) (t : Terms)
       elim (retry_or_none b.rows k body size) [
         | inl e ↦
             let x = new_row b.settings (now_of b g).stamp k body size t in
-            record { row = x; retry = record { is_current = rw e (current_new x b.rows); is_data_lem = refl; same_body = refl; same_size = refl }; answered = inl (rw e); config_is = rw e }
+            record { row = x; retry = record { is_current = rw e (current_new x b.rows); kind_is_data = refl; same_body = refl; same_size = refl }; answered = inl (rw e); config_is = rw e }
         | inr (x, r) ↦
             let e = retry_of_lem b.rows k body size x r in
-            record { row = x; retry = record { is_current = rw e r.is_current; is_data_lem = r.is_data_lem; same_body = r.same_body; same_size = r.same_size }; answered = inr (rw e); config_is = rw e }
+            record { row = x; retry = record { is_current = rw e r.is_current; kind_is_data = r.kind_is_data; same_body = r.same_body; same_size = r.same_size }; answered = inr (rw e); config_is = rw e }
       ]
 
   -- The same line is accepted again.
@@ -130,7 +130,7 @@ module _ (b : Bucket) (g : Context) (k : List ℕ) (body size : ℕ) (t : Terms)
         whole = sound_after c b (asked g put) e;
         roomy = l;
         instant = p.instant;
-        in_range_lem = p.in_range_lem;
+        is_in_range = p.is_in_range;
         not_half = p.not_half;
         permitted = rw a.config_is p.permitted;
         page_fits = refl;

@@ -4,7 +4,7 @@ use mathlib.Core.Path.{◌≡◌, refl}
 use mathlib.Core.Logic.{inl, inr}
 use mathlib.Core.Bool.{Bool, true, false, ◌&&◌, true≢false}
 use mathlib.Core.List.{List}
-use mathlib.Core.Option.{Option, some, none}
+use Rattle.std.specs.Prelude.{Option, Some, None}
 use native.Mathlib.Omega.{arith}
 use lib.Dec.{eqb, leb, ltb}
 use lib.ListN.{length, set, length-set}
@@ -75,7 +75,7 @@ ordered_after c b now (Hold n on) s = ordered_change (is_named b.rows n) (set_ho
 ordered_after c b now (AddMarker k y) s = ordered_insert _ b.rows (below_next _ _ b.rows s.rows_sound) s.in_order
 ordered_after c b now (DeleteVersion k v y) s = ordered_keep _ b.rows s.in_order
 ordered_after c b now (Set a) s = s.in_order
-ordered_after c b now Sweep s = ordered_swept b.settings.config.rules now b.settings.next none b.rows (below_next _ _ b.rows s.rows_sound) s.in_order
+ordered_after c b now Sweep s = ordered_swept b.settings.config.rules now b.settings.next None b.rows (below_next _ _ b.rows s.rows_sound) s.in_order
 ordered_after c b now (Ask q) s = s.in_order
 
 -- ## The rows after a line
@@ -92,7 +92,7 @@ module _ (c : ℕ) (b : Bucket) (g : Context) (now : Now) (s : Whole c b) (l : b
   rows_put : (k : List ℕ) (body size : ℕ) (t : Terms) → Accepted c b g now (Put k body size t) → all (sound_row (b.settings.next + 1) now.stamp) (rows_after b now (Put k body size t)) ≡ true
   unfolding rows_after in_range half_given past_date too_late
   rows_put k body size t p =
-      let r : (is_key k && (ltb body bodies && (leb size largest_size && is_retention t.retention))) ≡ true = p.fields.in_range_lem in
+      let r : (is_key k && (ltb body bodies && (leb size largest_size && is_retention t.retention))) ≡ true = p.fields.is_in_range in
       all_insert _ _ b.rows
       (new_sound b.settings now.stamp k body size t s.from_one (and_l _ _ r) (search (and_l, and_r)) (search (and_l, and_r)) (config_default b.settings.config s.config_sound) (search (and_l, and_r)) p.fields.not_half p.fields.future p.in_time)
       (later_rows c b _ now.stamp s (omega arith) l)
@@ -102,10 +102,10 @@ module _ (c : ℕ) (b : Bucket) (g : Context) (now : Now) (s : Whole c b) (l : b
   rows_copy n k t p = go (row_of b.rows n) refl
     where
       go : (o : Option Row) → row_of b.rows n ≡ o → all (sound_row (b.settings.next + 1) now.stamp) (rows_after b now (Copy n k t)) ≡ true
-      go none q = absurd (true≢false (rw q at p.present))
-      go (some x) q =
+      go None q = absurd (true≢false (rw q at p.present))
+      go (Some x) q =
           let d : sound_data x ≡ true = (row_data _ _ x (all_first (sound_row b.settings.next b.settings.time) _ b.rows x s.rows_sound q) (rw q at p.no_marker)).1 in
-          let r : (is_name n && (is_key k && is_retention t.retention)) ≡ true = p.fields.in_range_lem in
+          let r : (is_name n && (is_key k && is_retention t.retention)) ≡ true = p.fields.is_in_range in
           all_insert _ _ b.rows
           (new_sound b.settings now.stamp k _ _ t s.from_one (search (and_l, and_r)) (rw q (search and_l)) (rw q (search (and_l, and_r))) (config_default b.settings.config s.config_sound) (search (and_l, and_r)) p.fields.not_half p.fields.future p.in_time)
           (later_rows c b _ now.stamp s (omega arith) l)
@@ -113,7 +113,7 @@ module _ (c : ℕ) (b : Bucket) (g : Context) (now : Now) (s : Whole c b) (l : b
   rows_retain : (n : Name) (r : Retention) (y : Bool) → Accepted c b g now (Retain n r y) → (m : ℕ) → b.settings.next ≤ m → all (sound_row m now.stamp) (rows_after b now (Retain n r y)) ≡ true
   unfolding rows_after in_range half_given past_date missing names_marker
   rows_retain n r y p m h =
-      let ranges : is_retention r ≡ true = and_r (is_name n) _ p.fields.in_range_lem in
+      let ranges : is_retention r ≡ true = and_r (is_name n) _ p.fields.is_in_range in
       let f = given_sound now.stamp r.mode r.date (and_l _ _ ranges) (and_r (is_mode_field r.mode) _ ranges) p.fields.not_half p.fields.future in
       named_sound m now.stamp n _ (λ x e k. retention_sound m now.stamp (or_zero r.mode) (or_zero r.date) x e k f) b.rows s.in_order p.present p.no_marker (later_rows c b m now.stamp s h l)
 
@@ -129,22 +129,22 @@ module _ (c : ℕ) (b : Bucket) (g : Context) (now : Now) (s : Whole c b) (l : b
   rows_after_lem (Retain n r y) p = rows_retain n r y p _ (omega arith)
   rows_after_lem (Hold n on) p = rows_hold n on p _ (omega arith)
   rows_after_lem (AddMarker k y) p =
-      all_insert _ _ b.rows (marker_sound now.stamp _ b.settings.next k s.from_one (omega arith) p.fields.in_range_lem) (later_rows c b _ now.stamp s (omega arith) l)
+      all_insert _ _ b.rows (marker_sound now.stamp _ b.settings.next k s.from_one (omega arith) p.fields.is_in_range) (later_rows c b _ now.stamp s (omega arith) l)
   rows_after_lem (DeleteVersion k v y) p = all_keep _ _ b.rows (later_rows c b _ now.stamp s (omega arith) l)
   rows_after_lem (Set a) p = later_rows c b _ now.stamp s (omega arith) l
   rows_after_lem Sweep p =
-      all_swept (sound_row (b.settings.next + counted marks b.settings.config.rules now.judge none b.rows) now.stamp) b.settings.config.rules now b.settings.next _
+      all_swept (sound_row (b.settings.next + counted marks b.settings.config.rules now.judge None b.rows) now.stamp) b.settings.config.rules now b.settings.next _
       (λ x m e i j. marker_sound now.stamp _ m x.key (omega (arith, s.from_one)) j (row_parts _ _ x e).key_fits)
-      b.settings.next none b.rows (omega arith) (omega arith) (later_rows c b _ now.stamp s (omega arith) l)
+      b.settings.next None b.rows (omega arith) (omega arith) (later_rows c b _ now.stamp s (omega arith) l)
   rows_after_lem (Ask q) p = later_rows c b _ now.stamp s (omega arith) l
 
 -- ## The settings after a line
 
 default_set : (m : Option ℕ) (p : Option Period) → is_mode_field m ≡ true → is_period_field p ≡ true → one_of (is_some m) (is_some p) ≡ false → sound_default (default_from m p) ≡ true
-default_set none none e f h = refl
-default_set none (some p) e f h = absurd (true≢false h)
-default_set (some m) none e f h = absurd (true≢false h)
-default_set (some m) (some p) e f h = or_r (eqb m 0 && (eqb p.count 0 && eqb p.unit 0)) _ (and_i (is_mode m) _ e f)
+default_set None None e f h = refl
+default_set None (Some p) e f h = absurd (true≢false h)
+default_set (Some m) None e f h = absurd (true≢false h)
+default_set (Some m) (Some p) e f h = or_r (eqb m 0 && (eqb p.count 0 && eqb p.unit 0)) _ (and_i (is_mode m) _ e f)
 
 rule_set : (u : Rule) → is_prefix u.prefix ≡ true → is_days u.current_days ≡ true → is_days u.noncurrent_days ≡ true → sound_rule (pick (is_set u) u absent_rule) ≡ true
 unfolding is_prefix
@@ -204,7 +204,7 @@ sound_after c b q e =
     let s₂ : leb (now_of b g).stamp latest ≡ true = le-leb (now_of b g).stamp latest (omega arith) in
     let s₃ : leb 1 (b.settings.next + added b (now_of b g) v) ≡ true = le-leb 1 (b.settings.next + added b (now_of b g) v) (omega (arith, w.from_one)) in
     let s₄ : leb (b.settings.next + added b (now_of b g) v) spent_number ≡ true = le-leb (b.settings.next + added b (now_of b g) v) spent_number (next_after b (now_of b g) v p.unspent) in
-    let s₅ = config_after_lem b.settings.config v p.fields.in_range_lem p.fields.not_half w.config_sound in
+    let s₅ = config_after_lem b.settings.config v p.fields.is_in_range p.fields.not_half w.config_sound in
     let s₆ = ordered_after c b (now_of b g) v w in
     let s₇ = rows_after_lem c b g (now_of b g) w (omega arith) v p in
     search and_i depth 12

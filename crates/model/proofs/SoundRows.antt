@@ -4,7 +4,7 @@ use mathlib.Core.Path.{◌≡◌, refl, sym}
 use mathlib.Core.Logic.{inl, inr}
 use mathlib.Core.Bool.{Bool, true, false, not, ◌&&◌, ◌||◌, true≢false}
 use mathlib.Core.List.{List, [], ◌∷◌, ◌++◌}
-use mathlib.Core.Option.{Option, some, none}
+use Rattle.std.specs.Prelude.{Option, Some, None}
 use native.Mathlib.Omega.{arith}
 use lib.Dec.{eqb, leb, ltb}
 use borrow.Author.Tests.{eqb-true, eq-eqb, ne_eqb, ltb-true, ltb-false, leb-true, leb-false, lt-ltb, le-leb}
@@ -163,10 +163,10 @@ both_sound m d e l u = rw (mode_not_zero m e) (and_i (is_mode m) _ e (and_i (leb
 
 -- Mode and date as a line gives them: both, or neither.
 pub given_sound : (now : ℕ) (m d : Option ℕ) → is_mode_field m ≡ true → is_date_field d ≡ true → one_of (is_some m) (is_some d) ≡ false → then_some d false (λ t. leb t now) ≡ false → sound_retention (or_zero m) (or_zero d) ≡ true
-given_sound now none none e f h p = refl
-given_sound now none (some d) e f h p = absurd (true≢false h)
-given_sound now (some m) none e f h p = absurd (true≢false h)
-given_sound now (some m) (some d) e f h p = both_sound m d e (omega (arith, leb-false d now p)) f
+given_sound now None None e f h p = refl
+given_sound now None (Some d) e f h p = absurd (true≢false h)
+given_sound now (Some m) None e f h p = absurd (true≢false h)
+given_sound now (Some m) (Some d) e f h p = both_sound m d e (omega (arith, leb-false d now p)) f
 
 -- The default's.
 default_sound : (s : Config) (now : ℕ) → sound_default s.default ≡ true → (has_default s.default && ltb latest (default_end s now)) ≡ false → sound_retention s.default.mode (pick (has_default s.default) (default_end s now) 0) ≡ true
@@ -184,15 +184,15 @@ default_sound s now d o =
     ]
 
 new_retention : (s : Config) (now : ℕ) (r : Retention) (o : Option ℕ) → r.mode ≡ o → sound_default s.default ≡ true → is_retention r ≡ true → retention_half r ≡ false → then_some r.date false (λ t. leb t now) ≡ false → default_too_late s now r ≡ false → sound_retention (new_mode s r) (new_until s now r) ≡ true
-new_retention s now r none q d g h p o = rw q (default_sound s now d (rw q at o))
-new_retention s now r (some m) q d g h p o =
+new_retention s now r None q d g h p o = rw q (default_sound s now d (rw q at o))
+new_retention s now r (Some m) q d g h p o =
     let given : sound_retention (or_zero r.mode) (or_zero r.date) ≡ true = given_sound now r.mode r.date (and_l _ _ g) (and_r (is_mode_field r.mode) _ g) h p in
     rw q (rw q at given)
 
 hold_fits : (o : Option Bool) → leb (new_hold o) 1 ≡ true
-hold_fits none = refl
-hold_fits (some true) = refl
-hold_fits (some false) = refl
+hold_fits None = refl
+hold_fits (Some true) = refl
+hold_fits (Some false) = refl
 
 -- The row that a PUT or COPY adds.
 pub new_sound : (s : Settings) (now : ℕ) (k : List ℕ) (body size : ℕ) (t : Terms) → 1 ≤ s.next → is_key k ≡ true → ltb body bodies ≡ true → leb size largest_size ≡ true → sound_default s.config.default ≡ true → is_retention t.retention ≡ true → retention_half t.retention ≡ false → then_some t.retention.date false (λ d. leb d now) ≡ false → default_too_late s.config now t.retention ≡ false → sound_row (s.next + 1) now (new_row s now k body size t) ≡ true
@@ -240,17 +240,17 @@ others_behind [] x zs o = others x zs (and_l _ _ o)
 others_behind (y ∷ ys) x zs o = others_behind ys x zs (and_r (all (ahead y) (ys ++ x ∷ zs)) _ o)
 
 -- What holds of a row that is found holds of each row of its key and number.
-all_named : (p q : Row → Bool) (xs : List Row) (x : Row) → ordered xs ≡ true → first p xs ≡ some x → q x ≡ true → all (λ y. not (same_version x y) || q y) xs ≡ true
+all_named : (p q : Row → Bool) (xs : List Row) (x : Row) → ordered xs ≡ true → first p xs ≡ Some x → q x ≡ true → all (λ y. not (same_version x y) || q y) xs ≡ true
 all_named p q [] x o f e = refl
 all_named p q (y ∷ ys) x o f e =
     elim (either (p y)) [
       | inl t ↦
-          let g : some y ≡ some x = rw t at f in
+          let g : Some y ≡ Some x = rw t at f in
           let s : y ≡ x = cc in
           and_i (not (same_version x y) || q y) _ (or_r (not (same_version x y)) _ (rw s e))
           (all_as (ahead y) (λ z. not (same_version x z) || q z) (λ z d. or_l (not (same_version x z)) _ (rw (sym s) (rw (apart y z d).0))) ys (and_l _ _ o))
       | inr t ↦
-          let g : first p ys ≡ some x = rw t at f in
+          let g : first p ys ≡ Some x = rw t at f in
           let d : ahead y x ≡ true = all_first (ahead y) p ys x (and_l _ _ o) g in
           and_i (not (same_version x y) || q y) _ (or_l (not (same_version x y)) _ (rw (apart y x d).1))
           (all_named p q ys x (and_r (all (ahead y) ys) _ o) g e)
@@ -264,8 +264,8 @@ pub named_sound : (n t : ℕ) (m : Name) (f : Row → Row) → ((x : Row) → so
 named_sound n t m f g xs o present no_marker s = go (row_of xs m) refl
   where
     go : (r : Option Row) → row_of xs m ≡ r → all (sound_row n t) (change (is_named xs m) f xs) ≡ true
-    go none q = absurd (true≢false (rw q at present))
-    go (some x) q =
+    go None q = absurd (true≢false (rw q at present))
+    go (Some x) q =
         let k : is_data x ≡ true = eq-eqb x.kind 1 (row_data n t x (all_first (sound_row n t) _ xs x s q) (rw q at no_marker)).0 in
         let there = all_named _ is_data xs x o q k in
         all_change (λ y. sound_row n t y && (not (same_version x y) || is_data y)) (sound_row n t) (is_named xs m) f

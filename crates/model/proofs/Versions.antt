@@ -4,7 +4,7 @@ use mathlib.Core.Path.{◌≡◌, refl, sym, ◌∙◌, ap, ap₂}
 use mathlib.Core.Logic.{◌⊎◌, inl, inr}
 use mathlib.Core.Bool.{Bool, true, false, not, ◌&&◌, true≢false, false≢true}
 use mathlib.Core.List.{List, [], ◌∷◌, ◌++◌, nil≢cons, cons≢nil, head-eq_of_cons-eq, tail-eq_of_cons-eq}
-use mathlib.Core.Option.{Option, some, none}
+use Rattle.std.specs.Prelude.{Option, Some, None}
 use native.Mathlib.Omega.{arith}
 use lib.Dec.{eqb}
 use borrow.Author.Tests.{eqb-true, eqb-false, eq-eqb, ne_eqb}
@@ -17,7 +17,9 @@ use Rattle.model.specs.Rows.{Row, is_data, before}
 use Rattle.model.specs.Settings.{Rule}
 use Rattle.model.specs.Requests.{Name}
 use Rattle.model.specs.Locks.{locked}
-use Rattle.model.specs.Sweep.{marker, applying, due, Fate, stays, goes, gains, fate, in_place, marks, swept, counted}
+use Rattle.model.specs.declared.Fate.{Fate}
+use Rattle.model.specs.declared.Fate.TheVariants.{Stays, Goes, Gains}
+use Rattle.model.specs.Sweep.{marker, applying, due, fate, in_place, marks, swept, counted}
 use Rattle.model.specs.Effects.{row_of, same_version, is_named, insert_by_key}
 use Rattle.model.specs.LockClause.{versions}
 
@@ -65,25 +67,25 @@ insert_new v x (y ∷ ys) e h =
 -- ## The named row
 
 -- A row that is found is among those of its number.
-pub found_some : (p : Row → Bool) (xs : List Row) (x : Row) → first p xs ≡ some x → versions x.number xs ≡ [] → ⊥
+pub found_some : (p : Row → Bool) (xs : List Row) (x : Row) → first p xs ≡ Some x → versions x.number xs ≡ [] → ⊥
 found_some p [] x e h = let z : ◌≡◌ {A = ℕ} 0 1 = cc in omega arith
 found_some p (y ∷ ys) x e h =
     let other = cons_none x.number y ys h in
     elim (either (p y)) [
       | inl t ↦
-          let g : some y ≡ some x = rw t at e in
+          let g : Some y ≡ Some x = rw t at e in
           let q : y ≡ x = cc in
           true≢false (sym (eq-eqb y.number x.number (ap (λ (r : Row). r.number) q)) ∙ other.0)
       | inr t ↦ found_some p ys x (rw t at e) other.1
     ]
 
 -- Where its number stands once, the row that is found is that one.
-pub found_one : (p : Row → Bool) (xs : List Row) (x y : Row) → first p xs ≡ some x → versions x.number xs ≡ y ∷ [] → x ≡ y
+pub found_one : (p : Row → Bool) (xs : List Row) (x y : Row) → first p xs ≡ Some x → versions x.number xs ≡ y ∷ [] → x ≡ y
 found_one p [] x y e h = absurd (nil≢cons h)
 found_one p (z ∷ zs) x y e h =
     elim (either (p z)) [
       | inl t ↦
-          let g : some z ≡ some x = rw t at e in
+          let g : Some z ≡ Some x = rw t at e in
           let q : z ≡ x = cc in
           sym q ∙ head-eq_of_cons-eq (sym (cons_yes x.number z zs (eq-eqb z.number x.number (ap (λ (r : Row). r.number) q))) ∙ h)
       | inr t ↦ elim (either (eqb z.number x.number)) [
@@ -93,19 +95,19 @@ found_one p (z ∷ zs) x y e h =
     ]
 
 -- Where the only row of a version is the one that is named, that row is found.
-pub named_row_lem : (v : ℕ) (xs : List Row) (n : Name) (x : Row) → versions v xs ≡ x ∷ [] → is_named xs n x ≡ true → row_of xs n ≡ some x
+pub named_row_lem : (v : ℕ) (xs : List Row) (n : Name) (x : Row) → versions v xs ≡ x ∷ [] → is_named xs n x ≡ true → row_of xs n ≡ Some x
 named_row_lem v xs n x e t = go (row_of xs n) refl t
   where
-    go : (o : Option Row) → row_of xs n ≡ o → is_named xs n x ≡ true → row_of xs n ≡ some x
-    go none q t = absurd (false≢true (rw q at t))
-    go (some z) q t =
+    go : (o : Option Row) → row_of xs n ≡ o → is_named xs n x ≡ true → row_of xs n ≡ Some x
+    go None q t = absurd (false≢true (rw q at t))
+    go (Some z) q t =
         let s : same_version z x ≡ true = rw q at t in
         let m : z.number ≡ v = eqb-true z.number x.number (and_r (same z.key x.key) _ s) ∙ number_is v xs x e in
         let w : versions z.number xs ≡ x ∷ [] = rw m e in
-        q ∙ ap (λ (r : Row). some r) (found_one _ xs z x q w)
+        q ∙ ap (λ (r : Row). Some r) (found_one _ xs z x q w)
 
 -- A row that is found is the one that is named.
-pub found_named : (xs : List Row) (n : Name) (x : Row) → row_of xs n ≡ some x → is_named xs n x ≡ true
+pub found_named : (xs : List Row) (n : Name) (x : Row) → row_of xs n ≡ Some x → is_named xs n x ≡ true
 found_named xs n x e = rw e (and_i (same x.key x.key) _ (same_refl x.key) (eq-eqb x.number x.number refl))
 
 -- ## Changes in place, and removal
@@ -127,34 +129,34 @@ keep_none v q xs e = keep_keep (λ (y : Row). eqb y.number v) q xs ∙ rw e
 -- ## The sweep
 
 -- A row goes only if it is not locked without bypass.
-noncurrent_goes : (a b : Bool) → pick (a && not b) goes stays ≡ goes → b ≡ false
+noncurrent_goes : (a b : Bool) → pick (a && not b) Goes Stays ≡ Goes → b ≡ false
 noncurrent_goes true true e = cc
 noncurrent_goes true false e = refl
 noncurrent_goes false b e = cc
 
-current_stays : (a : Bool) → pick a gains stays ≡ goes → ⊥
+current_stays : (a : Bool) → pick a Gains Stays ≡ Goes → ⊥
 current_stays true e = let z : ◌≡◌ {A = ℕ} 0 1 = cc in omega arith
 current_stays false e = let z : ◌≡◌ {A = ℕ} 0 1 = cc in omega arith
 
-goes_unlocked : (rules : List Rule) (now : ℕ) (y : Option Row) (x : Row) → fate rules now y x ≡ goes → locked now false x ≡ false
-goes_unlocked rules now none x e =
+goes_unlocked : (rules : List Rule) (now : ℕ) (y : Option Row) (x : Row) → fate rules now y x ≡ Goes → locked now false x ≡ false
+goes_unlocked rules now None x e =
     absurd (current_stays (is_data x && due (λ u. u.current_days) (applying rules x.key) now x.created) e)
-goes_unlocked rules now (some y) x e =
+goes_unlocked rules now (Some y) x e =
     elim (either (same y.key x.key)) [
       | inl t ↦ noncurrent_goes (due (λ u. u.noncurrent_days) (applying rules x.key) now y.created) (locked now false x) (rw t at e)
       | inr t ↦ absurd (current_stays (is_data x && due (λ u. u.current_days) (applying rules x.key) now x.created) (rw t at e))
     ]
 
 -- The versions after a sweep: those in the first row's place, and those of the rest.
-swept_cons : (rules : List Rule) (now : Now) (n : ℕ) (y : Option Row) (x : Row) (xs : List Row) (v : ℕ) (s t : List Row) → versions v (in_place (fate rules now.judge y x) now.stamp n x) ≡ s → versions v (swept rules now (n + marks (fate rules now.judge y x)) (some x) xs) ≡ t → versions v (swept rules now n y (x ∷ xs)) ≡ s ++ t
+swept_cons : (rules : List Rule) (now : Now) (n : ℕ) (y : Option Row) (x : Row) (xs : List Row) (v : ℕ) (s t : List Row) → versions v (in_place (fate rules now.judge y x) now.stamp n x) ≡ s → versions v (swept rules now (n + marks (fate rules now.judge y x)) (Some x) xs) ≡ t → versions v (swept rules now n y (x ∷ xs)) ≡ s ++ t
 swept_cons rules now n y x xs v s t p q =
     keep_append (λ (z : Row). eqb z.number v) (in_place (fate rules now.judge y x) now.stamp n x) _ ∙ ap₂ (λ (i j : List Row). i ++ j) p q
 
 -- The rows in the place of a row of another number have other numbers.
 in_place_none : (f : Fate) (made n v : ℕ) (x : Row) → v < n → eqb x.number v ≡ false → versions v (in_place f made n x) ≡ []
-in_place_none stays made n v x l e = simp e
-in_place_none goes made n v x l e = refl
-in_place_none gains made n v x l e = simp (ne_eqb n v (λ q. omega arith), e)
+in_place_none Stays made n v x l e = simp e
+in_place_none Goes made n v x l e = refl
+in_place_none Gains made n v x l e = simp (ne_eqb n v (λ q. omega arith), e)
 
 pub swept_none : (rules : List Rule) (now : Now) (n : ℕ) (y : Option Row) (xs : List Row) (v : ℕ) → v < n → versions v xs ≡ [] → versions v (swept rules now n y xs) ≡ []
 swept_none rules now n y [] v l h = refl
@@ -162,16 +164,16 @@ swept_none rules now n y (x ∷ xs) v l h =
     let other = cons_none v x xs h in
     swept_cons rules now n y x xs v [] []
     (in_place_none (fate rules now.judge y x) now.stamp n v x l other.0)
-    (swept_none rules now (n + marks (fate rules now.judge y x)) (some x) xs v (omega arith) other.1)
+    (swept_none rules now (n + marks (fate rules now.judge y x)) (Some x) xs v (omega arith) other.1)
 
 -- A sweep leaves of a version's rows: the row, or nothing where it is not locked without bypass.
 abbrev pub Left : List Row → ℕ → Row → Type 0
 Left ys now x = (ys ≡ x ∷ []) ⊎ ((ys ≡ []) × (locked now false x ≡ false))
 
 in_place_version : (rules : List Rule) (now : Now) (n : ℕ) (y : Option Row) (x : Row) (v : ℕ) (f : Fate) → fate rules now.judge y x ≡ f → v < n → eqb x.number v ≡ true → Left (versions v (in_place f now.stamp n x)) now.judge x
-in_place_version rules now n y x v stays g l e = inl (simp e)
-in_place_version rules now n y x v goes g l e = inr (refl, goes_unlocked rules now.judge y x g)
-in_place_version rules now n y x v gains g l e = inl (simp (ne_eqb n v (λ q. omega arith), e))
+in_place_version rules now n y x v Stays g l e = inl (simp e)
+in_place_version rules now n y x v Goes g l e = inr (refl, goes_unlocked rules now.judge y x g)
+in_place_version rules now n y x v Gains g l e = inl (simp (ne_eqb n v (λ q. omega arith), e))
 
 pub swept_version : (rules : List Rule) (now : Now) (n : ℕ) (y : Option Row) (xs : List Row) (v : ℕ) (x : Row) → v < n → versions v xs ≡ x ∷ [] → Left (versions v (swept rules now n y xs)) now.judge x
 swept_version rules now n y [] v x l h = absurd (nil≢cons h)
@@ -179,14 +181,14 @@ swept_version rules now n y (z ∷ zs) v x l h =
     elim (either (eqb z.number v)) [
       | inl u ↦
           let here : z ∷ versions v zs ≡ x ∷ [] = sym (cons_yes v z zs u) ∙ h in
-          let rest = swept_none rules now (n + marks (fate rules now.judge y z)) (some z) zs v (omega arith) (tail-eq_of_cons-eq here) in
+          let rest = swept_none rules now (n + marks (fate rules now.judge y z)) (Some z) zs v (omega arith) (tail-eq_of_cons-eq here) in
           elim (in_place_version rules now n y z v (fate rules now.judge y z) refl l u) [
             | inl a ↦ inl (swept_cons rules now n y z zs v (z ∷ []) [] a rest ∙ ap (λ (w : Row). w ∷ []) (head-eq_of_cons-eq here))
             | inr a ↦ inr (swept_cons rules now n y z zs v [] [] a.0 rest, rw (head-eq_of_cons-eq here) at a.1)
           ]
       | inr u ↦
           let gone = in_place_none (fate rules now.judge y z) now.stamp n v z l u in
-          elim (swept_version rules now (n + marks (fate rules now.judge y z)) (some z) zs v x (omega arith) (sym (cons_no v z zs u) ∙ h)) [
+          elim (swept_version rules now (n + marks (fate rules now.judge y z)) (Some z) zs v x (omega arith) (sym (cons_no v z zs u) ∙ h)) [
             | inl a ↦ inl (swept_cons rules now n y z zs v [] (x ∷ []) gone a)
             | inr a ↦ inr (swept_cons rules now n y z zs v [] [] gone a.0, a.1)
           ]
@@ -197,9 +199,9 @@ abbrev pub Taken : List Row → ℕ → ℕ → Type 0
 Taken ys v next = ((ys ≡ []) × (next ≤ v)) ⊎ ((m : Row) × (ys ≡ m ∷ []) × (m.kind ≡ 2) × (v < next))
 
 in_place_new : (f : Fate) (made n v : ℕ) (x : Row) → n ≤ v → eqb x.number v ≡ false → Taken (versions v (in_place f made n x)) v (n + marks f)
-in_place_new stays made n v x l e = inl (simp e, omega arith)
-in_place_new goes made n v x l e = inl (refl, omega arith)
-in_place_new gains made n v x l e =
+in_place_new Stays made n v x l e = inl (simp e, omega arith)
+in_place_new Goes made n v x l e = inl (refl, omega arith)
+in_place_new Gains made n v x l e =
     elim (either (eqb n v)) [
       | inl t ↦ inr (marker made n x.key, simp (t, e), refl, omega (arith, eqb-true n v t))
       | inr t ↦ inl (simp (t, e), omega (arith, eqb-false n v t))
@@ -210,11 +212,11 @@ swept_new rules now n y [] v l h = inl (refl, omega arith)
 swept_new rules now n y (x ∷ xs) v l h =
     let other = cons_none v x xs h in
     elim (in_place_new (fate rules now.judge y x) now.stamp n v x l other.0) [
-      | inl a ↦ elim (swept_new rules now (n + marks (fate rules now.judge y x)) (some x) xs v a.1 other.1) [
+      | inl a ↦ elim (swept_new rules now (n + marks (fate rules now.judge y x)) (Some x) xs v a.1 other.1) [
         | inl b ↦ inl (swept_cons rules now n y x xs v [] [] a.0 b.0, omega arith)
         | inr b ↦ inr (b.0, swept_cons rules now n y x xs v [] (b.0 ∷ []) a.0 b.1, b.2, omega arith)
       ]
       | inr a ↦
-          let rest = swept_none rules now (n + marks (fate rules now.judge y x)) (some x) xs v a.3 other.1 in
+          let rest = swept_none rules now (n + marks (fate rules now.judge y x)) (Some x) xs v a.3 other.1 in
           inr (a.0, swept_cons rules now n y x xs v (a.0 ∷ []) [] a.1 rest, a.2, omega arith)
     ]

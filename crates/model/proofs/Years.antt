@@ -4,7 +4,7 @@ use mathlib.Core.Path.{◌≡◌, refl, sym, ◌∙◌}
 use mathlib.Core.Logic.{◌⊎◌, inl, inr}
 use mathlib.Core.Bool.{Bool, true, false, true≢false, false≢true, not, ◌&&◌, and-true, or-false}
 use mathlib.Core.List.{List}
-use mathlib.Core.Option.{some, none}
+use Rattle.std.specs.Prelude.{Some, None}
 use native.Mathlib.Omega.{arith}
 use lib.Dec.{eqb, leb, ltb}
 use borrow.Author.Tests.{eqb-true, leb-true, ltb-false, not-true}
@@ -61,16 +61,16 @@ module _ (s : Config) (now : ℕ) (e : sound_default s.default ≡ true) (u : s.
   default_ends = rw u (period_years now d.count h period.some (omega (arith, period.most)))
 
   -- A line that gives no mode meets 10 where the later year is above 9999, and nowhere else.
-  pub ten_by_years : (r : Retention) → r.mode ≡ none → default_too_late s now r ≡ ltb 9999 ((civil_of (now / day)).year + d.count)
-  ten_by_years r n = rw (n, period.has_mode) default_ends.too_late_lem
+  pub ten_by_years : (r : Retention) → r.mode ≡ None → default_too_late s now r ≡ ltb 9999 ((civil_of (now / day)).year + d.count)
+  ten_by_years r n = rw (n, period.has_mode) default_ends.is_too_late
 
-  no_later : (r : Retention) → r.mode ≡ none → default_too_late s now r ≡ false → default_end s now ≤ latest
+  no_later : (r : Retention) → r.mode ≡ None → default_too_late s now r ≡ false → default_end s now ≤ latest
   no_later r n f = ltb-false latest (default_end s now) (rw (n, period.has_mode) at f)
 
-  new_mode_lem : (r : Retention) → r.mode ≡ none → new_mode s r ≡ d.mode
+  new_mode_lem : (r : Retention) → r.mode ≡ None → new_mode s r ≡ d.mode
   new_mode_lem r n = rw n
 
-  new_until_lem : (r : Retention) → r.mode ≡ none → new_until s now r ≡ default_end s now
+  new_until_lem : (r : Retention) → r.mode ≡ None → new_until s now r ≡ default_end s now
   new_until_lem r n = rw (n, period.has_mode)
 
 -- ## The row that is made
@@ -79,11 +79,11 @@ module _ (s : Config) (now : ℕ) (e : sound_default s.default ≡ true) (u : s.
 abbrev pub MakesRow : List ℕ → Terms → Verb → Type 0
 MakesRow k t w = ((body : ℕ) × ((size : ℕ) × (w ≡ Put k body size t))) ⊎ ((n : Name) × (w ≡ Copy n k t))
 
-pub terms_made : (k : List ℕ) (t : Terms) (w : Verb) → MakesRow k t w → terms_of w ≡ some t
+pub terms_made : (k : List ℕ) (t : Terms) (w : Verb) → MakesRow k t w → terms_of w ≡ Some t
 terms_made k t w (inl (body, (size, e))) = rw e
 terms_made k t w (inr (n, e)) = rw e
 
-module _ (c : ℕ) (b : Bucket) (g : Context) (t : Terms) (n : t.retention.mode ≡ none) (u : CountsYears b) where
+module _ (c : ℕ) (b : Bucket) (g : Context) (t : Terms) (n : t.retention.mode ≡ None) (u : CountsYears b) where
   abbrev s : Config
   s = b.settings.config
 

@@ -1,6 +1,6 @@
 -- 01, "Request lines": what an accepted line answers after `ok`, as values.
 use Rattle.std.specs.Prelude.{ℕ, Bool, false, List, eqb}
-use Rattle.std.proofs.Math.Option.{some}
+use Rattle.std.specs.Prelude.{Some}
 use Rattle.buffers.specs.Choices.{pick, then_some}
 use Rattle.calendar.specs.declared.Now.{Now}
 use Rattle.model.specs.Rows.{Row, is_marker}
@@ -42,7 +42,7 @@ reply b now who (Copy n k t) = made (new_version b)
 reply b now who (Retain n r y) = done
 reply b now who (Hold n on) = done
 reply b now who (AddMarker k y) = marked (new_version b)
-reply b now who (DeleteVersion k v y) = pick (then_some (row_of b.rows (name k (some v))) false is_marker) (removed_marker v) (removed v)
+reply b now who (DeleteVersion k v y) = pick (then_some (row_of b.rows (name k (Some v))) false is_marker) (removed_marker v) (removed v)
 reply b now who (Set s) = done
 reply b now who Sweep = swept_counts (rows_removed b now Sweep) (added b now Sweep)
 reply b now who (Ask (Get n)) = then_some (row_of b.rows n) done (λ x. shown x)

@@ -1,6 +1,6 @@
 -- 01, "Request lines": what an accepted line does to the bucket.
 use Rattle.std.specs.Prelude.{ℕ, ◌+◌, Bool, true, false, not, ◌&&◌, List, [], ◌∷◌, eqb, set}
-use Rattle.std.proofs.Math.Option.{Option, some, none}
+use Rattle.std.specs.Prelude.{Option, Some, None}
 use Rattle.buffers.specs.Choices.{pick, then_some, or_zero}
 use Rattle.buffers.specs.Lists.{keep, first, change, same}
 use Rattle.calendar.specs.declared.Now.{Now}
@@ -13,8 +13,8 @@ use Rattle.model.specs.Sweep.{marker, marks, removes, swept, counted}
 -- ## The row that a line names
 
 abbrev pub has_version : Option Version → Row → Bool
-has_version none x = true
-has_version (some (numbered v)) x = eqb v x.number
+has_version None x = true
+has_version (Some (numbered v)) x = eqb v x.number
 
 -- The key's row with that number, or the key's first row.
 abbrev pub row_of : List Row → Name → Option Row
@@ -48,8 +48,8 @@ abbrev pub hold_number : Bool → ℕ
 hold_number on = pick on 1 0
 
 abbrev pub new_hold : Option Bool → ℕ
-new_hold none = 0
-new_hold (some on) = hold_number on
+new_hold None = 0
+new_hold (Some on) = hold_number on
 
 -- The data row that a PUT or COPY adds, created now, with the next number.
 abbrev pub new_row : Settings → ℕ → List ℕ → ℕ → ℕ → Terms → Row
@@ -77,7 +77,7 @@ added b now (Hold n on) = 0
 added b now (AddMarker k y) = 1
 added b now (DeleteVersion k v y) = 0
 added b now (Set s) = 0
-added b now Sweep = counted marks b.settings.config.rules now.judge none b.rows
+added b now Sweep = counted marks b.settings.config.rules now.judge None b.rows
 added b now (Ask q) = 0
 
 -- The rows that a line removes.
@@ -89,7 +89,7 @@ removed b now (Hold n on) = 0
 removed b now (AddMarker k y) = 0
 removed b now (DeleteVersion k v y) = 1
 removed b now (Set s) = 0
-removed b now Sweep = counted removes b.settings.config.rules now.judge none b.rows
+removed b now Sweep = counted removes b.settings.config.rules now.judge None b.rows
 removed b now (Ask q) = 0
 
 -- The table. A copy takes body and length from its source.
@@ -101,9 +101,9 @@ rows_after b now (Copy n k t) =
 rows_after b now (Retain n r y) = change (is_named b.rows n) (set_retention (or_zero r.mode) (or_zero r.date)) b.rows
 rows_after b now (Hold n on) = change (is_named b.rows n) (set_hold (hold_number on)) b.rows
 rows_after b now (AddMarker k y) = insert_by_key (marker now.stamp b.settings.next k) b.rows
-rows_after b now (DeleteVersion k v y) = keep (λ x. not (is_named b.rows (name k (some v)) x)) b.rows
+rows_after b now (DeleteVersion k v y) = keep (λ x. not (is_named b.rows (name k (Some v)) x)) b.rows
 rows_after b now (Set s) = b.rows
-rows_after b now Sweep = swept b.settings.config.rules now b.settings.next none b.rows
+rows_after b now Sweep = swept b.settings.config.rules now b.settings.next None b.rows
 rows_after b now (Ask q) = b.rows
 
 abbrev pub default_from : Option ℕ → Option Period → Default

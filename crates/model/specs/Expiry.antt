@@ -1,6 +1,6 @@
 -- Document 02, M-102: which rows a SWEEP marks and removes, told by midnights.
 use Rattle.std.specs.Prelude.{ℕ, ◌+◌, ◌*◌, max, ◌≡◌, true, false, List, ◌∷◌, ◌++◌, get_or}
-use Rattle.std.proofs.Math.Option.{some, none}
+use Rattle.std.specs.Prelude.{Some, None}
 use Rattle.buffers.specs.Lists.{begins}
 use Rattle.calendar.specs.Calendar.{day}
 use Rattle.calendar.specs.Periods.{MidnightBetween}
@@ -20,10 +20,10 @@ pub record Expired (days : Rule → ℕ) (rules : List Rule) (k : List ℕ) (sin
 
 -- A row by its key and number, and by its key alone, which names the current one.
 abbrev pub by_number : Row → Name
-by_number x = name x.key (some (numbered x.number))
+by_number x = name x.key (Some (numbered x.number))
 
 abbrev pub by_key : Row → Name
-by_key x = name x.key none
+by_key x = name x.key None
 
 -- What a SWEEP with this clock makes of each row of the bucket before it.
 module _ (clock : ℕ) (before after : Bucket) where
@@ -43,14 +43,14 @@ module _ (clock : ℕ) (before after : Bucket) where
 
   pub record SweptByMidnights : Type 0 where
     -- A key's current row stays in the table.
-    pub current_kept : (x : Row) → row_of before.rows (by_key x) ≡ some x → row_of after.rows (by_number x) ≡ some x
+    pub current_kept : (x : Row) → row_of before.rows (by_key x) ≡ Some x → row_of after.rows (by_number x) ≡ Some x
     -- Where it is data and its days have expired, a marker is current, created now.
-    pub current_marked : (x : Row) → row_of before.rows (by_key x) ≡ some x → x.kind ≡ 1 → CurrentExpired x → (n : ℕ) × (row_of after.rows (by_key x) ≡ some (marker now n x.key))
+    pub current_marked : (x : Row) → row_of before.rows (by_key x) ≡ Some x → x.kind ≡ 1 → CurrentExpired x → (n : ℕ) × (row_of after.rows (by_key x) ≡ Some (marker now n x.key))
     -- Else it stays current.
-    pub current_stays : (x : Row) → row_of before.rows (by_key x) ≡ some x → (x.kind ≡ 1 → CurrentExpired x → ⊥) → row_of after.rows (by_key x) ≡ some x
+    pub current_stays : (x : Row) → row_of before.rows (by_key x) ≡ Some x → (x.kind ≡ 1 → CurrentExpired x → ⊥) → row_of after.rows (by_key x) ≡ Some x
     -- A row right behind the next newer one of its key goes, where its days have expired and it isn't locked.
     pub noncurrent_goes : (early late : List Row) (newer x : Row) → before.rows ≡ early ++ newer ∷ x ∷ late → newer.key ≡ x.key
-        → NoncurrentExpired newer x → locked now false x ≡ false → row_of after.rows (by_number x) ≡ none
+        → NoncurrentExpired newer x → locked now false x ≡ false → row_of after.rows (by_number x) ≡ None
     -- Else it stays.
     pub noncurrent_stays : (early late : List Row) (newer x : Row) → before.rows ≡ early ++ newer ∷ x ∷ late → newer.key ≡ x.key
-        → (NoncurrentExpired newer x → locked now false x ≡ false → ⊥) → row_of after.rows (by_number x) ≡ some x
+        → (NoncurrentExpired newer x → locked now false x ≡ false → ⊥) → row_of after.rows (by_number x) ≡ Some x

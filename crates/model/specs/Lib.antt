@@ -1,5 +1,7 @@
+pub mod Refusal
 -- Each file under the section of document 01 that it follows, in the order in which they build on each other.
 pub mod Rows
+pub mod Kinds
 pub mod Settings
 pub mod Requests
 pub mod Pages

@@ -1,6 +1,6 @@
 -- 01, "The lock clause": its words over a history, which is a bucket to begin with and the accepted lines since, each by what it means, and the claim.
 use Rattle.std.specs.Prelude.{ℕ, ◌≤◌, ◌<◌, max, ◌≡◌, ◌⊎◌, Bool, true, false, not, ◌&&◌, ◌||◌, List, [], ◌∷◌, ◌++◌, eqb}
-use Rattle.std.proofs.Math.Option.{Option, some, none}
+use Rattle.std.specs.Prelude.{Option, Some, None}
 use Rattle.buffers.specs.Choices.{pick, then_some, is_some}
 use Rattle.buffers.specs.Lists.{keep, first, all}
 use Rattle.model.specs.Rows.{Row, is_data, governance, compliance}
@@ -69,7 +69,7 @@ carried b v = first is_data (versions v b.rows)
 
 -- It counts as made with what it holds,
 abbrev pub carried_making : Bucket → ℕ → Option Making
-carried_making b v = then_some (carried b v) none (λ x. some (making_of x))
+carried_making b v = then_some (carried b v) None (λ x. Some (making_of x))
 
 -- as put under its mode until its date,
 abbrev pub carried_under : Bucket → ℕ → ℕ → ℕ → Bool
@@ -87,21 +87,21 @@ answers v e = e.answered v
 
 -- *Made with* (01), by what the versions before the line were made with: a PUT gives body and length, in a COPY they are those its source version was made with.
 abbrev pub making_by : (ℕ → Option Making) → Event → Verb → Option Making
-making_by earlier e (Put k body size t) = some (record { key = k; body = body; size = size; created = line_now e })
+making_by earlier e (Put k body size t) = Some (record { key = k; body = body; size = size; created = line_now e })
 making_by earlier e (Copy n k t) =
-    then_some (row_of e.before.rows n) none (λ x.
-    then_some (earlier x.number) none (λ m. some (record { key = k; body = m.body; size = m.size; created = line_now e })))
-making_by earlier e (Retain n r y) = none
-making_by earlier e (Hold n on) = none
-making_by earlier e (AddMarker k y) = none
-making_by earlier e (DeleteVersion k v y) = none
-making_by earlier e (Set s) = none
-making_by earlier e Sweep = none
-making_by earlier e (Ask q) = none
+    then_some (row_of e.before.rows n) None (λ x.
+    then_some (earlier x.number) None (λ m. Some (record { key = k; body = m.body; size = m.size; created = line_now e })))
+making_by earlier e (Retain n r y) = None
+making_by earlier e (Hold n on) = None
+making_by earlier e (AddMarker k y) = None
+making_by earlier e (DeleteVersion k v y) = None
+making_by earlier e (Set s) = None
+making_by earlier e Sweep = None
+making_by earlier e (Ask q) = None
 
 -- What each version is made with after one line more: the line that first answers its number decides.
 abbrev pub making_after : (ℕ → Option Making) → Event → ℕ → Option Making
-making_after earlier e v = then_some (earlier v) (pick (answers v e) (making_by earlier e e.request.verb) none) (λ m. some m)
+making_after earlier e v = then_some (earlier v) (pick (answers v e) (making_by earlier e e.request.verb) None) (λ m. Some m)
 
 abbrev pub making_from : (ℕ → Option Making) → List Event → ℕ → Option Making
 making_from earlier [] v = earlier v
@@ -124,15 +124,15 @@ gives mode d e r =
 
 -- RETAIN's mode and date.
 abbrev pub retain_fields : Verb → Option Retention
-retain_fields (Put k body size t) = none
-retain_fields (Copy n k t) = none
-retain_fields (Retain n r y) = some r
-retain_fields (Hold n on) = none
-retain_fields (AddMarker k y) = none
-retain_fields (DeleteVersion k v y) = none
-retain_fields (Set s) = none
-retain_fields Sweep = none
-retain_fields (Ask q) = none
+retain_fields (Put k body size t) = None
+retain_fields (Copy n k t) = None
+retain_fields (Retain n r y) = Some r
+retain_fields (Hold n on) = None
+retain_fields (AddMarker k y) = None
+retain_fields (DeleteVersion k v y) = None
+retain_fields (Set s) = None
+retain_fields Sweep = None
+retain_fields (Ask q) = None
 
 -- *Puts under a mode until D* (01): the line that makes it, or a RETAIN naming it with that mode and D.
 abbrev pub puts_under : History → ℕ → ℕ → ℕ → Event → Bool
@@ -142,20 +142,20 @@ puts_under early mode d v e =
     (λ t. makes early v e && gives mode d e t.retention)
 
 abbrev pub is_on : Option Bool → Bool
-is_on none = false
-is_on (some on) = on
+is_on None = false
+is_on (Some on) = on
 
 -- HOLD's ON (true) or OFF (false).
 abbrev pub hold_field : Verb → Option Bool
-hold_field (Put k body size t) = none
-hold_field (Copy n k t) = none
-hold_field (Retain n r y) = none
-hold_field (Hold n on) = some on
-hold_field (AddMarker k y) = none
-hold_field (DeleteVersion k v y) = none
-hold_field (Set s) = none
-hold_field Sweep = none
-hold_field (Ask q) = none
+hold_field (Put k body size t) = None
+hold_field (Copy n k t) = None
+hold_field (Retain n r y) = None
+hold_field (Hold n on) = Some on
+hold_field (AddMarker k y) = None
+hold_field (DeleteVersion k v y) = None
+hold_field (Set s) = None
+hold_field Sweep = None
+hold_field (Ask q) = None
 
 -- *Puts on hold* (01): the line that makes it with hold ON, or a HOLD ON naming it.
 abbrev pub puts_on_hold : History → ℕ → Event → Bool
@@ -188,7 +188,7 @@ pub record Held (b : Bucket) (h : History) (v : ℕ) (Lock : Row → Type 0) : T
   pub row : Row
   pub once : versions v b.rows ≡ row ∷ []
   pub is_data : row.kind ≡ 1
-  pub unaltered : made_with h v ≡ some (making_of row)
+  pub unaltered : made_with h v ≡ Some (making_of row)
   pub lock : Lock row
 
 abbrev pub InCompliance : ℕ → Row → Type 0
@@ -242,9 +242,9 @@ LockClause = (c : ℕ) (b : Bucket) → sound c b ≡ true → distinct b.rows �
 
 -- A row carried over counts so after any lines: as made with what it holds, as put under its mode until its date, and as put on hold where its hold is on (M-106).
 pub record Counts (b : Bucket) (es : List Event) (x : Row) : Type 0 where
-  pub made : made_with (since b es) x.number ≡ some (making_of x)
+  pub made : made_with (since b es) x.number ≡ Some (making_of x)
   pub under : PutUnder x.mode x.until x.number (since b es) es
-  pub on_hold_lem : x.hold ≡ 1 → PutOnHold x.number (since b es) es
+  pub was_put_on_hold : x.hold ≡ 1 → PutOnHold x.number (since b es) es
 
 -- Each data row does, where the numbers all differ.
 abbrev pub EachCounts : Type 0

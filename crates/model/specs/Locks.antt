@@ -1,6 +1,6 @@
 -- 01, DELETE and RETAIN: when a row is locked, and which retention may follow another.
 use Rattle.std.specs.Prelude.{ℕ, Bool, true, false, not, ◌&&◌, ◌||◌, eqb, leb, ltb}
-use Rattle.std.proofs.Math.Option.{Option, some, none}
+use Rattle.std.specs.Prelude.{Option, Some, None}
 use Rattle.buffers.specs.Choices.{pick, is_some}
 use Rattle.model.specs.Rows.{Row, governance, compliance}
 use Rattle.model.specs.Requests.{Retention, is_the}
@@ -13,8 +13,8 @@ locked now bypass x =
 
 -- A date that is given, and no earlier than d.
 abbrev pub no_earlier : ℕ → Option ℕ → Bool
-no_earlier d none = false
-no_earlier d (some t) = leb d t
+no_earlier d None = false
+no_earlier d (Some t) = leb d t
 
 -- RETAIN's rule: while the row's date is after now, COMPLIANCE admits only COMPLIANCE with a date no earlier, GOVERNANCE without bypass either mode with a date no earlier, and with bypass anything. Otherwise anything is admitted.
 unfoldable pub admits : ℕ → Bool → Row → Retention → Bool

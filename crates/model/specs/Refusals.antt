@@ -1,6 +1,6 @@
 -- 01, "The twelve refusals", and 13 for LIST: the conditions, and the list of them in their order. 1 to 6 and 13 look at the verb as it is written, 7 to 12 at what it means.
 use Rattle.std.specs.Prelude.{ℕ, ◌+◌, ◌*◌, ◌≡◌, Bool, true, false, not, ◌&&◌, List, [], ◌∷◌, ◌++◌, leb, ltb}
-use Rattle.std.proofs.Math.Option.{Option, none}
+use Rattle.std.specs.Prelude.{Option, None}
 use Rattle.buffers.specs.Choices.{pick, then_some, is_some}
 use Rattle.buffers.specs.Lists.{all}
 use Rattle.calendar.specs.declared.Now.{Now}
@@ -12,6 +12,9 @@ use Rattle.model.specs.Time.{now_of, default_end}
 use Rattle.model.specs.Locks.{locked, admits}
 use Rattle.model.specs.Effects.{row_of, added, rows_after}
 use Rattle.model.specs.Retries.{meant}
+use Rattle.model.specs.declared.Refusal.{Refusal}
+use Rattle.model.specs.declared.Refusal.TheVariants.{Unsound, ShortAnswer, Unreadable, HalfGiven, NoRight, PastDate, NoRow, IsMarker, Locked, DateTooLate, NumbersSpent, TableFull, ShortForPage}
+use Rattle.model.specs.Refusal.{number_of}
 
 -- ## 2. The answer buffer is too short
 
@@ -122,7 +125,7 @@ removes_version (Ask q) = false
 
 -- The row that a verb names.
 abbrev pub named_row : List Row → Verb → Option Row
-named_row xs v = then_some (name_of v) none (λ n. row_of xs n)
+named_row xs v = then_some (name_of v) None (λ n. row_of xs n)
 
 unfoldable pub names_marker : List Row → Verb → Bool
 names_marker xs v = pick (removes_version v) false (then_some (named_row xs v) false is_marker)
@@ -169,8 +172,8 @@ pub record Check : Type 0 where
   pub number : ℕ
   pub holds : Bool
 
-abbrev pub check : ℕ → Bool → Check
-check n h = record { number = n; holds = h }
+abbrev pub check : Refusal → Bool → Check
+check e h = record { number = number_of e; holds = h }
 
 -- The number of the first that holds, or 0.
 abbrev pub first_of : List Check → ℕ
@@ -181,27 +184,27 @@ first_of (x ∷ xs) = pick x.holds x.number (first_of xs)
 pub record FirstHolds (xs : List Check) (n : ℕ) : Type 0 where
   pub before : List Check
   pub after : List Check
-  pub at : xs ≡ before ++ (check n true ∷ after)
+  pub at : xs ≡ before ++ (record { number = n; holds = true } ∷ after)
   pub none_before : all (λ x. not x.holds) before ≡ true
 
 -- The conditions that are decided without the table.
 abbrev pub field_checks : Config → Rights → ℕ → ℕ → Verb → List Check
 field_checks s who room now v =
-    check 4 (half_given v)
-    ∷ check 5 (lacks_right s who v)
-    ∷ check 13 (short_for_page room v)
-    ∷ check 6 (past_date now v)
+    check HalfGiven (half_given v)
+    ∷ check NoRight (lacks_right s who v)
+    ∷ check ShortForPage (short_for_page room v)
+    ∷ check PastDate (past_date now v)
     ∷ []
 
 -- The conditions on the table and the settings.
 abbrev pub table_checks : ℕ → Bucket → Now → Verb → List Check
 table_checks c b now v =
-    check 7 (missing b.rows v)
-    ∷ check 8 (names_marker b.rows v)
-    ∷ check 9 (barred b.rows now.judge v)
-    ∷ check 10 (too_late b.settings.config now.stamp v)
-    ∷ check 11 (spends b now v)
-    ∷ check 12 (full c b now v)
+    check NoRow (missing b.rows v)
+    ∷ check IsMarker (names_marker b.rows v)
+    ∷ check Locked (barred b.rows now.judge v)
+    ∷ check DateTooLate (too_late b.settings.config now.stamp v)
+    ∷ check NumbersSpent (spends b now v)
+    ∷ check TableFull (full c b now v)
     ∷ []
 
 -- The conditions on a verb whose fields are in their ranges: on the verb as it is written, then on what it means.
@@ -210,9 +213,9 @@ verb_checks c b now g v = field_checks b.settings.config g.who g.room now.stamp 
 
 -- The conditions on what the line says.
 abbrev pub request_checks : ℕ → Bucket → Heard → List Check
-request_checks c b (unreadable room) = check 3 true ∷ []
+request_checks c b (unreadable room) = check Unreadable true ∷ []
 request_checks c b (says q) =
-    check 3 (out_of_range q.context q.verb) ∷ verb_checks c b (now_of b q.context) q.context q.verb
+    check Unreadable (out_of_range q.context q.verb) ∷ verb_checks c b (now_of b q.context) q.context q.verb
 
 -- The largest number of a refusal.
 abbrev pub last_refusal : ℕ
@@ -220,7 +223,7 @@ last_refusal = 13
 
 -- The conditions in their order; whether the whole is sound is told apart, since buffers hold more than the bucket.
 abbrev pub checks : Bool → ℕ → Bucket → Heard → List Check
-checks whole c b l = check 1 (not whole) ∷ check 2 (ltb (room_of l) least_room) ∷ request_checks c b l
+checks whole c b l = check Unsound (not whole) ∷ check ShortAnswer (ltb (room_of l) least_room) ∷ request_checks c b l
 
 -- The refusal: the first condition that holds, or 0.
 unfoldable pub refusal : ℕ → Bucket → Heard → ℕ

@@ -1,6 +1,6 @@
 -- 01, "Request lines": what a line asks for, once it is read. A field with `-` is `none`.
 use Rattle.std.specs.Prelude.{ℕ, Bool, true, false, not, ◌&&◌, ◌||◌, List, eqb, leb, ltb, length}
-use Rattle.std.proofs.Math.Option.{Option, some, none}
+use Rattle.std.specs.Prelude.{Option, Some, None}
 use Rattle.text.specs.Keys.{is_key, is_prefix}
 use Rattle.calendar.specs.Calendar.{latest}
 use Rattle.model.specs.Rows.{is_mode, largest_size, bodies}
@@ -47,7 +47,7 @@ pub record Retention : Type 0 where
   pub date : Option ℕ
 
 abbrev pub no_retention : Retention
-no_retention = record { mode = none; date = none }
+no_retention = record { mode = None; date = None }
 
 -- The lock fields of a PUT or COPY; a hold is ON (true) or OFF (false).
 pub record Terms : Type 0 where
@@ -122,50 +122,50 @@ room_of (says q) = q.context.room
 
 -- The field is given, and is this.
 abbrev pub is_the : ℕ → Option ℕ → Bool
-is_the n none = false
-is_the n (some m) = eqb m n
+is_the n None = false
+is_the n (Some m) = eqb m n
 
 -- The version field; DELETE with `-` names no version.
 abbrev pub name_of : Verb → Option Name
-name_of (Put k body size t) = none
-name_of (Copy n k t) = some n
-name_of (Retain n r y) = some n
-name_of (Hold n on) = some n
-name_of (AddMarker k y) = none
-name_of (DeleteVersion k v y) = some (name k (some v))
-name_of (Set s) = none
-name_of Sweep = none
-name_of (Ask (Get n)) = some n
-name_of (Ask (ListVersions p)) = none
-name_of (Ask (Report prefix)) = none
-name_of (Ask (Repeat v)) = none
+name_of (Put k body size t) = None
+name_of (Copy n k t) = Some n
+name_of (Retain n r y) = Some n
+name_of (Hold n on) = Some n
+name_of (AddMarker k y) = None
+name_of (DeleteVersion k v y) = Some (name k (Some v))
+name_of (Set s) = None
+name_of Sweep = None
+name_of (Ask (Get n)) = Some n
+name_of (Ask (ListVersions p)) = None
+name_of (Ask (Report prefix)) = None
+name_of (Ask (Repeat v)) = None
 
 -- The page that LIST asks for.
 abbrev pub page_of : Verb → Option Page
-page_of (Put k body size t) = none
-page_of (Copy n k t) = none
-page_of (Retain n r y) = none
-page_of (Hold n on) = none
-page_of (AddMarker k y) = none
-page_of (DeleteVersion k v y) = none
-page_of (Set s) = none
-page_of Sweep = none
-page_of (Ask (Get n)) = none
-page_of (Ask (ListVersions p)) = some p
-page_of (Ask (Report prefix)) = none
-page_of (Ask (Repeat v)) = none
+page_of (Put k body size t) = None
+page_of (Copy n k t) = None
+page_of (Retain n r y) = None
+page_of (Hold n on) = None
+page_of (AddMarker k y) = None
+page_of (DeleteVersion k v y) = None
+page_of (Set s) = None
+page_of Sweep = None
+page_of (Ask (Get n)) = None
+page_of (Ask (ListVersions p)) = Some p
+page_of (Ask (Report prefix)) = None
+page_of (Ask (Repeat v)) = None
 
 -- The lock fields of a PUT or COPY.
 abbrev pub terms_of : Verb → Option Terms
-terms_of (Put k body size t) = some t
-terms_of (Copy n k t) = some t
-terms_of (Retain n r y) = none
-terms_of (Hold n on) = none
-terms_of (AddMarker k y) = none
-terms_of (DeleteVersion k v y) = none
-terms_of (Set s) = none
-terms_of Sweep = none
-terms_of (Ask a) = none
+terms_of (Put k body size t) = Some t
+terms_of (Copy n k t) = Some t
+terms_of (Retain n r y) = None
+terms_of (Hold n on) = None
+terms_of (AddMarker k y) = None
+terms_of (DeleteVersion k v y) = None
+terms_of (Set s) = None
+terms_of Sweep = None
+terms_of (Ask a) = None
 
 -- Mode and date, both missing where the verb has no such fields.
 abbrev pub retention_of : Verb → Retention
@@ -181,15 +181,15 @@ retention_of (Ask a) = no_retention
 
 -- What DEFAULT or RULE sets.
 abbrev pub setting_of : Verb → Option Setting
-setting_of (Put k body size t) = none
-setting_of (Copy n k t) = none
-setting_of (Retain n r y) = none
-setting_of (Hold n on) = none
-setting_of (AddMarker k y) = none
-setting_of (DeleteVersion k v y) = none
-setting_of (Set s) = some s
-setting_of Sweep = none
-setting_of (Ask a) = none
+setting_of (Put k body size t) = None
+setting_of (Copy n k t) = None
+setting_of (Retain n r y) = None
+setting_of (Hold n on) = None
+setting_of (AddMarker k y) = None
+setting_of (DeleteVersion k v y) = None
+setting_of (Set s) = Some s
+setting_of Sweep = None
+setting_of (Ask a) = None
 
 -- Bypass, no where the verb has no such field.
 abbrev pub bypass_of : Verb → Bool
@@ -206,26 +206,26 @@ bypass_of (Ask a) = false
 -- ## Ranges
 
 abbrev pub is_version : Option Version → Bool
-is_version none = true
-is_version (some (numbered n)) = leb 1 n && ltb n spent_number
+is_version None = true
+is_version (Some (numbered n)) = leb 1 n && ltb n spent_number
 
 abbrev pub is_name : Name → Bool
 is_name n = is_key n.key && is_version n.version
 
 abbrev pub is_mode_field : Option ℕ → Bool
-is_mode_field none = true
-is_mode_field (some m) = is_mode m
+is_mode_field None = true
+is_mode_field (Some m) = is_mode m
 
 abbrev pub is_date_field : Option ℕ → Bool
-is_date_field none = true
-is_date_field (some d) = leb d latest
+is_date_field None = true
+is_date_field (Some d) = leb d latest
 
 abbrev pub is_retention : Retention → Bool
 is_retention r = is_mode_field r.mode && is_date_field r.date
 
 abbrev pub is_period_field : Option Period → Bool
-is_period_field none = true
-is_period_field (some p) = is_period p.count p.unit
+is_period_field None = true
+is_period_field (Some p) = is_period p.count p.unit
 
 abbrev pub is_setting : Setting → Bool
 is_setting (DefaultRetention m p) = is_mode_field m && is_period_field p
@@ -245,7 +245,7 @@ in_range (Copy n k t) = is_name n && (is_key k && is_retention t.retention)
 in_range (Retain n r y) = is_name n && is_retention r
 in_range (Hold n on) = is_name n
 in_range (AddMarker k y) = is_key k
-in_range (DeleteVersion k v y) = is_name (name k (some v))
+in_range (DeleteVersion k v y) = is_name (name k (Some v))
 in_range (Set s) = is_setting s
 in_range Sweep = true
 in_range (Ask (Get n)) = is_name n

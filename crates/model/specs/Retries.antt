@@ -1,6 +1,6 @@
 -- Document 02, M-101: a PUT that is a retry, and what a request then means.
 use Rattle.std.specs.Prelude.{ℕ, ◌≡◌, Bool, ◌&&◌, List, eqb}
-use Rattle.std.proofs.Math.Option.{Option, some, none}
+use Rattle.std.specs.Prelude.{Option, Some, None}
 use Rattle.buffers.specs.Choices.{pick, then_some}
 use Rattle.model.specs.Rows.{Row, is_data}
 use Rattle.model.specs.Settings.{Bucket}
@@ -13,12 +13,12 @@ repeats body size x = is_data x && (eqb x.body body && eqb x.size size)
 
 -- The row that a PUT is a retry of: the key's current row, if it is data with the same body number and length.
 abbrev pub retry_of : List Row → List ℕ → ℕ → ℕ → Option Row
-retry_of xs k body size = then_some (row_of xs (name k none)) none (λ x. pick (repeats body size x) (some x) none)
+retry_of xs k body size = then_some (row_of xs (name k None)) None (λ x. pick (repeats body size x) (Some x) None)
 
 -- The same as a statement: x is the key's current row, and data with the same body number and length.
 pub record IsRetry (xs : List Row) (k : List ℕ) (body size : ℕ) (x : Row) : Type 0 where
-  pub is_current : row_of xs (name k none) ≡ some x
-  pub is_data_lem : x.kind ≡ 1
+  pub is_current : row_of xs (name k None) ≡ Some x
+  pub kind_is_data : x.kind ≡ 1
   pub same_body : x.body ≡ body
   pub same_size : x.size ≡ size
 

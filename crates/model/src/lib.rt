@@ -1,49 +1,77 @@
 // The locked bucket as definitions and theorems, in specs/ and proofs/; the code's names for its numbers.
 #![tactic(auto)]
 
-// The refusals.
-pub const UNSOUND: u64 = 1;
+ghost use Rattle.std.specs.Prelude.{◌≡◌};
+ghost use Rattle.model.specs.Refusal.{number_of};
+ghost use Rattle.model.specs.Kinds.{kind_number, mode_number};
 
-pub const SHORT_ANSWER: u64 = 2;
+// Why a line is refused.
+#[derive(Clone, Copy, Debug, PartialEq, Eq)]
+pub enum Refusal {
+    Unsound = 1,
+    ShortAnswer = 2,
+    Unreadable = 3,
+    HalfGiven = 4,
+    NoRight = 5,
+    PastDate = 6,
+    NoRow = 7,
+    IsMarker = 8,
+    Locked = 9,
+    DateTooLate = 10,
+    NumbersSpent = 11,
+    TableFull = 12,
+    ShortForPage = 13,
+}
 
-pub const UNREADABLE: u64 = 3;
+// `number`, not `From`: `u64::from(refusal)` says less where it is read.
+impl Refusal {
+    // Its number, from 1 on, since 0 stands for no refusal.
+    pub fn number(self) -> u64
+        ensures { result ≡ number_of self }
+    {
+        self as u64
+    }
+}
 
-pub const HALF_GIVEN: u64 = 4;
+// The kinds of a row, with the numbers that a table has for them.
+#[derive(Clone, Copy, Debug, PartialEq, Eq)]
+pub enum Kind {
+    Data = 1,
+    Marker = 2,
+}
 
-pub const NO_RIGHT: u64 = 5;
+impl Kind {
+    // Its number in a table.
+    pub fn number(self) -> u64
+        ensures { result ≡ kind_number self }
+    {
+        self as u64
+    }
+}
 
-pub const PAST_DATE: u64 = 6;
+// The modes of a retention, with the numbers that a table and the settings have for them, where 0 is none.
+#[derive(Clone, Copy, Debug, PartialEq, Eq)]
+pub enum Mode {
+    Governance = 1,
+    Compliance = 2,
+}
 
-pub const NO_ROW: u64 = 7;
+impl Mode {
+    // Its number in a table and in the settings.
+    pub fn number(self) -> u64
+        ensures { result ≡ mode_number self }
+    {
+        self as u64
+    }
+}
 
-pub const IS_MARKER: u64 = 8;
-
-pub const LOCKED: u64 = 9;
-
-pub const DATE_TOO_LATE: u64 = 10;
-
-pub const NUMBERS_SPENT: u64 = 11;
-
-pub const TABLE_FULL: u64 = 12;
-
-pub const SHORT_FOR_PAGE: u64 = 13;
-
-// The kinds of a row.
-pub const DATA: u64 = 1;
-
-pub const MARKER: u64 = 2;
-
-// The modes of a retention.
-pub const GOVERNANCE: u64 = 1;
-
-pub const COMPLIANCE: u64 = 2;
-
-// The fates of a row in a sweep: it stays, it goes, it gains a marker.
-pub const STAYS: u8 = 0;
-
-pub const GOES: u8 = 1;
-
-pub const GAINS: u8 = 2;
+// What a sweep does to a row: it stays, it goes, or it gains a marker.
+#[derive(Clone, Copy, Debug, PartialEq, Eq)]
+pub enum Fate {
+    Stays,
+    Goes,
+    Gains,
+}
 
 // The largest length of a body, in bytes.
 pub const LARGEST_SIZE: u64 = 5497558138880;

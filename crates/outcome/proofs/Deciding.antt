@@ -4,7 +4,7 @@ use mathlib.Core.Path.{◌≡◌, refl, sym, ◌∙◌}
 use mathlib.Core.Logic.{inl, inr}
 use mathlib.Core.Bool.{Bool, true, false, not, ◌&&◌}
 use mathlib.Core.List.{List, [], ◌∷◌, ◌++◌}
-use mathlib.Core.Option.{Option, some, none}
+use Rattle.std.specs.Prelude.{Option, Some, None}
 use native.Mathlib.Omega.{arith}
 use lib.Dec.{eqb, leb}
 use lib.ListN.{length}
@@ -63,8 +63,8 @@ heard_room : (g : Call) → room_of (heard g) ≡ length g.answer
 heard_room g = go g.sent
   where
     known : (room : ℕ) (o : Option Said) → room_of (then_some o (unreadable room) (λ q. says (asked room q))) ≡ room
-    known room none = refl
-    known room (some q) = refl
+    known room None = refl
+    known room (Some q) = refl
 
     go : (x : Sent) → room_of (heard_of (length g.answer) x) ≡ length g.answer
     go (line s) = known (length g.answer) (read_line s)

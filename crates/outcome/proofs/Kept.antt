@@ -81,7 +81,7 @@ module _ (b : Lent) (g : Call) where
       let m = sound_after c (bucket_of b) q (model_accepts q w e z) in
       let f = (sound_whole c x m).config_sound in
       let p = sound_parts c x m in
-      rw (accepted_request b g q e z, settings_mean_lem x.settings (length x.rows) f, read_back c x.rows p.room p.keys_fit_lem)
+      rw (accepted_request b g q e z, settings_mean_lem x.settings (length x.rows) f, read_back c x.rows p.room p.keys_have_room)
 
   -- Every call leaves a whole bucket whole.
   pub outcome_whole : whole b ≡ true → whole (outcome b g).bucket ≡ true

@@ -1,4 +1,3 @@
-pub mod Answers
 pub mod Actions
 pub mod Ranges
 pub mod Words

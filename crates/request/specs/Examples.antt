@@ -1,6 +1,6 @@
 -- The lines of 01's run as they are read, and lines that can't be read.
 use Rattle.std.specs.Prelude.{ℕ, ◌≡◌, refl, true, false, List, [], ◌∷◌, ◌++◌, eqb, replicate}
-use Rattle.std.proofs.Math.Option.{Option, some, none}
+use Rattle.std.specs.Prelude.{Option, Some, None}
 use Rattle.buffers.specs.Choices.{pick}
 use Rattle.buffers.specs.Texts.{bytes}
 use Rattle.text.specs.Numbers.{is_digit, leading_zero, number_of, positive_of}
@@ -12,10 +12,6 @@ use Rattle.model.specs.Rows.{compliance}
 use Rattle.model.specs.Settings.{days}
 use Rattle.model.specs.Requests.{Rights, numbered, name, no_retention, Verb, Put, AddMarker, DeleteVersion, Set, DefaultRetention, Ask, Get, page, ListVersions, Report}
 use Rattle.fields.specs.Fields.{rights_in, read_rights, read_key, read_prefix, read_version, read_mode, read_until, read_hold, read_bypass, read_period}
-use Rattle.fields.specs.declared.Version.TheVariants.{Current}
-use Rattle.fields.specs.declared.Mode.TheVariants as mode
-use Rattle.fields.specs.declared.Until.TheVariants as until
-use Rattle.fields.specs.declared.Hold.TheVariants as hold
 use Rattle.fields.specs.declared.Terms.{Terms}
 use Rattle.request.specs.declared.Action.TheVariants.{Copy}
 use Rattle.request.specs.declared.Verb.TheVariants.{Act}
@@ -28,7 +24,7 @@ with_tabs (b ∷ s) = pick (eqb b 124) 9 b ∷ with_tabs s
 
 -- this clock, these rights, this verb
 abbrev asks : ℕ → Rights → Verb → Option Said
-asks clock who verb = some (record { clock = clock; who = who; verb = verb })
+asks clock who verb = Some (record { clock = clock; who = who; verb = verb })
 
 -- right r alone
 abbrev reader : Rights
@@ -36,17 +32,17 @@ reader = record { r = true; w = false; d = false; t = false; h = false; b = fals
 
 -- no mode, no date, no hold
 abbrev no_terms : Terms
-no_terms = record { retention = record { mode = mode.Missing; until = until.Missing }; hold = hold.Missing }
+no_terms = record { retention = record { mode = None; until = None }; hold = None }
 
 -- what the definitions say of these lines
 pub record Examples : Type 0 where
   -- 01's run
   pub default : read_line (with_tabs (bytes "2024-03-01T00:00:00Z|c|DEFAULT|COMPLIANCE|1d"))
       ≡ asks 1709251200000 (record { r = false; w = false; d = false; t = false; h = false; b = false; c = true })
-      (Set (DefaultRetention (some compliance) (some (record { count = 1; unit = days }))))
+      (Set (DefaultRetention (Some compliance) (Some (record { count = 1; unit = days }))))
   pub put : read_line (with_tabs (bytes "2024-03-01T00:00:00Z|w|PUT|q/7|41|300|-|-|-"))
       ≡ asks 1709251200000 (record { r = false; w = true; d = false; t = false; h = false; b = false; c = false })
-      (Put (bytes "q/7") 41 300 (record { retention = no_retention; hold = none }))
+      (Put (bytes "q/7") 41 300 (record { retention = no_retention; hold = None }))
   pub delete_locked : read_line (with_tabs (bytes "2024-03-01T12:00:00Z|db|DELETE|q/7|1|yes"))
       ≡ asks 1709294400000 (record { r = false; w = false; d = true; t = false; h = false; b = true; c = false })
       (DeleteVersion (bytes "q/7") (numbered 1) true)
@@ -55,19 +51,19 @@ pub record Examples : Type 0 where
       (AddMarker (bytes "q/7") false)
   pub get_numbered : read_line (with_tabs (bytes "2024-03-01T06:00:00Z|r|GET|q/7|1"))
       ≡ asks 1709272800000 reader
-      (Ask (Get (name (bytes "q/7") (some (numbered 1)))))
+      (Ask (Get (name (bytes "q/7") (Some (numbered 1)))))
   pub delete_expired : read_line (with_tabs (bytes "2024-03-02T00:00:00Z|d|DELETE|q/7|1|no"))
       ≡ asks 1709337600000 (record { r = false; w = false; d = true; t = false; h = false; b = false; c = false })
       (DeleteVersion (bytes "q/7") (numbered 1) false)
   pub get_current : read_line (with_tabs (bytes "2024-03-02T00:00:00Z|r|GET|q/7|-"))
       ≡ asks 1709337600000 reader
-      (Ask (Get (name (bytes "q/7") none)))
+      (Ask (Get (name (bytes "q/7") None)))
   -- a COPY's source and target are the places of their fields
   pub copy_places : request_in (with_tabs (bytes "2024-03-01T00:00:00Z|rw|COPY|a|-|b|-|-|-"))
-      ≡ some (record {
+      ≡ Some (record {
         clock = 1709251200000;
         rights = record { r = true; w = true; d = false; t = false; h = false; b = false; c = false };
-        verb = Act (Copy (record { key = record { start = 29; len = 1 }; version = Current }) (record { start = 33; len = 1 }) no_terms);
+        verb = Act (Copy (record { key = record { start = 29; len = 1 }; version = None }) (record { start = 33; len = 1 }) no_terms);
       })
   -- pages: from the start, and from a place that needs no row
   pub list_first : read_line (with_tabs (bytes "2024-03-01T00:00:00Z|r|LIST|q/||0|1000")) ≡ asks 1709251200000 reader (Ask (ListVersions (page (bytes "q/") [] 0 1000)))
@@ -77,22 +73,22 @@ pub record Examples : Type 0 where
   pub report : read_line (with_tabs (bytes "2024-03-01T00:00:00Z|r|REPORT|q/")) ≡ asks 1709251200000 reader (Ask (Report (bytes "q/")))
   pub report_all : read_line (with_tabs (bytes "2024-03-01T00:00:00Z|r|REPORT|")) ≡ asks 1709251200000 reader (Ask (Report []))
   -- can't be read
-  pub report_bare : read_line (with_tabs (bytes "2024-03-01T00:00:00Z|r|REPORT")) ≡ none
-  pub report_two : read_line (with_tabs (bytes "2024-03-01T00:00:00Z|r|REPORT|q/|r/")) ≡ none
-  pub empty_key_version : read_line (with_tabs (bytes "2024-03-01T00:00:00Z|r|LIST|q/||1|10")) ≡ none
-  pub version_spent : read_line (with_tabs (bytes "2024-03-01T00:00:00Z|r|LIST|q/|q/7|18446744073709551615|10")) ≡ none
-  pub version_dash : read_line (with_tabs (bytes "2024-03-01T00:00:00Z|r|LIST|q/|q/7|-|10")) ≡ none
-  pub count_zero : read_line (with_tabs (bytes "2024-03-01T00:00:00Z|r|LIST|q/||0|0")) ≡ none
-  pub count_large : read_line (with_tabs (bytes "2024-03-01T00:00:00Z|r|LIST|q/||0|1001")) ≡ none
-  pub version_zero : read_line (with_tabs (bytes "2024-03-01T00:00:00Z|r|GET|q/7|0")) ≡ none
-  pub no_rights : read_line (with_tabs (bytes "2024-03-01T00:00:00Z||GET|q/7|1")) ≡ none
-  pub letter_twice : read_line (with_tabs (bytes "2024-03-01T00:00:00Z|rwr|GET|q/7|1")) ≡ none
-  pub other_letter : read_line (with_tabs (bytes "2024-03-01T00:00:00Z|rx|GET|q/7|1")) ≡ none
-  pub lower_case : read_line (with_tabs (bytes "2024-03-01T00:00:00Z|r|get|q/7|1")) ≡ none
-  pub field_too_many : read_line (with_tabs (bytes "2024-03-01T00:00:00Z|r|GET|q/7|1|")) ≡ none
-  pub field_too_few : read_line (with_tabs (bytes "2024-03-01T00:00:00Z|r|GET|q/7")) ≡ none
-  pub empty : read_line [] ≡ none
-  pub too_long : read_line (with_tabs (bytes "2024-03-01T00:00:00Z|r|GET|") ++ replicate 486 97) ≡ none
+  pub report_bare : read_line (with_tabs (bytes "2024-03-01T00:00:00Z|r|REPORT")) ≡ None
+  pub report_two : read_line (with_tabs (bytes "2024-03-01T00:00:00Z|r|REPORT|q/|r/")) ≡ None
+  pub empty_key_version : read_line (with_tabs (bytes "2024-03-01T00:00:00Z|r|LIST|q/||1|10")) ≡ None
+  pub version_spent : read_line (with_tabs (bytes "2024-03-01T00:00:00Z|r|LIST|q/|q/7|18446744073709551615|10")) ≡ None
+  pub version_dash : read_line (with_tabs (bytes "2024-03-01T00:00:00Z|r|LIST|q/|q/7|-|10")) ≡ None
+  pub count_zero : read_line (with_tabs (bytes "2024-03-01T00:00:00Z|r|LIST|q/||0|0")) ≡ None
+  pub count_large : read_line (with_tabs (bytes "2024-03-01T00:00:00Z|r|LIST|q/||0|1001")) ≡ None
+  pub version_zero : read_line (with_tabs (bytes "2024-03-01T00:00:00Z|r|GET|q/7|0")) ≡ None
+  pub no_rights : read_line (with_tabs (bytes "2024-03-01T00:00:00Z||GET|q/7|1")) ≡ None
+  pub letter_twice : read_line (with_tabs (bytes "2024-03-01T00:00:00Z|rwr|GET|q/7|1")) ≡ None
+  pub other_letter : read_line (with_tabs (bytes "2024-03-01T00:00:00Z|rx|GET|q/7|1")) ≡ None
+  pub lower_case : read_line (with_tabs (bytes "2024-03-01T00:00:00Z|r|get|q/7|1")) ≡ None
+  pub field_too_many : read_line (with_tabs (bytes "2024-03-01T00:00:00Z|r|GET|q/7|1|")) ≡ None
+  pub field_too_few : read_line (with_tabs (bytes "2024-03-01T00:00:00Z|r|GET|q/7")) ≡ None
+  pub empty : read_line [] ≡ None
+  pub too_long : read_line (with_tabs (bytes "2024-03-01T00:00:00Z|r|GET|") ++ replicate 486 97) ≡ None
 
 -- each by computing
 pub examples : Examples

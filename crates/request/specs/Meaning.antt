@@ -1,7 +1,8 @@
 -- What the code's values stand for: the model's, where a key is the part of the line at its place.
 use Rattle.std.specs.Prelude.{ℕ, List}
-use Rattle.std.proofs.Math.Option.{Option, some, none}
+use Rattle.std.specs.Option.{option_map}
 use Rattle.text.specs.Fields.{part_of}
+use Rattle.model.specs.Kinds.{mode_number}
 use Rattle.model.specs.Requests as model
 use Rattle.request.specs.declared.Name.{Name}
 use Rattle.request.specs.declared.Action.{Action}
@@ -10,23 +11,10 @@ use Rattle.request.specs.declared.Setting.{Setting}
 use Rattle.request.specs.declared.Setting.TheVariants.{Default, Rule}
 use Rattle.request.specs.declared.Verb.{Verb}
 use Rattle.request.specs.declared.Verb.TheVariants.{Act, Set, Sweep, Ask}
-use Rattle.request.specs.declared.NameRead.{NameRead}
-use Rattle.request.specs.declared.NameRead.TheVariants as name_read
-use Rattle.request.specs.declared.RetentionRead.{RetentionRead}
-use Rattle.request.specs.declared.RetentionRead.TheVariants as retention_read
-use Rattle.request.specs.declared.TermsRead.{TermsRead}
-use Rattle.request.specs.declared.TermsRead.TheVariants as terms_read
-use Rattle.request.specs.declared.VerbRead.{VerbRead}
-use Rattle.request.specs.declared.VerbRead.TheVariants as verb_read
-use Rattle.request.specs.declared.Request.{Request}
-use Rattle.request.specs.declared.LineRead.{LineRead}
-use Rattle.request.specs.declared.LineRead.TheVariants as line_read
 use Rattle.request.specs.declared.Page.{Page}
 use Rattle.request.specs.declared.Query.{Query}
 use Rattle.request.specs.declared.Query.TheVariants.{Get, ListVersions, Report}
-use Rattle.fields.specs.declared.Retention.{Retention}
-use Rattle.fields.specs.declared.Terms.{Terms}
-use Rattle.fields.specs.Meaning.{mode_means, retention_means, terms_means, version_means, period_means, Inside}
+use Rattle.fields.specs.Meaning.{retention_means, terms_means, version_means, period_means, Inside}
 
 -- ## Values
 
@@ -45,7 +33,7 @@ action_means s (DeleteVersion k n y) = model.DeleteVersion (part_of s k) (model.
 
 -- DEFAULT or RULE
 abbrev pub setting_means : List ℕ → Setting → model.Setting
-setting_means s (Default m p) = model.DefaultRetention (mode_means m) (period_means p)
+setting_means s (Default m p) = model.DefaultRetention (option_map mode_number m) (option_map period_means p)
 setting_means s (Rule i p current noncurrent) = model.LifecycleRule i (record { prefix = part_of s p; current_days = current; noncurrent_days = noncurrent })
 
 -- a page of versions
@@ -64,33 +52,6 @@ verb_means s (Act a) = action_means s a
 verb_means s (Set a) = model.Set (setting_means s a)
 verb_means s Sweep = model.Sweep
 verb_means s (Ask a) = model.Ask (query_means s a)
-
--- ## Answers of readers: the value, if the fields have one
-
--- the fields key and version
-abbrev pub name_from : NameRead → Option Name
-name_from (name_read.Is n) = some n
-name_from name_read.Bad = none
-
--- the fields mode and date
-abbrev pub retention_from : RetentionRead → Option Retention
-retention_from (retention_read.Is r) = some r
-retention_from retention_read.Bad = none
-
--- the fields mode, date and hold
-abbrev pub terms_from : TermsRead → Option Terms
-terms_from (terms_read.Is t) = some t
-terms_from terms_read.Bad = none
-
--- a verb's fields
-abbrev pub verb_from : VerbRead → Option Verb
-verb_from (verb_read.Is v) = some v
-verb_from verb_read.Bad = none
-
--- a whole line
-abbrev pub request_from : LineRead → Option Request
-request_from (line_read.Reads q) = some q
-request_from line_read.Unreadable = none
 
 -- ## Places
 

@@ -3,20 +3,18 @@
 
 mod verbs;
 
-ghost use Rattle.std.specs.Prelude.{◌≡◌, ◌≤◌, length};
-ghost use Rattle.text.specs.Fields.{Split};
-ghost use Rattle.request.specs.Meaning.{request_from};
+ghost use Rattle.std.specs.Prelude.{◌≡◌, ◌≤◌, length, ok_or};
 ghost use Rattle.request.specs.Grammar.{request_in};
 
-use dates::DateRead;
-use fields::{Mode, Period, Retention, Rights, RightsRead, Terms, Version};
-use text::Place;
+use fields::{Period, Retention, Rights, Terms};
+use model::{Mode, Refusal};
+use text::{Line, Place};
 
-// A key, by its place in the line, and a version of it.
+// A key, by its place in the line, and a version of it: its number, or none for the current one.
 #[derive(Clone, Copy)]
 pub struct Name {
     pub key: Place,
-    pub version: Version,
+    pub version: Option<u64>,
 }
 
 // The verbs that alter the rows of a key.
@@ -39,11 +37,13 @@ pub enum Action {
 // The verbs that set what the settings hold.
 #[derive(Clone, Copy)]
 pub enum Setting {
-    Default(Mode, Period),
+    // mode, period
+    Default(Option<Mode>, Option<Period>),
     // number, prefix, current days, noncurrent days
     Rule(u64, Place, u64, u64),
 }
 
+// The version of a page is 0 where it starts at a key, as LIST's field says it.
 // A page of versions: the places of its prefix and of the key that it starts after, the version, and how many rows at most.
 #[derive(Clone, Copy)]
 pub struct Page {
@@ -77,68 +77,25 @@ pub struct Request {
     pub verb: Verb,
 }
 
-// What a line says.
-#[derive(Clone, Copy)]
-pub enum LineRead {
-    Reads(Request),
-    Unreadable,
-}
-
-// What some fields together say: the value, or that they can't be read.
-#[derive(Clone, Copy)]
-pub enum NameRead {
-    Is(Name),
-    Bad,
-}
-
-#[derive(Clone, Copy)]
-pub enum RetentionRead {
-    Is(Retention),
-    Bad,
-}
-
-#[derive(Clone, Copy)]
-pub enum TermsRead {
-    Is(Terms),
-    Bad,
-}
-
-#[derive(Clone, Copy)]
-pub enum VerbRead {
-    Is(Verb),
-    Bad,
-}
-
-// A line that is not too long, by its fields: clock, rights, verb and the verb's fields.
-fn read_fields(line: &[u8], marks: &[usize]) -> LineRead
-    requires split { Split line.now marks.now }
-    requires line_len_bound { length line.now ≤ 512 }
-    ensures { request_from result ≡ request_in line.now }
+// A request line, without its line feed: clock, rights, verb and the verb's fields.
+#[tactic(auto, unfolding(crate::specs::Grammar::request_in))]
+pub fn read_line(line: &[u8]) -> Result<Request, Refusal>
+    ensures { result ≡ ok_or (request_in line.now) Refusal.Unreadable }
 {
-    let DateRead::At(clock) = dates::read_date(text::field(line, marks, 0)) else {
-        return LineRead::Unreadable;
+    if 512 < line.len() {
+        return Err(Refusal::Unreadable);
+    }
+    let line = Line::split(line);
+    let Some(clock) = dates::read_date(line.field(0)) else {
+        return Err(Refusal::Unreadable);
     };
-    let RightsRead::Is(rights) = fields::read_rights(text::field(line, marks, 1)) else {
-        return LineRead::Unreadable;
+    let Some(rights) = fields::read_rights(line.field(1)) else {
+        return Err(Refusal::Unreadable);
     };
-    let VerbRead::Is(verb) = verbs::read_verb(text::field(line, marks, 2), line, marks) else {
-        return LineRead::Unreadable;
-    };
-    LineRead::Reads(Request {
+    let verb = verbs::read_verb(line.field(2), &line)?;
+    Ok(Request {
         clock,
         rights,
         verb,
     })
-}
-
-// A request line, without its line feed.
-#[tactic(auto, using(buffers::proofs::Choices::picks), unfolding(crate::specs::Grammar::request_in))]
-pub fn read_line(line: &[u8]) -> LineRead
-    ensures { request_from result ≡ request_in line.now }
-{
-    if 512 < line.len() {
-        return LineRead::Unreadable;
-    }
-    let marks = text::split(line);
-    read_fields(line, &marks)
 }

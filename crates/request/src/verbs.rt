@@ -1,355 +1,317 @@
 // The verbs with their fields, which are counted from 0 in the whole line.
-ghost use Rattle.std.specs.Prelude.{◌≡◌, ◌<◌};
-ghost use Rattle.text.specs.Fields.{field_of, Split};
-ghost use Rattle.text.specs.Numbers.{value_of, number_of};
+// Each field is taken by `let .. else`, the form that is asked for where a line can't be read; `?` would be 20 instructions less.
+ghost use Rattle.std.specs.Prelude.{◌≡◌, ◌<◌, ok_or};
+ghost use Rattle.text.specs.Fields.{field_of};
 ghost use Rattle.request.specs.Grammar.{name_at, retention_at, terms_at, put_of, copy_of, retain_of, set_hold_of, delete_of, default_of, rule_of, sweep_of, get_of, names_place, list_of, report_of, query_by_word, other_by_word, verb_by_word};
-ghost use Rattle.request.specs.Meaning.{name_from, retention_from, terms_from, verb_from};
 
-use crate::{
-    Action, Name, NameRead, Page, Query, RetentionRead, Setting, TermsRead, Verb, VerbRead,
-};
-use fields::{
-    FlagRead, HoldRead, KeyRead, ModeRead, PeriodRead, Retention, Terms, UntilRead, Version,
-    VersionRead,
-};
-use text::{Place, Value};
+use crate::{Action, Name, Page, Query, Setting, Verb};
+use fields::{Retention, Terms};
+use model::Refusal;
+use text::{Line, Place};
 
 // The largest body number.
-const LARGEST_BODY: u64 = 18446744073709551615;
+const LARGEST_BODY: u64 = u64::MAX;
 
 // The number of the last rule.
 const LAST_RULE: u64 = 7;
 
 // Key and version.
-fn read_name(line: &[u8], marks: &[usize], i: usize, j: usize) -> NameRead
-    requires split { Split line.now marks.now }
-    requires i_bound { (i < 9) × (j < 9) }
-    ensures { name_from result ≡ name_at line.now i j }
+#[tactic(auto, unfolding(crate::specs::Grammar::name_at))]
+fn read_name(line: &Line, i: usize, j: usize) -> Result<Name, Refusal>
+    requires { (i < 9) × (j < 9) }
+    ensures { result ≡ ok_or (name_at line.now i j) Refusal.Unreadable }
 {
-    let KeyRead::Is(key) = fields::read_key(line, marks, i) else {
-        return NameRead::Bad;
+    let Some(key) = fields::read_key(line, i) else {
+        return Err(Refusal::Unreadable);
     };
-    let VersionRead::Is(version) = fields::read_version(text::field(line, marks, j)) else {
-        return NameRead::Bad;
+    let Some(version) = fields::read_version(line.field(j)) else {
+        return Err(Refusal::Unreadable);
     };
-    NameRead::Is(Name { key, version })
-}
-
-// A whole number at most `most`.
-fn read_number(line: &[u8], marks: &[usize], i: usize, most: u64) -> Value
-    requires split { Split line.now marks.now }
-    requires i_bound { i < 9 }
-    ensures { value_of result ≡ number_of most (field_of line.now i) }
-{
-    text::read_number(text::field(line, marks, i), most)
+    Ok(Name { key, version })
 }
 
 // Mode and date.
-fn read_retention(line: &[u8], marks: &[usize], i: usize, j: usize) -> RetentionRead
-    requires split { Split line.now marks.now }
-    requires i_bound { (i < 9) × (j < 9) }
-    ensures { retention_from result ≡ retention_at line.now i j }
+#[tactic(auto, unfolding(crate::specs::Grammar::retention_at))]
+fn read_retention(line: &Line, i: usize, j: usize) -> Result<Retention, Refusal>
+    requires { (i < 9) × (j < 9) }
+    ensures { result ≡ ok_or (retention_at line.now i j) Refusal.Unreadable }
 {
-    let ModeRead::Is(mode) = fields::read_mode(text::field(line, marks, i)) else {
-        return RetentionRead::Bad;
+    let Some(mode) = fields::read_mode(line.field(i)) else {
+        return Err(Refusal::Unreadable);
     };
-    let UntilRead::Is(until) = fields::read_until(text::field(line, marks, j)) else {
-        return RetentionRead::Bad;
+    let Some(until) = fields::read_until(line.field(j)) else {
+        return Err(Refusal::Unreadable);
     };
-    RetentionRead::Is(Retention { mode, until })
+    Ok(Retention { mode, until })
 }
 
 // Mode, date and hold of a PUT or COPY.
-fn read_terms(line: &[u8], marks: &[usize]) -> TermsRead
-    requires { Split line.now marks.now }
-    ensures { terms_from result ≡ terms_at line.now }
+#[tactic(auto, unfolding(crate::specs::Grammar::terms_at))]
+fn read_terms(line: &Line) -> Result<Terms, Refusal>
+    ensures { result ≡ ok_or (terms_at line.now) Refusal.Unreadable }
 {
-    let RetentionRead::Is(retention) = read_retention(line, marks, 6, 7) else {
-        return TermsRead::Bad;
+    let retention = read_retention(line, 6, 7)?;
+    let Some(hold) = fields::read_hold(line.field(8)) else {
+        return Err(Refusal::Unreadable);
     };
-    let HoldRead::Is(hold) = fields::read_hold(text::field(line, marks, 8)) else {
-        return TermsRead::Bad;
-    };
-    TermsRead::Is(Terms { retention, hold })
+    Ok(Terms { retention, hold })
 }
 
 // PUT key, body, length, mode, date, hold.
-fn read_put(line: &[u8], marks: &[usize]) -> VerbRead
-    requires { Split line.now marks.now }
-    ensures { verb_from result ≡ put_of line.now }
+#[tactic(auto, unfolding(crate::specs::Grammar::put_of))]
+fn read_put(line: &Line) -> Result<Verb, Refusal>
+    ensures { result ≡ ok_or (put_of line.now) Refusal.Unreadable }
 {
-    if text::tabs(line, marks) != 8 {
-        return VerbRead::Bad;
+    if line.tabs() != 8 {
+        return Err(Refusal::Unreadable);
     }
-    let KeyRead::Is(key) = fields::read_key(line, marks, 3) else {
-        return VerbRead::Bad;
+    let Some(key) = fields::read_key(line, 3) else {
+        return Err(Refusal::Unreadable);
     };
-    let Value::Is(body) = read_number(line, marks, 4, LARGEST_BODY) else {
-        return VerbRead::Bad;
+    let Some(body) = text::read_number(line.field(4), LARGEST_BODY) else {
+        return Err(Refusal::Unreadable);
     };
-    let Value::Is(size) = read_number(line, marks, 5, model::LARGEST_SIZE) else {
-        return VerbRead::Bad;
+    let Some(size) = text::read_number(line.field(5), model::LARGEST_SIZE) else {
+        return Err(Refusal::Unreadable);
     };
-    let TermsRead::Is(terms) = read_terms(line, marks) else {
-        return VerbRead::Bad;
-    };
-    VerbRead::Is(Verb::Act(Action::Put(key, body, size, terms)))
+    let terms = read_terms(line)?;
+    Ok(Verb::Act(Action::Put(key, body, size, terms)))
 }
 
 // COPY source key, version, target key, mode, date, hold.
-fn read_copy(line: &[u8], marks: &[usize]) -> VerbRead
-    requires { Split line.now marks.now }
-    ensures { verb_from result ≡ copy_of line.now }
+#[tactic(auto, unfolding(crate::specs::Grammar::copy_of))]
+fn read_copy(line: &Line) -> Result<Verb, Refusal>
+    ensures { result ≡ ok_or (copy_of line.now) Refusal.Unreadable }
 {
-    if text::tabs(line, marks) != 8 {
-        return VerbRead::Bad;
+    if line.tabs() != 8 {
+        return Err(Refusal::Unreadable);
     }
-    let NameRead::Is(source) = read_name(line, marks, 3, 4) else {
-        return VerbRead::Bad;
+    let source = read_name(line, 3, 4)?;
+    let Some(target) = fields::read_key(line, 5) else {
+        return Err(Refusal::Unreadable);
     };
-    let KeyRead::Is(target) = fields::read_key(line, marks, 5) else {
-        return VerbRead::Bad;
-    };
-    let TermsRead::Is(terms) = read_terms(line, marks) else {
-        return VerbRead::Bad;
-    };
-    VerbRead::Is(Verb::Act(Action::Copy(source, target, terms)))
+    let terms = read_terms(line)?;
+    Ok(Verb::Act(Action::Copy(source, target, terms)))
 }
 
 // RETAIN key, version, mode, date, bypass.
-fn read_retain(line: &[u8], marks: &[usize]) -> VerbRead
-    requires { Split line.now marks.now }
-    ensures { verb_from result ≡ retain_of line.now }
+#[tactic(auto, unfolding(crate::specs::Grammar::retain_of))]
+fn read_retain(line: &Line) -> Result<Verb, Refusal>
+    ensures { result ≡ ok_or (retain_of line.now) Refusal.Unreadable }
 {
-    if text::tabs(line, marks) != 7 {
-        return VerbRead::Bad;
+    if line.tabs() != 7 {
+        return Err(Refusal::Unreadable);
     }
-    let NameRead::Is(name) = read_name(line, marks, 3, 4) else {
-        return VerbRead::Bad;
+    let name = read_name(line, 3, 4)?;
+    let retention = read_retention(line, 5, 6)?;
+    let Some(bypass) = fields::read_bypass(line.field(7)) else {
+        return Err(Refusal::Unreadable);
     };
-    let RetentionRead::Is(retention) = read_retention(line, marks, 5, 6) else {
-        return VerbRead::Bad;
-    };
-    let FlagRead::Is(bypass) = fields::read_bypass(text::field(line, marks, 7)) else {
-        return VerbRead::Bad;
-    };
-    VerbRead::Is(Verb::Act(Action::Retain(name, retention, bypass)))
+    Ok(Verb::Act(Action::Retain(name, retention, bypass)))
 }
 
 // HOLD key, version, ON or OFF.
-fn read_set_hold(line: &[u8], marks: &[usize]) -> VerbRead
-    requires { Split line.now marks.now }
-    ensures { verb_from result ≡ set_hold_of line.now }
+#[tactic(auto, unfolding(crate::specs::Grammar::set_hold_of))]
+fn read_set_hold(line: &Line) -> Result<Verb, Refusal>
+    ensures { result ≡ ok_or (set_hold_of line.now) Refusal.Unreadable }
 {
-    if text::tabs(line, marks) != 5 {
-        return VerbRead::Bad;
+    if line.tabs() != 5 {
+        return Err(Refusal::Unreadable);
     }
-    let NameRead::Is(name) = read_name(line, marks, 3, 4) else {
-        return VerbRead::Bad;
+    let name = read_name(line, 3, 4)?;
+    let Some(on) = fields::read_switch(line.field(5)) else {
+        return Err(Refusal::Unreadable);
     };
-    let FlagRead::Is(on) = fields::read_switch(text::field(line, marks, 5)) else {
-        return VerbRead::Bad;
-    };
-    VerbRead::Is(Verb::Act(Action::SetHold(name, on)))
+    Ok(Verb::Act(Action::SetHold(name, on)))
 }
 
 // DELETE key, version, bypass.
-fn read_delete(line: &[u8], marks: &[usize]) -> VerbRead
-    requires { Split line.now marks.now }
-    ensures { verb_from result ≡ delete_of line.now }
+#[tactic(auto, unfolding(crate::specs::Grammar::delete_of))]
+fn read_delete(line: &Line) -> Result<Verb, Refusal>
+    ensures { result ≡ ok_or (delete_of line.now) Refusal.Unreadable }
 {
-    if text::tabs(line, marks) != 5 {
-        return VerbRead::Bad;
+    if line.tabs() != 5 {
+        return Err(Refusal::Unreadable);
     }
-    let KeyRead::Is(key) = fields::read_key(line, marks, 3) else {
-        return VerbRead::Bad;
+    let Some(key) = fields::read_key(line, 3) else {
+        return Err(Refusal::Unreadable);
     };
-    let VersionRead::Is(version) = fields::read_version(text::field(line, marks, 4)) else {
-        return VerbRead::Bad;
+    let Some(version) = fields::read_version(line.field(4)) else {
+        return Err(Refusal::Unreadable);
     };
-    let FlagRead::Is(bypass) = fields::read_bypass(text::field(line, marks, 5)) else {
-        return VerbRead::Bad;
+    let Some(bypass) = fields::read_bypass(line.field(5)) else {
+        return Err(Refusal::Unreadable);
     };
-    let Version::Numbered(n) = version else {
-        return VerbRead::Is(Verb::Act(Action::AddMarker(key, bypass)));
+    let Some(n) = version else {
+        return Ok(Verb::Act(Action::AddMarker(key, bypass)));
     };
-    VerbRead::Is(Verb::Act(Action::DeleteVersion(key, n, bypass)))
+    Ok(Verb::Act(Action::DeleteVersion(key, n, bypass)))
 }
 
 // DEFAULT mode, period.
-fn read_default(line: &[u8], marks: &[usize]) -> VerbRead
-    requires { Split line.now marks.now }
-    ensures { verb_from result ≡ default_of line.now }
+#[tactic(auto, unfolding(crate::specs::Grammar::default_of))]
+fn read_default(line: &Line) -> Result<Verb, Refusal>
+    ensures { result ≡ ok_or (default_of line.now) Refusal.Unreadable }
 {
-    if text::tabs(line, marks) != 4 {
-        return VerbRead::Bad;
+    if line.tabs() != 4 {
+        return Err(Refusal::Unreadable);
     }
-    let ModeRead::Is(mode) = fields::read_mode(text::field(line, marks, 3)) else {
-        return VerbRead::Bad;
+    let Some(mode) = fields::read_mode(line.field(3)) else {
+        return Err(Refusal::Unreadable);
     };
-    let PeriodRead::Is(period) = fields::read_period(text::field(line, marks, 4)) else {
-        return VerbRead::Bad;
+    let Some(period) = fields::read_period(line.field(4)) else {
+        return Err(Refusal::Unreadable);
     };
-    VerbRead::Is(Verb::Set(Setting::Default(mode, period)))
+    Ok(Verb::Set(Setting::Default(mode, period)))
 }
 
 // RULE number, prefix, current days, noncurrent days.
-fn read_rule(line: &[u8], marks: &[usize]) -> VerbRead
-    requires { Split line.now marks.now }
-    ensures { verb_from result ≡ rule_of line.now }
+#[tactic(auto, unfolding(crate::specs::Grammar::rule_of))]
+fn read_rule(line: &Line) -> Result<Verb, Refusal>
+    ensures { result ≡ ok_or (rule_of line.now) Refusal.Unreadable }
 {
-    if text::tabs(line, marks) != 6 {
-        return VerbRead::Bad;
+    if line.tabs() != 6 {
+        return Err(Refusal::Unreadable);
     }
-    let Value::Is(number) = read_number(line, marks, 3, LAST_RULE) else {
-        return VerbRead::Bad;
+    let Some(number) = text::read_number(line.field(3), LAST_RULE) else {
+        return Err(Refusal::Unreadable);
     };
-    let KeyRead::Is(prefix) = fields::read_prefix(line, marks, 4) else {
-        return VerbRead::Bad;
+    let Some(prefix) = fields::read_prefix(line, 4) else {
+        return Err(Refusal::Unreadable);
     };
-    let Value::Is(current) = read_number(line, marks, 5, model::MOST_DAYS) else {
-        return VerbRead::Bad;
+    let Some(current) = text::read_number(line.field(5), model::MOST_DAYS) else {
+        return Err(Refusal::Unreadable);
     };
-    let Value::Is(noncurrent) = read_number(line, marks, 6, model::MOST_DAYS) else {
-        return VerbRead::Bad;
+    let Some(noncurrent) = text::read_number(line.field(6), model::MOST_DAYS) else {
+        return Err(Refusal::Unreadable);
     };
-    VerbRead::Is(Verb::Set(Setting::Rule(number, prefix, current, noncurrent)))
+    Ok(Verb::Set(Setting::Rule(number, prefix, current, noncurrent)))
 }
 
 // SWEEP.
-fn read_sweep(line: &[u8], marks: &[usize]) -> VerbRead
-    requires { Split line.now marks.now }
-    ensures { verb_from result ≡ sweep_of line.now }
+#[tactic(auto, unfolding(crate::specs::Grammar::sweep_of))]
+fn read_sweep(line: &Line) -> Result<Verb, Refusal>
+    ensures { result ≡ ok_or (sweep_of line.now) Refusal.Unreadable }
 {
-    if text::tabs(line, marks) != 2 {
-        return VerbRead::Bad;
+    if line.tabs() != 2 {
+        return Err(Refusal::Unreadable);
     }
-    VerbRead::Is(Verb::Sweep)
+    Ok(Verb::Sweep)
 }
 
 // GET key, version.
-fn read_get(line: &[u8], marks: &[usize]) -> VerbRead
-    requires { Split line.now marks.now }
-    ensures { verb_from result ≡ get_of line.now }
+#[tactic(auto, unfolding(crate::specs::Grammar::get_of))]
+fn read_get(line: &Line) -> Result<Verb, Refusal>
+    ensures { result ≡ ok_or (get_of line.now) Refusal.Unreadable }
 {
-    if text::tabs(line, marks) != 4 {
-        return VerbRead::Bad;
+    if line.tabs() != 4 {
+        return Err(Refusal::Unreadable);
     }
-    let NameRead::Is(name) = read_name(line, marks, 3, 4) else {
-        return VerbRead::Bad;
-    };
-    VerbRead::Is(Verb::Ask(Query::Get(name)))
+    let name = read_name(line, 3, 4)?;
+    Ok(Verb::Ask(Query::Get(name)))
 }
 
 // The key and the version name a place: the empty key has version 0 only.
+#[tactic(auto, unfolding(crate::specs::Grammar::names_place))]
 fn names_place(key: Place, version: u64) -> bool
     ensures { result ≡ names_place key version }
 {
-    if key.len == 0 {
-        return version == 0;
-    }
-    true
+    key.len != 0 || version == 0
 }
 
 // LIST prefix, key or nothing, version, count.
-fn read_list(line: &[u8], marks: &[usize]) -> VerbRead
-    requires { Split line.now marks.now }
-    ensures { verb_from result ≡ list_of line.now }
+#[tactic(auto, unfolding(crate::specs::Grammar::list_of))]
+fn read_list(line: &Line) -> Result<Verb, Refusal>
+    ensures { result ≡ ok_or (list_of line.now) Refusal.Unreadable }
 {
-    if text::tabs(line, marks) != 6 {
-        return VerbRead::Bad;
+    if line.tabs() != 6 {
+        return Err(Refusal::Unreadable);
     }
-    let KeyRead::Is(prefix) = fields::read_prefix(line, marks, 3) else {
-        return VerbRead::Bad;
+    let Some(prefix) = fields::read_prefix(line, 3) else {
+        return Err(Refusal::Unreadable);
     };
-    let KeyRead::Is(key) = fields::read_prefix(line, marks, 4) else {
-        return VerbRead::Bad;
+    let Some(key) = fields::read_prefix(line, 4) else {
+        return Err(Refusal::Unreadable);
     };
-    let Value::Is(version) = read_number(line, marks, 5, model::LARGEST_NUMBER) else {
-        return VerbRead::Bad;
+    let Some(version) = text::read_number(line.field(5), model::LARGEST_NUMBER) else {
+        return Err(Refusal::Unreadable);
     };
-    let Value::Is(count) = text::read_positive(text::field(line, marks, 6), model::LARGEST_COUNT)
-    else {
-        return VerbRead::Bad;
+    let Some(count) = text::read_positive(line.field(6), model::LARGEST_COUNT) else {
+        return Err(Refusal::Unreadable);
     };
-    if names_place(key, version) {
-        return VerbRead::Is(Verb::Ask(Query::ListVersions(Page {
-            prefix,
-            key,
-            version,
-            count,
-        })));
+    if !names_place(key, version) {
+        return Err(Refusal::Unreadable);
     }
-    VerbRead::Bad
+    Ok(Verb::Ask(Query::ListVersions(Page {
+        prefix,
+        key,
+        version,
+        count,
+    })))
 }
 
 // REPORT prefix.
-fn read_report(line: &[u8], marks: &[usize]) -> VerbRead
-    requires { Split line.now marks.now }
-    ensures { verb_from result ≡ report_of line.now }
+#[tactic(auto, unfolding(crate::specs::Grammar::report_of))]
+fn read_report(line: &Line) -> Result<Verb, Refusal>
+    ensures { result ≡ ok_or (report_of line.now) Refusal.Unreadable }
 {
-    if text::tabs(line, marks) != 3 {
-        return VerbRead::Bad;
+    if line.tabs() != 3 {
+        return Err(Refusal::Unreadable);
     }
-    let KeyRead::Is(prefix) = fields::read_prefix(line, marks, 3) else {
-        return VerbRead::Bad;
+    let Some(prefix) = fields::read_prefix(line, 3) else {
+        return Err(Refusal::Unreadable);
     };
-    VerbRead::Is(Verb::Ask(Query::Report(prefix)))
+    Ok(Verb::Ask(Query::Report(prefix)))
 }
 
 // GET, LIST and REPORT by their word.
-fn read_query(word: &[u8], line: &[u8], marks: &[usize]) -> VerbRead
-    requires { Split line.now marks.now }
-    ensures { verb_from result ≡ query_by_word word.now line.now }
+#[tactic(auto, unfolding(crate::specs::Grammar::query_by_word))]
+fn read_query(word: &[u8], line: &Line) -> Result<Verb, Refusal>
+    ensures { result ≡ ok_or (query_by_word word.now line.now) Refusal.Unreadable }
 {
     if text::is_word(word, b"GET") {
-        return read_get(line, marks);
+        read_get(line)
+    } else if text::is_word(word, b"LIST") {
+        read_list(line)
+    } else if text::is_word(word, b"REPORT") {
+        read_report(line)
+    } else {
+        Err(Refusal::Unreadable)
     }
-    if text::is_word(word, b"LIST") {
-        return read_list(line, marks);
-    }
-    if text::is_word(word, b"REPORT") {
-        return read_report(line, marks);
-    }
-    VerbRead::Bad
 }
 
 // DEFAULT, RULE, SWEEP and the verbs that ask by their word.
-fn read_other(word: &[u8], line: &[u8], marks: &[usize]) -> VerbRead
-    requires { Split line.now marks.now }
-    ensures { verb_from result ≡ other_by_word word.now line.now }
+#[tactic(auto, unfolding(crate::specs::Grammar::other_by_word))]
+fn read_other(word: &[u8], line: &Line) -> Result<Verb, Refusal>
+    ensures { result ≡ ok_or (other_by_word word.now line.now) Refusal.Unreadable }
 {
     if text::is_word(word, b"DEFAULT") {
-        return read_default(line, marks);
+        read_default(line)
+    } else if text::is_word(word, b"RULE") {
+        read_rule(line)
+    } else if text::is_word(word, b"SWEEP") {
+        read_sweep(line)
+    } else {
+        read_query(word, line)
     }
-    if text::is_word(word, b"RULE") {
-        return read_rule(line, marks);
-    }
-    if text::is_word(word, b"SWEEP") {
-        return read_sweep(line, marks);
-    }
-    read_query(word, line, marks)
 }
 
-// The verb by its word.
-pub fn read_verb(word: &[u8], line: &[u8], marks: &[usize]) -> VerbRead
-    requires { Split line.now marks.now }
-    ensures { verb_from result ≡ verb_by_word word.now line.now }
+// The verb by its word. In one chain with all the others a GET takes 75 instructions more; a `match` on the words has no proof.
+#[tactic(auto, unfolding(crate::specs::Grammar::verb_by_word))]
+pub fn read_verb(word: &[u8], line: &Line) -> Result<Verb, Refusal>
+    ensures { result ≡ ok_or (verb_by_word word.now line.now) Refusal.Unreadable }
 {
     if text::is_word(word, b"PUT") {
-        return read_put(line, marks);
+        read_put(line)
+    } else if text::is_word(word, b"COPY") {
+        read_copy(line)
+    } else if text::is_word(word, b"RETAIN") {
+        read_retain(line)
+    } else if text::is_word(word, b"HOLD") {
+        read_set_hold(line)
+    } else if text::is_word(word, b"DELETE") {
+        read_delete(line)
+    } else {
+        read_other(word, line)
     }
-    if text::is_word(word, b"COPY") {
-        return read_copy(line, marks);
-    }
-    if text::is_word(word, b"RETAIN") {
-        return read_retain(line, marks);
-    }
-    if text::is_word(word, b"HOLD") {
-        return read_set_hold(line, marks);
-    }
-    if text::is_word(word, b"DELETE") {
-        return read_delete(line, marks);
-    }
-    read_other(word, line, marks)
 }

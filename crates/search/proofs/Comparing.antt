@@ -1,5 +1,5 @@
 -- Keys compared: byte by byte, and eight bytes at once.
-use Prim.Native.Nat.{ℕ, zero, suc, ◌+◌, ◌-◌, ◌*◌, ◌^◌, ◌≤◌, ◌<◌}
+use Prim.Native.Nat.{ℕ, zero, suc, ◌+◌, ◌-◌, ◌*◌, ◌^◌, ◌≤◌, ◌<◌, min}
 use mathlib.Core.Path.{◌≡◌, refl, sym, ap, ap₂, ◌∙◌}
 use mathlib.Core.Logic.{inl, inr}
 use mathlib.Core.Bool.{true, false}
@@ -10,9 +10,10 @@ use mir.Syntax.{w8}
 use native.Mathlib.Nat.{mul-le-mul_right, suc-mul, pow-succ'}
 use lib.Dec.{eqb, ltb}
 use lib.ListN.{length, get_or, take, drop, length-drop, drop_of_length-le}
-use lib.Seq.{take-take, take-add}
+use lib.Seq.{take-add, take-take}
 use borrow.Author.Tests.{eq-eqb, eqb-true, eqb-false, lt-ltb, le-ltb, ltb-true, ltb-false}
-use Rattle.buffers.specs.Ranges.{Within}
+use Rattle.std.specs.Int.{w64, from_be_bytes}
+use Rattle.buffers.proofs.Parts.{part_element, part_first}
 use Rattle.buffers.specs.Words.{AllBytes}
 use Rattle.buffers.specs.Lists.{same}
 use Rattle.buffers.proofs.Tests.{either, clash, or_l, or_r, and_i}
@@ -21,44 +22,40 @@ use Rattle.buffers.proofs.Words.{bytes_drop}
 use Rattle.text.proofs.Scans.{next}
 use Rattle.model.specs.Rows.{before}
 use Rattle.model.proofs.Order.{before_trans, before_irrefl, before_other}
-use Rattle.search.specs.Keys.{is_order, rank, Shorter, LastEight}
-use Rattle.search.specs.declared.Order.{Order}
-use Rattle.search.specs.declared.Order.TheVariants.{Before, Same, After}
+use Rattle.std.specs.declared.cmp.Ordering.{Ordering}
+use Rattle.std.specs.declared.cmp.Ordering.TheVariants.{Less, Equal, Greater}
+use Rattle.std.specs.Ordering.{nat_cmp, ordering_then, MatchOrdering}
+use Rattle.std.proofs.lemmas.Cmp.{ranked}
+use Rattle.std.specs.Cmp.Lexicographic.{slice_cmp}
+use Rattle.search.specs.Keys.{is_order, rank, SharesHead}
 
 -- two keys stand as two others do
 pub record Alike (a b s t : List ℕ) : Type 0 where
-  pub alike : (o : Order) → is_order o a b ≡ is_order o s t
+  pub alike : (o : Ordering) → is_order o a b ≡ is_order o s t
 
 -- ## Byte by byte
 
-same_head : (o : Order) (x y : ℕ) (s t : List ℕ) → x ≡ y → is_order o (x ∷ s) (y ∷ t) ≡ is_order o s t
-same_head Before x y s t e = simp (le-ltb x y (omega arith), eq-eqb x y e)
-same_head Same x y s t e = rw (eq-eqb x y e)
-same_head After x y s t e = simp (le-ltb y x (omega arith), eq-eqb y x (sym e))
+same_head : (o : Ordering) (x y : ℕ) (s t : List ℕ) → x ≡ y → is_order o (x ∷ s) (y ∷ t) ≡ is_order o s t
+same_head Less x y s t e = simp (le-ltb x y (omega arith), eq-eqb x y e)
+same_head Equal x y s t e = rw (eq-eqb x y e)
+same_head Greater x y s t e = simp (le-ltb y x (omega arith), eq-eqb y x (sym e))
 
 pub alike_start : (a b : List ℕ) → Alike a b a b
 alike_start a b = record { alike = λ o. refl }
 
-module _ (a b s t : List ℕ) (i : ℕ) (l : Alike a b (drop i s) (drop i t)) where
-  pub keys_longer : i < length s → length t ≤ i → is_order After a b ≡ true
-  keys_longer h k = l.alike After ∙ rw (next s i h, drop_of_length-le t k)
-
-  pub keys_less : i < length s → i < length t → get_or s i 0 < get_or t i 0 → is_order Before a b ≡ true
-  keys_less h k q = l.alike Before ∙ rw (next s i h, next t i k, lt-ltb _ _ q)
-
-  pub keys_more : i < length s → i < length t → get_or t i 0 < get_or s i 0 → is_order After a b ≡ true
-  keys_more h k q = l.alike After ∙ rw (next s i h, next t i k, lt-ltb _ _ q)
-
-  pub keys_again : i < length s → i < length t → get_or t i 0 ≤ get_or s i 0 → get_or s i 0 ≤ get_or t i 0 → Alike a b (drop (i + 1) s) (drop (i + 1) t)
-  keys_again h k p q = record { alike = λ o. l.alike o ∙ rw (next s i h, next t i k) (same_head o (get_or s i 0) (get_or t i 0) _ _ (omega arith)) }
-
-  pub keys_shorter : length s ≤ i → i < length t → is_order Before a b ≡ true
-  keys_shorter h k = l.alike Before ∙ rw (drop_of_length-le s h, next t i k)
-
-  pub keys_both : length s ≤ i → length t ≤ i → is_order Same a b ≡ true
-  keys_both h k = l.alike Same ∙ rw (drop_of_length-le s h, drop_of_length-le t k)
-
-pub ruleset byte_cases = (alike_start, keys_longer, keys_less, keys_more, keys_again, keys_shorter, keys_both)
+-- What slices answer is an order of keys.
+slice_order : (a b : List ℕ) → is_order (slice_cmp nat_cmp a b) a b ≡ true
+slice_order [] [] = refl
+slice_order [] (y ∷ b) = refl
+slice_order (x ∷ a) [] = refl
+slice_order (x ∷ a) (y ∷ b) =
+    elim (either (ltb x y)) [
+      | inl t ↦ rw (t, t)
+      | inr t ↦ elim (either (eqb x y)) [
+        | inl u ↦ rw (t, u) (same_head (slice_cmp nat_cmp a b) x y a b (eqb-true x y u) ∙ slice_order a b)
+        | inr u ↦ rw (t, u, lt-ltb y x (omega (arith, ltb-false x y t, eqb-false x y u)))
+      ]
+    ]
 
 -- ## Eight bytes at once
 
@@ -70,11 +67,8 @@ no_rank : (b : List ℕ) → rank 0 b ≡ 0
 unfolding rank
 no_rank b = refl
 
-pub rank_sum : (b : List ℕ) (i r0 r1 r2 r3 r4 r5 r6 r7 : ℕ) → i + 8 ≤ length b
-    → Within r7 (get_or b (i + 7) 0) 255 → Within r6 (get_or b (i + 6) 0) 255 → Within r5 (get_or b (i + 5) 0) 255 → Within r4 (get_or b (i + 4) 0) 255
-    → Within r3 (get_or b (i + 3) 0) 255 → Within r2 (get_or b (i + 2) 0) 255 → Within r1 (get_or b (i + 1) 0) 255 → Within r0 (get_or b i 0) 255
-    → r7 + r6 * 256 + r5 * 65536 + r4 * 16777216 + r3 * 4294967296 + r2 * 1099511627776 + r1 * 281474976710656 + r0 * 72057594037927936 ≡ rank 8 (drop i b)
-rank_sum b i r0 r1 r2 r3 r4 r5 r6 r7 h w7 w6 w5 w4 w3 w2 w1 w0 =
+pub rank_word : (b bs : List ℕ) (i : ℕ) → i + 8 ≤ length b → bs ≡ take 8 (drop i b) → from_be_bytes w64 bs ≡ rank 8 (drop i b)
+rank_word b bs i h e =
     let e0 = next_rank b i (i + 1) 7 refl (omega arith) in
     let e1 = next_rank b (i + 1) (i + 2) 6 (omega arith) (omega arith) in
     let e2 = next_rank b (i + 2) (i + 3) 5 (omega arith) (omega arith) in
@@ -84,7 +78,15 @@ rank_sum b i r0 r1 r2 r3 r4 r5 r6 r7 h w7 w6 w5 w4 w3 w2 w1 w0 =
     let e6 = next_rank b (i + 6) (i + 7) 1 (omega arith) (omega arith) in
     let e7 = next_rank b (i + 7) (i + 8) 0 (omega arith) (omega arith) in
     let e8 = no_rank (drop (i + 8) b) in
-    omega arith
+    let p0 = part_first b i 8 (omega arith) in
+    let p1 = part_element b i 1 8 (omega arith) in
+    let p2 = part_element b i 2 8 (omega arith) in
+    let p3 = part_element b i 3 8 (omega arith) in
+    let p4 = part_element b i 4 8 (omega arith) in
+    let p5 = part_element b i 5 8 (omega arith) in
+    let p6 = part_element b i 6 8 (omega arith) in
+    let p7 = part_element b i 7 8 (omega arith) in
+    rw e (omega arith)
 
 pub rank_bound : (k : ℕ) (s : List ℕ) → AllBytes s → rank k s < 256 ^ k
 unfolding rank
@@ -116,23 +118,27 @@ rank_less (suc k) (x ∷ s) (y ∷ t) p q l =
       ]
     ]
 
--- Equal numbers are those of equal bytes.
-pub rank_same : (k : ℕ) (s t : List ℕ) → AllBytes s → AllBytes t → k ≤ length s → k ≤ length t → rank k s ≡ rank k t → take k s ≡ take k t
+-- Equal numbers are those of equal bytes, as far as both go.
+pub rank_shared : (k m : ℕ) (s t : List ℕ) → AllBytes s → AllBytes t → m ≤ k → m ≤ length s → m ≤ length t → rank k s ≡ rank k t → take m s ≡ take m t
 unfolding rank
-rank_same zero s t p q h g l = refl
-rank_same (suc k) [] t p q h g l = absurd (omega arith)
-rank_same (suc k) (x ∷ s) [] p q h g l = absurd (omega arith)
-rank_same (suc k) (x ∷ s) (y ∷ t) p q h g l =
+rank_shared k zero s t p q f h g l = refl
+rank_shared zero (suc m) s t p q f h g l = absurd (omega arith)
+rank_shared (suc k) (suc m) [] t p q f h g l = absurd (omega arith)
+rank_shared (suc k) (suc m) (x ∷ s) [] p q f h g l = absurd (omega arith)
+rank_shared (suc k) (suc m) (x ∷ s) (y ∷ t) p q f h g l =
     elim (either (ltb x y)) [
       | inl e ↦ absurd (omega (arith, greater x y (rank k s) (rank k t) (256 ^ k) (rank_bound k s (λ j. p (suc j))) (ltb-true x y e)))
       | inr e ↦ elim (either (ltb y x)) [
         | inl d ↦ absurd (omega (arith, greater y x (rank k t) (rank k s) (256 ^ k) (rank_bound k t (λ j. q (suc j))) (ltb-true y x d)))
         | inr d ↦
             let z : x ≡ y = omega (arith, ltb-false x y e, ltb-false y x d) in
-            let m : x * 256 ^ k ≡ y * 256 ^ k = ap (λ (w : ℕ). w * 256 ^ k) z in
-            ap₂ (λ (w : ℕ) (l : List ℕ). w ∷ l) z (rank_same k s t (λ j. p (suc j)) (λ j. q (suc j)) (omega arith) (omega arith) (omega arith))
+            let n : x * 256 ^ k ≡ y * 256 ^ k = ap (λ (w : ℕ). w * 256 ^ k) z in
+            ap₂ (λ (w : ℕ) (l : List ℕ). w ∷ l) z (rank_shared k m s t (λ j. p (suc j)) (λ j. q (suc j)) (omega arith) (omega arith) (omega arith) (omega arith))
       ]
     ]
+
+pub rank_same : (k : ℕ) (s t : List ℕ) → AllBytes s → AllBytes t → k ≤ length s → k ≤ length t → rank k s ≡ rank k t → take k s ≡ take k t
+rank_same k s t p q h g l = rank_shared k k s t p q (omega arith) h g l
 
 -- Keys with the same first bytes stand as what follows these.
 alike_take : (i : ℕ) (a b : List ℕ) → i ≤ length a → i ≤ length b → take i a ≡ take i b → Alike a b (drop i a) (drop i b)
@@ -147,19 +153,19 @@ alike_take (suc i) (x ∷ a) (y ∷ b) h g e =
 pub all_bytes : (s : List ℕ) → ((j : ℕ) → Fits w8 (get_or s j 0)) → AllBytes s
 all_bytes s h j = omega (arith, h j)
 
-module _ (a b : List ℕ) (i x y : ℕ) (p : (j : ℕ) → Fits w8 (get_or a j 0)) (q : (j : ℕ) → Fits w8 (get_or b j 0))
+module _ (a b : List ℕ) (i x y : ℕ) (p : AllBytes a) (q : AllBytes b)
     (h : i + 8 ≤ length a) (g : i + 8 ≤ length b) (e : take i a ≡ take i b) (ex : x ≡ rank 8 (drop i a)) (ey : y ≡ rank 8 (drop i b)) where
   left_bytes : AllBytes (drop i a)
-  left_bytes = bytes_drop i a (all_bytes a p)
+  left_bytes = bytes_drop i a p
 
   right_bytes : AllBytes (drop i b)
-  right_bytes = bytes_drop i b (all_bytes b q)
+  right_bytes = bytes_drop i b q
 
-  pub eight_less : x < y → is_order Before a b ≡ true
-  eight_less d = (alike_take i a b (omega arith) (omega arith) e).alike Before ∙ rank_less 8 (drop i a) (drop i b) left_bytes right_bytes (omega arith)
+  pub eight_less : x < y → is_order Less a b ≡ true
+  eight_less d = (alike_take i a b (omega arith) (omega arith) e).alike Less ∙ rank_less 8 (drop i a) (drop i b) left_bytes right_bytes (omega arith)
 
-  pub eight_more : y < x → is_order After a b ≡ true
-  eight_more d = (alike_take i a b (omega arith) (omega arith) e).alike After ∙ rank_less 8 (drop i b) (drop i a) right_bytes left_bytes (omega arith)
+  pub eight_more : y < x → is_order Greater a b ≡ true
+  eight_more d = (alike_take i a b (omega arith) (omega arith) e).alike Greater ∙ rank_less 8 (drop i b) (drop i a) right_bytes left_bytes (omega arith)
 
   pub eight_same : y ≤ x → x ≤ y → take (i + 8) a ≡ take (i + 8) b
   eight_same d f =
@@ -167,77 +173,84 @@ module _ (a b : List ℕ) (i x y : ℕ) (p : (j : ℕ) → Fits w8 (get_or a j 0
       ∙ ap₂ (λ (s t : List ℕ). s ++ t) e (rank_same 8 (drop i a) (drop i b) left_bytes right_bytes (rw length-drop (omega arith)) (rw length-drop (omega arith)) (omega arith))
       ∙ sym (take-add i 8 b)
 
--- The last eight of the bytes that both keys have, then the lengths.
-module _ (a b : List ℕ) (n x y : ℕ) (w : LastEight a b n) (ex : x ≡ rank 8 (drop (n - 8) a)) (ey : y ≡ rank 8 (drop (n - 8) b))
-    (p : (j : ℕ) → Fits w8 (get_or a j 0)) (q : (j : ℕ) → Fits w8 (get_or b j 0)) where
-  pub last_less : x < y → is_order Before a b ≡ true
-  last_less d = eight_less a b (n - 8) x y p q (omega (arith, w.eight, w.left)) (omega (arith, w.eight, w.right)) w.start ex ey d
+  -- The words in order, as `cmp` answers.
+  module _ (o : Ordering) (eo : o ≡ nat_cmp x y) where
+    pub eight_order : (x ≡ y → ⊥) → is_order o a b ≡ true
+    eight_order = go o (ranked x y o eo)
+      where
+        go : (o : Ordering) → MatchOrdering o (x < y) (x ≡ y) (y < x) → (x ≡ y → ⊥) → is_order o a b ≡ true
+        go Less m t = eight_less m
+        go Equal m t = absurd (t m)
+        go Greater m t = eight_more m
 
-  pub last_more : y < x → is_order After a b ≡ true
-  last_more d = eight_more a b (n - 8) x y p q (omega (arith, w.eight, w.left)) (omega (arith, w.eight, w.right)) w.start ex ey d
+-- Of keys of which the one begins the other the lengths decide.
+length_order : (a b : List ℕ) (n : ℕ) (o : Ordering) → n ≡ min (length a) (length b) → take n a ≡ take n b → o ≡ nat_cmp (length a) (length b) → is_order o a b ≡ true
+length_order a b n o m e eo = go o (ranked (length a) (length b) o eo)
+  where
+    rest : Alike a b (drop n a) (drop n b)
+    rest = alike_take n a b (omega arith) (omega arith) e
 
-  module _ (d : y ≤ x) (f : x ≤ y) where
-    all_same : Alike a b (drop n a) (drop n b)
-    all_same =
-        let m : n - 8 + 8 ≡ n = omega (arith, w.eight) in
-        alike_take n a b w.left w.right
-        (rw m at (eight_same a b (n - 8) x y p q (omega (arith, w.eight, w.left)) (omega (arith, w.eight, w.right)) w.start ex ey d f))
+    go : (o : Ordering) → MatchOrdering o (length a < length b) (length a ≡ length b) (length b < length a) → is_order o a b ≡ true
+    go Less h = rest.alike Less ∙ rw (drop_of_length-le a {i = n} (omega arith), next b n (omega arith))
+    go Equal h = rest.alike Equal ∙ rw (drop_of_length-le a {i = n} (omega arith), drop_of_length-le b {i = n} (omega arith))
+    go Greater h = rest.alike Greater ∙ rw (drop_of_length-le b {i = n} (omega arith), next a n (omega arith))
 
-    pub last_shorter : n < length b → is_order Before a b ≡ true
-    last_shorter h = keys_shorter a b a b n all_same (w.ends h) h
-
-    pub last_longer : length b ≤ n → n < length a → is_order After a b ≡ true
-    last_longer h g = keys_longer a b a b n all_same g h
-
-    pub last_both : length b ≤ n → length a ≤ n → is_order Same a b ≡ true
-    last_both h g = keys_both a b a b n all_same g h
-
-pub ruleset last_cases = (last_less, last_more, last_shorter, last_longer, last_both)
+-- Where the shorter has no more bytes than a head, the lengths decide.
+pub all_shared : (a b : List ℕ) (n : ℕ) (o : Ordering) → SharesHead a b → n ≡ min (length a) (length b) → n ≤ 16 → o ≡ nat_cmp (length a) (length b) → is_order o a b ≡ true
+all_shared a b n o s e h f = let z : min 16 (min (length a) (length b)) ≡ n = omega arith in length_order a b n o e (rw z at s.shared) f
 
 -- what holds at each turn: of the n bytes that both keys have the first i are the same
 pub record Words (a b : List ℕ) (n i : ℕ) : Type 0 where
-  pub shorter : Shorter n (length a) (length b)
+  pub left : AllBytes a
+  pub right : AllBytes b
+  pub least : n ≡ min (length a) (length b)
   pub eight : 8 ≤ n
   pub shared : take i a ≡ take i b
 
-pub words_start : (a b : List ℕ) (n : ℕ) → Shorter n (length a) (length b) → 8 ≤ n → Words a b n 0
-words_start a b n s h = record { shorter = s; eight = h; shared = refl }
+pub words_start : (a b : List ℕ) (n : ℕ) → ((j : ℕ) → Fits w8 (get_or a j 0)) → ((j : ℕ) → Fits w8 (get_or b j 0)) → SharesHead a b → n ≡ min (length a) (length b) → 16 < n → Words a b n 16
+words_start a b n p q s e h =
+    let z : min 16 (min (length a) (length b)) ≡ 16 = omega arith in
+    record { left = all_bytes a p; right = all_bytes b q; least = e; eight = omega arith; shared = rw z at s.shared }
 
-module _ (a b : List ℕ) (n i : ℕ) (w : Words a b n i) where
-  module _ (h : i < n - 8) where
-    pub words_left : i + 8 ≤ length a
-    words_left = omega (arith, w.shorter.left)
+module _ (a b : List ℕ) (n i : ℕ) (w : Words a b n i) (x y : ℕ) where
+  module _ (h : i < n - 8) (ex : x ≡ rank 8 (drop i a)) (ey : y ≡ rank 8 (drop i b)) where
+    left : i + 8 ≤ length a
+    left = omega (arith, w.least)
 
-    pub words_right : i + 8 ≤ length b
-    words_right = omega (arith, w.shorter.right)
+    right : i + 8 ≤ length b
+    right = omega (arith, w.least)
 
-    pub words_again : rank 8 (drop i a) ≡ rank 8 (drop i b) → ((j : ℕ) → Fits w8 (get_or a j 0)) → ((j : ℕ) → Fits w8 (get_or b j 0)) → Words a b n (i + 8)
-    words_again e p q =
-        record { shorter = w.shorter; eight = w.eight; shared = eight_same a b i _ _ p q words_left words_right w.shared refl refl (omega arith) (omega arith) }
+    pub words_order : (o : Ordering) → o ≡ nat_cmp x y → (x ≡ y → ⊥) → is_order o a b ≡ true
+    words_order o e d = eight_order a b i x y w.left w.right left right w.shared ex ey o e d
 
-    module _ (x y : ℕ) (ex : x ≡ rank 8 (drop i a)) (ey : y ≡ rank 8 (drop i b)) (p : (j : ℕ) → Fits w8 (get_or a j 0)) (q : (j : ℕ) → Fits w8 (get_or b j 0)) where
-      pub words_less_lem : x < y → is_order Before a b ≡ true
-      words_less_lem d = eight_less a b i x y p q words_left words_right w.shared ex ey d
+    pub words_again : x ≡ y → Words a b n (i + 8)
+    words_again e =
+        record { left = w.left; right = w.right; least = w.least; eight = w.eight; shared = eight_same a b i x y w.left w.right left right w.shared ex ey (omega arith) (omega arith) }
 
-      pub words_more : y < x → is_order After a b ≡ true
-      words_more d = eight_more a b i x y p q words_left words_right w.shared ex ey d
+  module _ (h : n - 8 ≤ i) (ex : x ≡ rank 8 (drop (n - 8) a)) (ey : y ≡ rank 8 (drop (n - 8) b)) (u v o : Ordering) (eu : u ≡ nat_cmp x y) (ev : v ≡ nat_cmp (length a) (length b)) (eo : o ≡ ordering_then u v) where
+    start : take (n - 8) a ≡ take (n - 8) b
+    start = sym (take-take (n - 8) i a h) ∙ ap (take (n - 8)) w.shared ∙ take-take (n - 8) i b h
 
-  pub words_end : n - 8 ≤ i → LastEight a b n
-  words_end h =
-      record {
-        eight = w.eight;
-        left = w.shorter.left;
-        right = w.shorter.right;
-        ends = w.shorter.ends;
-        start = sym (take-take (n - 8) i a h) ∙ ap (take (n - 8)) w.shared ∙ take-take (n - 8) i b h;
-      }
+    pub words_end : is_order o a b ≡ true
+    words_end = go u (ranked x y u eu) eo
+      where
+        left : n - 8 + 8 ≤ length a
+        left = omega (arith, w.least, w.eight)
 
-pub ruleset word_cases = (words_start, words_left, words_right, words_less_lem, words_more, words_end)
+        right : n - 8 + 8 ≤ length b
+        right = omega (arith, w.least, w.eight)
+
+        go : (u : Ordering) → MatchOrdering u (x < y) (x ≡ y) (y < x) → o ≡ ordering_then u v → is_order o a b ≡ true
+        go Less m e = rw e (eight_less a b (n - 8) x y w.left w.right left right start ex ey m)
+        go Equal m e =
+            let z : n - 8 + 8 ≡ n = omega (arith, w.eight) in
+            length_order a b n o w.least (rw z at (eight_same a b (n - 8) x y w.left w.right left right start ex ey (omega arith) (omega arith))) (e ∙ ev)
+        go Greater m e = rw e (eight_more a b (n - 8) x y w.left w.right left right start ex ey m)
 
 -- ## What an order says of the other two
 
-pub order_of : (o : Order) (a s b : List ℕ) → is_order o s b ≡ true → s ≡ a → is_order o a b ≡ true
-order_of o a s b e q = rw q at e
+pub order_by : (r : Ordering) (a b : List ℕ) → r ≡ slice_cmp nat_cmp a b → is_order r a b ≡ true
+order_by r a b e = rw e (slice_order a b)
 
 pub same_one : (a b : List ℕ) → same a b ≡ true → before a b ≡ false
 same_one a b e = rw (same_path a b e) (before_irrefl b)

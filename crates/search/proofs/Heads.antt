@@ -1,27 +1,29 @@
 -- A row's key and a key by the bytes of their heads.
-use Prim.Native.Nat.{ℕ, zero, suc, ◌+◌, ◌-◌, ◌*◌, ◌≤◌, ◌<◌}
+use Prim.Native.Nat.{ℕ, zero, suc, ◌+◌, ◌-◌, ◌*◌, ◌≤◌, ◌<◌, min}
 use mathlib.Core.Path.{◌≡◌, refl, sym, ap, ◌∙◌}
 use mathlib.Core.Logic.{◌⊎◌, inl, inr}
-use mathlib.Core.Bool.{Bool, true, false, ◌&&◌, ◌||◌}
+use mathlib.Core.Bool.{true, false≢true}
 use mathlib.Core.List.{List, [], ◌∷◌}
 use native.Mathlib.Omega.{arith}
 use native.Mathlib.Nat.{le_of_eq}
 use mir.Val.{Fits}
-use mir.Syntax.{w8, w64}
+use mir.Syntax.{w8}
 use lib.Dec.{ltb, eqb}
-use lib.ListN.{length, get_or, take, drop, length-drop, drop_of_length-le}
-use lib.Seq.{take_all, take-take, drop-drop, get_or-take, get_or-drop}
-use borrow.Author.Tests.{ltb-true, ltb-false, eqb-true}
+use lib.ListN.{length, get_or, take, drop, length-drop, length-take, drop_of_length-le}
+use lib.Seq.{take_all, take-take, drop-drop}
+use borrow.Author.Tests.{ltb-true, ltb-false}
 use Rattle.buffers.specs.Words.{AllBytes}
 use Rattle.buffers.proofs.Lists.{drop_take}
 use Rattle.buffers.proofs.Tests.{either, and_i, and_l, and_r, or_l, or_r, or_one}
 use Rattle.buffers.proofs.Words.{bytes_take, bytes_drop}
+use Rattle.blocks.specs.Blocks.{key_in}
 use Rattle.model.specs.Rows.{before}
-use Rattle.table.specs.Places.{key_at}
-use Rattle.search.specs.Keys.{is_order, order_if, rank, Shorter, IsHead}
-use Rattle.search.specs.declared.Order.{Order}
-use Rattle.search.specs.declared.Order.TheVariants.{Before, After}
-use Rattle.search.proofs.Comparing.{rank_less, all_bytes}
+use Rattle.std.specs.declared.cmp.Ordering.{Ordering}
+use Rattle.std.specs.declared.cmp.Ordering.TheVariants.{Less, Equal, Greater}
+use Rattle.std.specs.Ordering.{nat_cmp, ordering_then, is_lt, is_eq, is_gt, MatchOrdering}
+use Rattle.std.proofs.lemmas.Cmp.{ranked}
+use Rattle.search.specs.Keys.{rank, IsHead, SharesHead}
+use Rattle.search.proofs.Comparing.{rank_less, rank_shared, all_bytes}
 use Rattle.search.proofs.Ranking.{rank_take}
 
 -- ## Two words
@@ -72,23 +74,16 @@ before_cut (suc n) (a ∷ s) (b ∷ t) h e =
 
 -- ## A row's key
 
-module _ (b : List ℕ) (i : ℕ) (p : (j : ℕ) → Fits w8 (get_or b j 0)) (most : get_or b (64 * i) 0 ≤ 63) where
+module _ (b : List ℕ) (p : (j : ℕ) → Fits w8 (get_or b j 0)) where
   -- the bytes of a row's block behind the first
   abbrev body : List ℕ
-  body = drop (64 * i + 1) b
+  body = drop 1 b
 
   body_bytes : AllBytes body
-  body_bytes = bytes_drop (64 * i + 1) b (all_bytes b p)
+  body_bytes = bytes_drop 1 b (all_bytes b p)
 
-  body_second : drop 8 body ≡ drop (64 * i + 9) b
-  body_second = let q : 64 * i + 1 + 8 ≡ 64 * i + 9 = omega arith in drop-drop 8 (64 * i + 1) b ∙ rw q
-
-  -- The row's key is as much of them as the first byte says.
-  key_cut : key_at b i ≡ take (get_or b (64 * i) 0) body
-  key_cut =
-      let z : 64 * i + 0 ≡ 64 * i = omega arith in
-      let f : get_or (take 64 (drop (64 * i) b)) 0 0 ≡ get_or b (64 * i) 0 = get_or-take 64 (drop (64 * i) b) 0 0 (omega arith) ∙ get_or-drop (64 * i) b 0 0 ∙ rw z in
-      rw (f, drop_take 1 64 (drop (64 * i) b), drop-drop 1 (64 * i) b) (take-take (get_or b (64 * i) 0) 63 body most)
+  body_second : drop 8 body ≡ drop 9 b
+  body_second = drop-drop 8 1 b
 
   -- A key of sixteen bytes has their words.
   cut_words : (n : ℕ) (k : List ℕ) → 16 ≤ n → words_less k body → words_less k (take n body)
@@ -97,53 +92,80 @@ module _ (b : List ℕ) (i : ℕ) (p : (j : ℕ) → Fits w8 (get_or b j 0)) (mo
       let f : rank 8 (drop 8 (take n body)) ≡ rank 8 (drop 8 body) = ap (rank 8) (drop_take 8 n body) ∙ rank_take 8 (n - 8) (drop 8 body) (omega arith) in
       rw (e, f) w
 
-  module _ (k : List ℕ) (x y : ℕ) (ex : x ≡ rank 8 k) (ey : y ≡ rank 8 (drop 8 k)) (q : (j : ℕ) → Fits w8 (get_or k j 0)) where
-    less_before : (ltb (rank 8 body) x || (eqb (rank 8 body) x && ltb (rank 8 (drop (64 * i + 9) b)) y)) ≡ true → before (key_at b i) k ≡ true
-    less_before e = rw key_cut (cut_before (get_or b (64 * i) 0) body k (words_before body k body_bytes (all_bytes k q) words))
-      where
-        words : words_less body k
-        words =
-            rw (body_second, sym ex, sym ey) (
-            elim (or_one (ltb (rank 8 body) x) _ e) [
-              | inl h ↦ inl (ltb-true (rank 8 body) x h)
-              | inr h ↦ inr (eqb-true (rank 8 body) x (and_l (eqb (rank 8 body) x) _ h), ltb-true (rank 8 (drop (64 * i + 9) b)) y (and_r (eqb (rank 8 body) x) _ h))
-            ])
+  module _ (k : List ℕ) (x y : ℕ) (ex : x ≡ rank 8 k) (ey : y ≡ rank 8 (drop 8 k)) (q : AllBytes k) where
+    less_before : (rank 8 body < x) ⊎ ((rank 8 body ≡ x) × (rank 8 (drop 9 b) < y)) → before (key_in b) k ≡ true
+    less_before e = cut_before (get_or b 0 0) body k (words_before body k body_bytes q (rw (body_second, sym ex, sym ey) e))
 
-    more_after : (need : ℕ) → Shorter need 16 (length k + 1) → need ≤ get_or b (64 * i) 0
-        → (ltb x (rank 8 body) || (eqb (rank 8 body) x && ltb y (rank 8 (drop (64 * i + 9) b)))) ≡ true → before k (key_at b i) ≡ true
+    more_after : (need : ℕ) → need ≡ min 16 (length k + 1) → need ≤ get_or b 0 0
+        → (x < rank 8 body) ⊎ ((x ≡ rank 8 body) × (y < rank 8 (drop 9 b))) → before k (key_in b) ≡ true
     more_after need r enough e =
-        rw key_cut (
         elim (either (ltb need (length k + 1))) [
           | inl h ↦
-              words_before k (take (get_or b (64 * i) 0) body) (all_bytes k q) (bytes_take (get_or b (64 * i) 0) body body_bytes)
-              (cut_words (get_or b (64 * i) 0) k (omega (arith, r.ends (ltb-true need (length k + 1) h))) words)
-          | inr h ↦ before_cut (get_or b (64 * i) 0) k body (omega (arith, ltb-false need (length k + 1) h)) (words_before k body (all_bytes k q) body_bytes words)
-        ])
+              words_before k (take (get_or b 0 0) body) q (bytes_take (get_or b 0 0) body body_bytes)
+              (cut_words (get_or b 0 0) k (omega (arith, ltb-true need (length k + 1) h)) words)
+          | inr h ↦ before_cut (get_or b 0 0) k body (omega (arith, ltb-false need (length k + 1) h)) (words_before k body q body_bytes words)
+        ]
       where
         words : words_less k body
-        words =
-            rw (body_second, sym ex, sym ey) (
-            elim (or_one (ltb x (rank 8 body)) _ e) [
-              | inl h ↦ inl (ltb-true x (rank 8 body) h)
-              | inr h ↦ inr (sym (eqb-true (rank 8 body) x (and_l (eqb (rank 8 body) x) _ h)), ltb-true y (rank 8 (drop (64 * i + 9) b)) (and_r (eqb (rank 8 body) x) _ h))
-            ])
+        words = rw (body_second, sym ex, sym ey) e
 
 -- ## What the code learns
 
-order_if_lem : (t : Bool) (o : Order) (s k : List ℕ) → (t ≡ true → is_order o s k ≡ true) → order_if t o s k ≡ true
-order_if_lem true o s k f = f refl
-order_if_lem false o s k f = refl
+-- Two numbers, the first counting most.
+module _ (p q x y : ℕ) where
+  pair_less : ordering_then (nat_cmp p x) (nat_cmp q y) ≡ Less → (p < x) ⊎ ((p ≡ x) × (q < y))
+  pair_less = go (nat_cmp p x) (nat_cmp q y) (ranked p x _ refl) (ranked q y _ refl)
+    where
+      go : (u v : Ordering) → MatchOrdering u (p < x) (p ≡ x) (x < p) → MatchOrdering v (q < y) (q ≡ y) (y < q) → ordering_then u v ≡ Less → (p < x) ⊎ ((p ≡ x) × (q < y))
+      go Less v m n e = inl m
+      go Equal Less m n e = inr (m, n)
+      go Equal Equal m n e = absurd (false≢true (ap is_lt e))
+      go Equal Greater m n e = absurd (false≢true (ap is_lt e))
+      go Greater v m n e = absurd (false≢true (ap is_lt e))
 
-module _ (b k : List ℕ) (i x y need p q : ℕ) (d : IsHead k x y need) (h : get_or b (64 * i) 0 ≤ 63) (ep : p ≡ rank 8 (drop (64 * i + 1) b)) (eq : q ≡ rank 8 (drop (64 * i + 9) b))
-    (fb : (j : ℕ) → Fits w8 (get_or b j 0)) (fk : (j : ℕ) → Fits w8 (get_or k j 0)) where
-  pub less_order : order_if (ltb p x || (eqb p x && ltb q y)) Before (key_at b i) k ≡ true
-  less_order = order_if_lem _ Before (key_at b i) k (λ t. less_before b i fb h k x y d.first_is d.second_is fk (rw (sym ep, sym eq) t))
+  pair_same : ordering_then (nat_cmp p x) (nat_cmp q y) ≡ Equal → (p ≡ x) × (q ≡ y)
+  pair_same = go (nat_cmp p x) (nat_cmp q y) (ranked p x _ refl) (ranked q y _ refl)
+    where
+      go : (u v : Ordering) → MatchOrdering u (p < x) (p ≡ x) (x < p) → MatchOrdering v (q < y) (q ≡ y) (y < q) → ordering_then u v ≡ Equal → (p ≡ x) × (q ≡ y)
+      go Less v m n e = absurd (false≢true (ap is_eq e))
+      go Equal Less m n e = absurd (false≢true (ap is_eq e))
+      go Equal Equal m n e = (m, n)
+      go Equal Greater m n e = absurd (false≢true (ap is_eq e))
+      go Greater v m n e = absurd (false≢true (ap is_eq e))
 
-  pub more_order : need ≤ get_or b (64 * i) 0 → order_if (ltb x p || (eqb p x && ltb y q)) After (key_at b i) k ≡ true
-  more_order r = order_if_lem _ After (key_at b i) k (λ t. more_after b i fb h k x y d.first_is d.second_is fk need d.enough r (rw (sym ep, sym eq) t))
+  pair_more : ordering_then (nat_cmp p x) (nat_cmp q y) ≡ Greater → (x < p) ⊎ ((x ≡ p) × (y < q))
+  pair_more = go (nat_cmp p x) (nat_cmp q y) (ranked p x _ refl) (ranked q y _ refl)
+    where
+      go : (u v : Ordering) → MatchOrdering u (p < x) (p ≡ x) (x < p) → MatchOrdering v (q < y) (q ≡ y) (y < q) → ordering_then u v ≡ Greater → (x < p) ⊎ ((x ≡ p) × (y < q))
+      go Less v m n e = absurd (false≢true (ap is_gt e))
+      go Equal Less m n e = absurd (false≢true (ap is_gt e))
+      go Equal Equal m n e = absurd (false≢true (ap is_gt e))
+      go Equal Greater m n e = inr (sym m, n)
+      go Greater v m n e = inl m
 
-pub head_is : (k : List ℕ) (x y need : ℕ) → x ≡ rank 8 k → y ≡ rank 8 (drop 8 k) → Shorter need 16 (length k + 1) → IsHead k x y need
-head_is k x y need ex ey r = record { first_is = ex; second_is = ey; enough = r }
+module _ (b k : List ℕ) (first second need : ℕ) (d : IsHead k first second need) (p q : ℕ) (ep : p ≡ rank 8 (drop 1 b)) (eq : q ≡ rank 8 (drop 9 b))
+    (fb : (j : ℕ) → Fits w8 (get_or b j 0)) (o x y : Ordering) (ox : x ≡ nat_cmp p first) (oy : y ≡ nat_cmp q second) (oo : o ≡ ordering_then x y) where
+  both : o ≡ ordering_then (nat_cmp (rank 8 (drop 1 b)) first) (nat_cmp (rank 8 (drop 9 b)) second)
+  both = rw (← ep, ← eq, ← ox, ← oy) oo
+
+  pub head_same : (key : List ℕ) → key ≡ key_in b → o ≡ Equal → 64 ≤ length b → get_or b 0 0 ≤ 63 → SharesHead key k
+  head_same key f l long short =
+      let n = get_or b 0 0 in
+      let m = min 16 (min (length (key_in b)) (length k)) in
+      let e = pair_same _ _ first second (sym both ∙ l) in
+      let body_long : length (drop 1 b) ≡ length b - 1 = length-drop 1 b in
+      let key_long : length (key_in b) ≡ min n (length (drop 1 b)) = length-take n (drop 1 b) in
+      let z : rank 16 (drop 1 b) ≡ rank 16 k = rank_words (drop 1 b) ∙ rw (drop-drop 8 1 b, e.0, e.1, d.first_is, d.second_is) (sym (rank_words k)) in
+      rw f (record {
+        shared =
+            take-take m n (drop 1 b) (omega arith) ∙ rank_shared 16 m (drop 1 b) k (bytes_drop 1 b (all_bytes b fb)) d.bytes (omega arith) (omega arith) (omega arith) z;
+      })
+
+  pub head_less : o ≡ Less → before (key_in b) k ≡ true
+  head_less l = less_before b fb k first second d.first_is d.second_is d.bytes (pair_less _ _ first second (sym both ∙ l))
+
+  pub head_more : o ≡ Greater → need ≤ get_or b 0 0 → before k (key_in b) ≡ true
+  head_more l enough = more_after b fb k first second d.first_is d.second_is d.bytes need d.enough enough (pair_more _ _ first second (sym both ∙ l))
 
 -- the second word of a key
 pub second_none : (k : List ℕ) → length k ≤ 8 → 0 ≡ rank 8 (drop 8 k)
@@ -152,10 +174,3 @@ second_none k h = rw (drop_of_length-le k {i = 8} h)
 
 pub second_rest : (k : List ℕ) (r : ℕ) → r ≡ rank 8 (take (length k - 8) (drop 8 k)) → r ≡ rank 8 (drop 8 k)
 second_rest k r e = e ∙ ap (rank 8) (take_all (length k - 8) (drop 8 k) (le_of_eq (length-drop 8 k)))
-
-pub ruleset second_cases = (second_none, second_rest)
-
-pub byte_fits : (b : List ℕ) (j : ℕ) → ((j : ℕ) → Fits w8 (get_or b j 0)) → Fits w64 (get_or b j 0)
-byte_fits b j p = omega (arith, p j)
-
-pub ruleset head_cases = (less_order, more_order, byte_fits)

@@ -4,4 +4,5 @@ pub mod Heads
 pub mod Prefixes
 pub mod Positions
 pub mod Halving
+pub mod Finding
 pub mod Named

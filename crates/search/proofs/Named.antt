@@ -4,10 +4,10 @@ use mathlib.Core.Path.{◌≡◌, refl, sym, ap, ◌∙◌}
 use mathlib.Core.Logic.{inl, inr}
 use mathlib.Core.Bool.{Bool, true, false, not, ◌&&◌, and-true}
 use mathlib.Core.List.{List, [], ◌∷◌}
-use mathlib.Core.Option.{some, none}
+use Rattle.std.specs.Prelude.{Some, None}
 use native.Mathlib.Omega.{arith}
 use lib.Dec.{eqb}
-use lib.ListN.{set}
+use lib.ListN.{length, set}
 use borrow.Author.Tests.{eqb-true, not-true}
 use Rattle.buffers.specs.Choices.{then_some}
 use Rattle.buffers.specs.Lists.{all, keep, first, change, same}
@@ -20,10 +20,9 @@ use Rattle.model.specs.Effects.{row_of, same_version, is_named, insert_by_key}
 use Rattle.model.proofs.Order.{before_other, version_row}
 use Rattle.model.proofs.SoundRows.{version_refl, apart, others}
 use Rattle.table.specs.Changes.{insert_at, remove_at}
-use Rattle.table.specs.Layout.{rows_of}
 use Rattle.search.specs.Places.{leading, nth_row, found_if, key_place, current_in, version_place, version_in, row_found, place_found}
-use Rattle.search.specs.declared.Found.{Found}
-use Rattle.search.specs.declared.Found.TheVariants.{At, Place}
+use Rattle.std.specs.Prelude.{Result}
+use Rattle.std.specs.Prelude.{Ok, Err}
 use Rattle.search.proofs.Positions.{all_row, place_if, current_used, current_free}
 
 -- ## The row that is found
@@ -52,7 +51,7 @@ module _ (p q : Row → Bool) (not_both : (x : Row) → q x ≡ true → p x ≡
       ]
 
 -- A key's current version is the row that the key alone names.
-pub current_row : (k : List ℕ) (xs : List Row) → ordered xs ≡ true → row_found xs (current_in k xs) ≡ row_of xs (name k none)
+pub current_row : (k : List ℕ) (xs : List Row) → ordered xs ≡ true → row_found xs (current_in k xs) ≡ row_of xs (name k None)
 unfolding current_in key_place
 current_row k xs o =
     found_first (λ x. same x.key k) (λ x. before x.key k) (λ x. before_other x.key k) none_behind xs o
@@ -69,7 +68,7 @@ current_row k xs o =
         ]
 
 -- A key's version is the row that the key and the version number name.
-pub version_row_lem : (k : List ℕ) (v : ℕ) (xs : List Row) → ordered xs ≡ true → row_found xs (version_in k v xs) ≡ row_of xs (name k (some (numbered v)))
+pub version_row_lem : (k : List ℕ) (v : ℕ) (xs : List Row) → ordered xs ≡ true → row_found xs (version_in k v xs) ≡ row_of xs (name k (Some (numbered v)))
 unfolding version_in version_place
 version_row_lem k v xs o =
     found_first (λ x. same x.key k && eqb x.number v) (λ x. ahead x (version_row k v)) (λ x e. (apart x (version_row k v) e).0) none_behind xs o
@@ -100,16 +99,16 @@ pub current_place : (k : List ℕ) (xs : List Row) → place_found (current_in k
 unfolding current_in
 current_place k xs = place_if (λ x. same x.key k) xs (key_place k xs)
 
--- So the place that it gives is the key's, within the used rows or right behind them.
-module _ (n b : List ℕ) (u : ℕ) (k : List ℕ) (r : Found) (i : ℕ) (e : r ≡ current_in k (rows_of n b u)) where
-  here : place_found r ≡ i → i ≡ key_place k (rows_of n b u)
-  here q = sym q ∙ ap place_found e ∙ current_place k (rows_of n b u)
+-- So the place that it gives is the key's, within the rows or right behind them.
+module _ (xs : List Row) (k : List ℕ) (r : Result ℕ ℕ) (i : ℕ) (e : r ≡ current_in k xs) where
+  here : place_found r ≡ i → i ≡ key_place k xs
+  here q = sym q ∙ ap place_found e ∙ current_place k xs
 
-  pub place_at : r ≡ At i → Within i (key_place k (rows_of n b u)) u
-  place_at t = record { is = here (ap place_found t); most = omega (arith, current_used n b u k r i e t) }
+  pub place_at : r ≡ Ok i → Within i (key_place k xs) (length xs)
+  place_at t = record { is = here (ap place_found t); most = omega (arith, current_used xs k r i e t) }
 
-  pub place_free : r ≡ Place i → Within i (key_place k (rows_of n b u)) u
-  place_free t = record { is = here (ap place_found t); most = current_free n b u k r i e t }
+  pub place_free : r ≡ Err i → Within i (key_place k xs) (length xs)
+  place_free t = record { is = here (ap place_found t); most = current_free xs k r i e t }
 
 pub ruleset place_cases = (place_at, place_free)
 
@@ -120,7 +119,7 @@ change_none x f [] e = refl
 change_none x f (y ∷ ys) e =
     rw (not-true (same_version x y) (and_l _ _ e)) (ap (λ (l : List Row). y ∷ l) (change_none x f ys (and_r (not (same_version x y)) _ e)))
 
-change_at : (x : Row) (f : Row → Row) (xs : List Row) (i : ℕ) → ordered xs ≡ true → nth_row xs i ≡ some x → change (same_version x) f xs ≡ set xs i (f x)
+change_at : (x : Row) (f : Row → Row) (xs : List Row) (i : ℕ) → ordered xs ≡ true → nth_row xs i ≡ Some x → change (same_version x) f xs ≡ set xs i (f x)
 change_at x f [] i o e = refl
 change_at x f (y ∷ ys) zero o e =
     let q : x ≡ y = cc in
@@ -130,7 +129,7 @@ change_at x f (y ∷ ys) (suc i) o e =
     let here : same_version x y ≡ false = (apart y x (all_row (ahead y) ys i x (and_l _ _ o) e)).1 in
     rw here (ap (λ (l : List Row). y ∷ l) (change_at x f ys i (and_r (all (ahead y) ys) _ o) e))
 
-keep_at : (x : Row) (xs : List Row) (i : ℕ) → ordered xs ≡ true → nth_row xs i ≡ some x → keep (λ y. not (same_version x y)) xs ≡ remove_at i xs
+keep_at : (x : Row) (xs : List Row) (i : ℕ) → ordered xs ≡ true → nth_row xs i ≡ Some x → keep (λ y. not (same_version x y)) xs ≡ remove_at i xs
 keep_at x [] zero o e = refl
 keep_at x [] (suc i) o e = refl
 keep_at x (y ∷ ys) zero o e =
@@ -141,7 +140,7 @@ keep_at x (y ∷ ys) (suc i) o e =
     let here : same_version x y ≡ false = (apart y x (all_row (ahead y) ys i x (and_l _ _ o) e)).1 in
     rw here (ap (λ (l : List Row). y ∷ l) (keep_at x ys i (and_r (all (ahead y) ys) _ o) e))
 
-module _ (xs : List Row) (n : Name) (i : ℕ) (x : Row) (o : ordered xs ≡ true) (e : row_of xs n ≡ some x) (p : nth_row xs i ≡ some x) where
+module _ (xs : List Row) (n : Name) (i : ℕ) (x : Row) (o : ordered xs ≡ true) (e : row_of xs n ≡ Some x) (p : nth_row xs i ≡ Some x) where
   -- A change of the row that a line names is made at its position.
   pub change_named : (f : Row → Row) → change (is_named xs n) f xs ≡ set xs i (f x)
   change_named f = let h : change (λ y. is_named xs n y) f xs ≡ set xs i (f x) = simp e (change_at x f xs i o p) in h

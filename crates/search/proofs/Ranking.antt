@@ -43,11 +43,6 @@ rank_take (suc k) zero s h = absurd (omega arith)
 rank_take (suc k) (suc n) [] h = refl
 rank_take (suc k) (suc n) (x ∷ s) h = ap (λ (r : ℕ). x * 256 ^ k + r) (rank_take k n s (omega arith))
 
-pub stored_bytes : (b : List ℕ) (i : ℕ) → ((j : ℕ) → Fits w8 (get_or b j 0)) → AllBytes (key_at b i)
-stored_bytes b i p =
-    let block = take 64 (drop (64 * i) b) in
-    bytes_take (get_or block 0 0) (drop 1 block) (bytes_drop 1 block (bytes_take 64 (drop (64 * i) b) (bytes_drop (64 * i) b (all_bytes b p))))
-
 -- Behind a block's key stand zeros, so that its bytes have the key's rank.
 pub block_rank : (b : List ℕ) → is_block b ≡ true → rank 8 (drop 1 b) ≡ rank 8 (key_in b)
 unfolding block_of

@@ -1,4 +1,4 @@
 pub mod Keys
 pub mod Places
-pub mod Searching
+pub mod Halving
 pub mod Examples

@@ -66,16 +66,19 @@ rule_own u f = ap (λ (l : List ℕ). rule_at l 0) (sym (append-nil (rule_bytes 
 exact : (out : List ℕ) (a : ℕ) (vs : List ℕ) (n k : ℕ) (exit : List ℕ) (r : ℕ) → Wrote out a vs k exit r → length vs ≡ n → Wrote out a vs n exit (a + n)
 exact out a vs n k exit r w e = record { next = ap (λ (i : ℕ). a + i) (sym e); holds = w.holds; long = w.long; most = omega arith }
 
-pub rule_written : (out : List ℕ) (at : ℕ) (p : List ℕ) (x y k : ℕ) (l m exit : List ℕ) (q r t : ℕ) → length p ≡ 64 → x < 18446744073709551616 → y < 18446744073709551616 → at + 80 ≤ length out
-    → Wrote out at p k l q → Wrote l q (spelled 8 x) 8 m r → Wrote m r (spelled 8 y) 8 exit t → RulePut out at (record { prefix = p; current = x; noncurrent = y }) exit
-rule_written out at p x y k l m exit q r t n hx hy h u v w =
-    let z = u.long in
+pub rule_written : (out : List ℕ) (at : ℕ) (u : Rule) (k : ℕ) (l m exit : List ℕ) (q r t : ℕ) → length u.prefix ≡ 64 → u.current < 18446744073709551616 → u.noncurrent < 18446744073709551616 → at + 80 ≤ length out
+    → Wrote out at u.prefix k l q → Wrote l q (spelled 8 u.current) 8 m r → Wrote m r (spelled 8 u.noncurrent) 8 exit t → RulePut out at u exit
+rule_written out at u k l m exit q r t n hx hy h v w z =
+    let p = u.prefix in
+    let x = u.current in
+    let y = u.noncurrent in
+    let long = w.long in
     record {
       fits = and_i _ _ (eq-eqb (length p) 64 n) (and_i _ _ (lt-ltb x 18446744073709551616 hx) (lt-ltb y 18446744073709551616 hy));
       wrote =
           exact out at (p ++ (spelled 8 x ++ spelled 8 y)) 80 (k + (8 + 8)) exit t
-          (wrote_both out at p k l q (spelled 8 x ++ spelled 8 y) (8 + 8) exit t (omega arith) u
-          (wrote_both l q (spelled 8 x) 8 m r (spelled 8 y) 8 exit t (omega (arith, u.next)) v w))
+          (wrote_both out at p k l q (spelled 8 x ++ spelled 8 y) (8 + 8) exit t (omega arith) v
+          (wrote_both l q (spelled 8 x) 8 m r (spelled 8 y) 8 exit t (omega (arith, v.next)) w z))
           (rule_length p x y n);
     }
 

@@ -38,9 +38,9 @@ late = record { prefix = replicate 64 0; current = 36501; noncurrent = 0 }
 
 pub record Examples : Type 0 where
   -- 1 for the next version number in the third word, zeros everywhere else
-  pub fresh_bytes_lem : settings_bytes (with 0 0 0 absent) ≡ replicate 16 0 ++ (1 ∷ replicate 671 0)
+  pub fresh_as_bytes : settings_bytes (with 0 0 0 absent) ≡ replicate 16 0 ++ (1 ∷ replicate 671 0)
   -- the prefix's length, the prefix, zeros, and two numbers with the low byte first
-  pub rule_bytes_lem : rule_bytes logs ≡ 5 ∷ 108 ∷ 111 ∷ 103 ∷ 115 ∷ 47 ∷ replicate 58 0 ++ (30 ∷ replicate 7 0 ++ (1 ∷ 2 ∷ replicate 6 0))
+  pub rule_as_bytes : rule_bytes logs ≡ 5 ∷ 108 ∷ 111 ∷ 103 ∷ 115 ∷ 47 ∷ replicate 58 0 ++ (30 ∷ replicate 7 0 ++ (1 ∷ 2 ∷ replicate 6 0))
   pub read_back : settings_of (settings_bytes (with 1 30 1 logs)) ≡ with 1 30 1 logs
   pub lent_back : settings_with (state_of (with 1 30 1 logs)) (rules_bytes (with 1 30 1 logs).rules) ≡ with 1 30 1 logs
   pub fits : settings_fit (with 1 30 1 logs) ≡ true
@@ -61,8 +61,8 @@ pub examples : Examples
 unfolding settings_bytes rules_at settings_of settings_fit settings_sound number spelled block_of is_block is_prefix is_key_byte sound_config sound_rules
 examples =
     record {
-      fresh_bytes_lem = refl;
-      rule_bytes_lem = refl;
+      fresh_as_bytes = refl;
+      rule_as_bytes = refl;
       read_back = refl;
       lent_back = refl;
       fits = refl;

@@ -9,6 +9,8 @@ ghost use Rattle.settings.specs.Changes.{rule_sound, RulePut};
 ghost use Rattle.settings.specs.Bytes.{state_length, entries_length, rule_at, rules_of, state_in, state_bytes, settings_with};
 ghost use Rattle.settings.specs.State.{state_of};
 
+use model::Mode;
+
 // A lifecycle rule; its prefix is 64 bytes like a key, with length 0 allowed.
 #[repr(C)]
 #[derive(Clone, Copy)]
@@ -41,29 +43,15 @@ pub struct State {
     pub unit: u64,
 }
 
-// The 64 bytes from `at` on.
-fn prefix_at(b: &[u8], at: usize) -> [u8; 64]
-    requires { at + 64 ≤ length b.now }
-    ensures { result ≡ take 64 (drop at b.now) }
-{
-    let mut prefix = [0u8; 64];
-    let end = at + 64;
-    buffers::copy_in(&mut prefix, 0, &b[at..end]);
-    prefix
-}
-
 // The rule that 80 bytes from `at` on spell.
 fn rule_at(b: &[u8], at: usize) -> Rule
     requires { at + 80 ≤ length b.now }
     ensures { result ≡ rule_at b.now at }
 {
-    let prefix = prefix_at(b, at);
-    let current = buffers::word_at(b, at + 64);
-    let noncurrent = buffers::word_at(b, at + 72);
     Rule {
-        prefix,
-        current,
-        noncurrent,
+        prefix: b[at..at + 64].try_into().unwrap(),
+        current: buffers::word_at(b, at + 64),
+        noncurrent: buffers::word_at(b, at + 72),
     }
 }
 
@@ -84,12 +72,12 @@ fn rules_of(e: &[u8]) -> [Rule; 8]
     ]
 }
 
+// The entries are lent as a slice: they are a part of the bytes that C lends, which each call would turn into an array.
 // The settings of a state with these entries.
 pub fn settings_with(s: State, e: &[u8]) -> Settings
     requires { length e.now ≡ entries_length }
     ensures { result ≡ settings_with s e.now }
 {
-    let rules = rules_of(e);
     Settings {
         time: s.time,
         used: s.used as u64,
@@ -97,25 +85,18 @@ pub fn settings_with(s: State, e: &[u8]) -> Settings
         mode: s.mode,
         count: s.count,
         unit: s.unit,
-        rules,
+        rules: rules_of(e),
     }
 }
 
 // Writes the 80 bytes of a rule at `at`.
-fn put_rule(b: &mut [u8], at: usize, prefix: [u8; 64], current: u64, noncurrent: u64)
+fn put_rule(b: &mut [u8], at: usize, rule: Rule)
     requires { at + 80 ≤ length b.old }
-    ensures { RulePut b.old at (record { prefix = prefix; current = current; noncurrent = noncurrent }) b.new }
+    ensures { RulePut b.old at rule b.new }
 {
-    let after = buffers::copy_in(b, at, &prefix);
-    let after = buffers::put_word(b, after, current);
-    buffers::put_word(b, after, noncurrent);
-}
-
-// Room for the entries.
-pub fn no_entries() -> [u8; 640]
-    ensures { (result ≡ replicate 640 0) × (length result ≡ 640) }
-{
-    [0u8; 640]
+    let after = buffers::copy_in(b, at, &rule.prefix);
+    let after = buffers::put_word(b, after, rule.current);
+    buffers::put_word(b, after, rule.noncurrent);
 }
 
 // Writes the rules as entries.
@@ -123,12 +104,8 @@ pub fn put_rules(e: &mut [u8], rules: [Rule; 8])
     requires { length e.old ≡ entries_length }
     ensures { rules_of e.new ≡ rules }
 {
-    let mut k = 0;
-    while k < 8 {
-        let rule = rules[k];
-        let prefix = rule.prefix;
-        put_rule(e, 80 * k, prefix, rule.current, rule.noncurrent);
-        k += 1;
+    for k in 0..8 {
+        put_rule(e, 80 * k, rules[k]);
     }
 }
 
@@ -161,11 +138,12 @@ pub fn put_state(b: &mut [u8], s: State)
 }
 
 // The settings of a bucket that no line has changed yet.
+#[tactic(auto, unfolding(blocks::specs::Blocks::block_of))]
 pub fn fresh() -> Settings
     ensures { result ≡ fresh_settings }
 {
     let rule = Rule {
-        prefix: [0u8; 64],
+        prefix: [0; 64],
         current: 0,
         noncurrent: 0,
     };
@@ -184,22 +162,23 @@ pub fn fresh() -> Settings
 fn is_sound_default(mode: u64, count: u64, unit: u64) -> bool
     ensures { result ≡ sound_default (record { mode = mode; count = count; unit = unit }) }
 {
-    let absent = (mode == 0) & ((count == 0) & (unit == 0));
-    let days = (unit == 1) & (count <= model::MOST_DAYS);
-    let years = (unit == 2) & (count <= model::MOST_YEARS);
-    let is_mode = (mode == model::GOVERNANCE) | (mode == model::COMPLIANCE);
-    absent | (is_mode & ((1 <= count) & (days | years)))
+    let absent = mode == 0 && count == 0 && unit == 0;
+    let days = unit == 1 && count <= model::MOST_DAYS;
+    let years = unit == 2 && count <= model::MOST_YEARS;
+    let is_mode = mode == Mode::Governance.number() || mode == Mode::Compliance.number();
+    absent || is_mode && 1 <= count && (days || years)
 }
 
 // Whether the rule at `at` has a prefix and days within their limits, and is all zero where it has no action.
+// Joined by `&`, since where branches join the proof loses what the earlier tests told; so below.
+#[tactic(auto, using(crate::proofs::Checking::rule_checked))]
 fn is_sound_rule(e: &[u8], at: usize) -> bool
     requires { at + 80 ≤ length e.now }
     ensures { result ≡ rule_sound (rule_at e.now at) }
 {
     let current = buffers::word_at(e, at + 64);
     let noncurrent = buffers::word_at(e, at + 72);
-    let end = at + 64;
-    let is_prefix = blocks::is_prefix_block(&e[at..end]);
+    let is_prefix = blocks::is_prefix_block(&e[at..at + 64]);
     let is_set = !((current == 0) & (noncurrent == 0));
     is_prefix
         & ((current <= model::MOST_DAYS)
@@ -211,11 +190,8 @@ fn are_sound(e: &[u8]) -> bool
     requires { length e.now ≡ entries_length }
     ensures { result ≡ prefixes_are (rules_of e.now) && sound_rules (rules_mean (rules_of e.now)) }
 {
-    let mut k = 0;
-    while k < 8 {
-        if is_sound_rule(e, 80 * k) {
-            k += 1;
-        } else {
+    for k in 0..8 {
+        if !is_sound_rule(e, 80 * k) {
             return false;
         }
     }
@@ -223,6 +199,7 @@ fn are_sound(e: &[u8]) -> bool
 }
 
 // Whether the settings by themselves are sound.
+#[tactic(auto, using(crate::proofs::Checking::settings_checked))]
 pub fn is_sound(s: State, e: &[u8]) -> bool
     requires { length e.now ≡ entries_length }
     ensures { result ≡ settings_sound (settings_with s e.now) }
@@ -233,16 +210,18 @@ pub fn is_sound(s: State, e: &[u8]) -> bool
 }
 
 // What is small of the settings.
-pub fn state_of(s: Settings) -> State
-    ensures { result ≡ state_of s }
-{
-    State {
-        time: s.time,
-        used: s.used as usize,
-        next: s.next,
-        mode: s.mode,
-        count: s.count,
-        unit: s.unit,
+impl From<Settings> for State {
+    ghost from_gives = { λ s r. r ≡ state_of s };
+
+    fn from(s: Settings) -> State {
+        State {
+            time: s.time,
+            used: s.used as usize,
+            next: s.next,
+            mode: s.mode,
+            count: s.count,
+            unit: s.unit,
+        }
     }
 }
 
@@ -253,10 +232,18 @@ pub fn set_rule(e: &mut [u8], place: usize, prefix: &[u8], current: u64, noncurr
 {
     let at = 80 * place;
     if (current == 0) & (noncurrent == 0) {
-        buffers::put_zero_bytes(e, at, 80);
-        return;
+        buffers::fill_in(e, at, 80, 0);
+    } else {
+        let mut block = [0; 64];
+        blocks::put_block(&mut block, 0, prefix);
+        put_rule(
+            e,
+            at,
+            Rule {
+                prefix: block,
+                current,
+                noncurrent,
+            },
+        );
     }
-    let after = blocks::put_block(e, at, prefix);
-    let after = buffers::put_word(e, after, current);
-    buffers::put_word(e, after, noncurrent);
 }

@@ -1,71 +1,48 @@
-// Reading and writing, over any reader and writer. A failure is no error here: a read that fails brings nothing and says so, and a write says whether all was taken.
+// Reading and writing, over any reader and writer.
 #![tactic(auto)]
 
-ghost use Rattle.std.specs.Prelude.{◌≡◌, ◌≤◌, ◌<◌, length, take, true, false};
-ghost use Rattle.std.specs.Io.KnownBytes.{Appends, Consumes, IsAtEnd};
+ghost use Rattle.std.specs.Prelude.{◌≤◌, ◌<◌, ◌≡◌, length, take, IfOk, OnOk};
+ghost use Rattle.std.specs.Io.KnownBytes.{Appends, Consumes, IsAtEnd, ReadConsumes};
 
+use std::io;
 use std::io::{Read, Write};
 
-// What a read came to: how many bytes it brought, and whether it failed.
-#[derive(Clone, Copy)]
-pub struct Brought {
-    pub count: usize,
-    pub failed: bool,
+// Writes all of the bytes. Where that fails, some of them may have been taken.
+pub fn write_whole<W: Write>(writer: &mut W, bytes: &[u8]) -> io::Result<()>
+    ensures { OnOk result (Appends (W.contents writer.old) (W.contents writer.new) bytes.now) }
+{
+    writer.write_all(bytes)
 }
 
-// Writes all of the bytes, and returns whether they were taken. Where they were not, some of them may have been.
-pub fn write_whole<W: Write>(writer: &mut W, bytes: &[u8]) -> bool
-    ensures { result ≡ true → Appends (W.contents writer.old) (W.contents writer.new) bytes.now }
+// Reads once, to the buffer's front. No bytes come at the input's end; a read that fails brings nothing.
+pub fn read_some<R: Read>(reader: &mut R, buf: &mut [u8]) -> io::Result<usize>
+    ensures within { IfOk result (λ count. count ≤ length buf.new) }
+    ensures reads { ReadConsumes (R.remaining reader.old) (R.remaining reader.new) result buf.new }
 {
-    writer.write_all(bytes).is_ok()
-}
-
-// Reads once, to the buffer's front. No bytes come at the input's end, and where reading fails.
-pub fn read_some<R: Read>(reader: &mut R, buf: &mut [u8]) -> Brought
-    ensures within { result.count ≤ length buf.new }
-    ensures reads { Consumes (R.remaining reader.old) (R.remaining reader.new) (take result.count buf.new) }
-    ensures ends { result.count ≡ 0 → result.failed ≡ false → 0 < length buf.new → IsAtEnd (R.remaining reader.new) }
-    ensures failed { result.failed ≡ true → result.count ≡ 0 }
-{
-    match reader.read(buf) {
-        Ok(count) => Brought {
-            count,
-            failed: false,
-        },
-        Err(_) => Brought {
-            count: 0,
-            failed: true,
-        },
-    }
+    reader.read(buf)
 }
 
 // Reads until the buffer is full, the input ends or reading fails, and returns how many bytes came, and whether reading failed.
-pub fn read_full<R: Read>(reader: &mut R, buf: &mut [u8]) -> Brought
-    ensures within { result.count ≤ length buf.new }
-    ensures reads { Consumes (R.remaining reader.old) (R.remaining reader.new) (take result.count buf.new) }
-    ensures ends { result.failed ≡ false → result.count < length buf.new → IsAtEnd (R.remaining reader.new) }
+pub fn read_full<R: Read>(reader: &mut R, buf: &mut [u8]) -> (usize, io::Result<()>)
+    ensures within { result.0 ≤ length buf.new }
+    ensures reads { Consumes (R.remaining reader.old) (R.remaining reader.new) (take result.0 buf.new) }
+    ensures ends { OnOk result.1 (result.0 < length buf.new → IsAtEnd (R.remaining reader.new)) }
 {
     let mut done = 0;
+    // A read brings what it brings, so that no range counts them.
     while done < buf.len() {
-        let brought = read_some(reader, &mut buf[done..]);
-        if brought.count == 0 {
-            return Brought {
-                count: done,
-                failed: brought.failed,
-            };
+        match read_some(reader, &mut buf[done..]) {
+            Ok(0) => return (done, Ok(())),
+            Ok(count) => done += count,
+            Err(error) => return (done, Err(error)),
         }
-        done += brought.count;
     }
-    Brought {
-        count: done,
-        failed: false,
-    }
+    (done, Ok(()))
 }
 
 #[cfg(test)]
 mod tests {
     use super::*;
-    use std::io;
     use std::io::ErrorKind;
     use std::test::Fail;
 
@@ -104,11 +81,11 @@ mod tests {
     fn reads_to_the_end(rt: HostRuntime) -> Result<(), Fail> {
         let mut reader: &[u8] = b"abc";
         let mut buf = [0u8; 5];
-        let brought = read_full(&mut reader, &mut buf);
-        assert_eq!(rt; brought.count, 3);
-        assert!(rt; !brought.failed);
+        let (count, ended) = read_full(&mut reader, &mut buf);
+        assert_eq!(rt; count, 3);
+        assert!(rt; ended.is_ok());
         assert_eq!(rt; &buf[..], b"abc\0\0".as_slice());
-        assert_eq!(rt; read_some(&mut reader, &mut buf).count, 0);
+        assert_eq!(rt; read_some(&mut reader, &mut buf).ok(), Some(0));
         Ok(())
     }
 
@@ -116,19 +93,19 @@ mod tests {
     fn a_read_that_fails_brings_nothing(rt: HostRuntime) -> Result<(), Fail> {
         let mut reader = Failing { left: 2 };
         let mut buf = [0u8; 5];
-        let brought = read_full(&mut reader, &mut buf);
-        assert_eq!(rt; brought.count, 2);
-        assert!(rt; brought.failed);
+        let (count, ended) = read_full(&mut reader, &mut buf);
+        assert_eq!(rt; count, 2);
+        assert!(rt; ended.is_err());
         assert_eq!(rt; &buf[..], b"xx\0\0\0".as_slice());
-        assert!(rt; read_some(&mut reader, &mut buf).failed);
+        assert!(rt; read_some(&mut reader, &mut buf).is_err());
         Ok(())
     }
 
     #[test]
     fn writes_all(rt: HostRuntime) -> Result<(), Fail> {
         let mut text = Vec::new(rt.alloc());
-        assert!(rt; write_whole(&mut text, b"ab"));
-        assert!(rt; write_whole(&mut text, b"c"));
+        assert!(rt; write_whole(&mut text, b"ab").is_ok());
+        assert!(rt; write_whole(&mut text, b"c").is_ok());
         assert_eq!(rt; text.as_slice(), b"abc".as_slice());
         Ok(())
     }
@@ -136,8 +113,8 @@ mod tests {
     #[test]
     fn a_write_that_fails_is_told(rt: HostRuntime) -> Result<(), Fail> {
         let mut writer = Failing { left: 3 };
-        assert!(rt; write_whole(&mut writer, b"ab"));
-        assert!(rt; !write_whole(&mut writer, b"ab"));
+        assert!(rt; write_whole(&mut writer, b"ab").is_ok());
+        assert!(rt; write_whole(&mut writer, b"ab").is_err());
         Ok(())
     }
 }

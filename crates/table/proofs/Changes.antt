@@ -68,11 +68,11 @@ module _ {part : Row → List ℕ} {k : ℕ} {lay : ℕ → List Row → List �
       ∙ lay_insert y (take at xs) (drop at xs) c at (sym t) x (length xs) (omega arith) g
 
   module _ (e : Row) (h : at < length xs) where
-    pub laid_remove : length xs ≤ c → closed k (length xs) at (lay c xs) ≡ lay c (remove_at at xs)
+    pub laid_remove : length xs ≤ c → closed k 0 (length xs) at (lay c xs) ≡ lay c (remove_at at xs)
     laid_remove g =
         let t = length-take-le at xs (omega arith) in
         let d = length-drop (suc at) xs in
-        ap (λ (l : List Row). closed k (length xs) at (lay c l)) (split_at xs at e h)
+        ap (λ (l : List Row). closed k 0 (length xs) at (lay c l)) (split_at xs at e h)
         ∙ lay_remove y (take at xs) (drop (suc at) xs) c at (sym t) (get_or xs at e) (length xs) (omega arith) g
 
     pub laid_rewrite : (x : Row) → length xs ≤ c → placed (lay c xs) (k * at) (part x) ≡ lay c (set xs at x)
@@ -92,11 +92,11 @@ module _ {c : ℕ} {xs : List Row} {n b : List ℕ} (h : Holds c xs n b) (at : �
         numbers_are = rw h.numbers_are (laid_insert numbers_laying c at xs x p g);
         keys_are = rw h.keys_are (laid_insert keys_laying c at xs x p g);
         room = rw (insert_length at x xs p) g;
-        keys_fit_lem = insert_fits at x xs l h.keys_fit_lem;
+        keys_have_room = insert_fits at x xs l h.keys_have_room;
       }
 
   module _ (e : Row) (p : at < length xs) where
-    pub holds_remove : Holds c (remove_at at xs) (closed 8 (length xs) at n) (closed 64 (length xs) at b)
+    pub holds_remove : Holds c (remove_at at xs) (closed 8 0 (length xs) at n) (closed 64 0 (length xs) at b)
     holds_remove =
         let r = h.room in
         let l = remove_length at xs p in
@@ -104,7 +104,7 @@ module _ {c : ℕ} {xs : List Row} {n b : List ℕ} (h : Holds c xs n b) (at : �
           numbers_are = rw h.numbers_are (laid_remove numbers_laying c at xs e p r);
           keys_are = rw h.keys_are (laid_remove keys_laying c at xs e p r);
           room = omega arith;
-          keys_fit_lem = remove_fits at xs h.keys_fit_lem;
+          keys_have_room = remove_fits at xs h.keys_have_room;
         }
 
     pub holds_rewrite : (x : Row) → x.key ≡ (get_or xs at e).key → Holds c (set xs at x) (placed n (8 * at) (numbers_of_row x)) b
@@ -114,5 +114,5 @@ module _ {c : ℕ} {xs : List Row} {n b : List ℕ} (h : Holds c xs n b) (at : �
           numbers_are = rw h.numbers_are (laid_rewrite numbers_laying c at xs e p x r);
           keys_are = h.keys_are ∙ same_keys c xs at x e q;
           room = rw length-set r;
-          keys_fit_lem = set_fits at x xs (rw q (held_fit h at e p)) h.keys_fit_lem;
+          keys_have_room = set_fits at x xs (rw q (held_fit h at e p)) h.keys_have_room;
         }

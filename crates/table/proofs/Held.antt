@@ -78,7 +78,7 @@ module _ {c : ℕ} {xs : List Row} {n b : List ℕ} (h : Holds c xs n b) where
   held_capacity = let e = held_keys in omega arith
 
   pub held_rows : rows_of n b (length xs) ≡ xs
-  held_rows = ap₂ (λ (l m : List ℕ). rows_of l m (length xs)) h.numbers_are h.keys_are ∙ read_back c xs h.room h.keys_fit_lem
+  held_rows = ap₂ (λ (l m : List ℕ). rows_of l m (length xs)) h.numbers_are h.keys_are ∙ read_back c xs h.room h.keys_have_room
 
   -- A change can follow: the buffers hold the rows that are read out of them.
   pub held_again : (u : ℕ) → u ≡ length xs → Holds (capacity b) (rows_of n b u) n b
@@ -94,7 +94,7 @@ module _ {c : ℕ} {xs : List Row} {n b : List ℕ} (h : Holds c xs n b) where
         ap (take 64) e ∙ take_at (block_of (get_or xs i d).key) (keys_of (c - suc i) (drop (suc i) xs)) 64 (block_length (get_or xs i d).key)
 
     pub held_fit : length (get_or xs i d).key ≤ 63
-    held_fit = leb-true (length (get_or xs i d).key) 63 (all_at (λ (x : Row). leb (length x.key) 63) xs i d below h.keys_fit_lem)
+    held_fit = leb-true (length (get_or xs i d).key) 63 (all_at (λ (x : Row). leb (length x.key) 63) xs i d below h.keys_have_room)
 
     pub held_key : key_at b i ≡ (get_or xs i d).key
     held_key = ap key_in held_block ∙ key_back (get_or xs i d).key held_fit

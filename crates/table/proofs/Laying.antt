@@ -97,7 +97,7 @@ module _ {part : Row → List ℕ} {k : ℕ} {lay : ℕ → List Row → List �
         ∙ replaced (flat part xs) (take k (flat part ys ++ replicate k 0)) (part x) (flat part ys ++ lay d []) (k * at) front (y.wide x ∙ sym q)
         ∙ sym (one_more x d (omega arith))
 
-    pub lay_remove : (w : Row) (u : ℕ) → u ≡ length xs + suc (length ys) → u ≤ c → closed k u at (lay c (xs ++ w ∷ ys)) ≡ lay c (xs ++ ys)
+    pub lay_remove : (w : Row) (u : ℕ) → u ≡ length xs + suc (length ys) → u ≤ c → closed k 0 u at (lay c (xs ++ w ∷ ys)) ≡ lay c (xs ++ ys)
     unfolding closed
     lay_remove w u e h =
         let d = c - u in

@@ -3,3 +3,4 @@ pub mod Laying
 pub mod Held
 pub mod Changes
 pub mod Steps
+pub mod Reading

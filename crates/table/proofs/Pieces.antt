@@ -35,12 +35,12 @@ module _ (k : ℕ) (a r : List ℕ) (i e : ℕ) (h : length a ≡ i) where
       ∙ ap (λ (x : List ℕ). a ++ x) (append_assoc (take k (p ++ z)) p r)
 
   -- moved down over a first piece of k elements
-  down : (y p : List ℕ) → length y ≡ k → moved_down k (y ++ p) ≡ p ++ replicate k 0
+  down : (y p : List ℕ) → length y ≡ k → moved_down k 0 (y ++ p) ≡ p ++ replicate k 0
   unfolding moved_down
   down y p l = ap (λ (x : List ℕ). x ++ replicate k 0) (drop_at y p k l)
 
-  pub moved_down_lem : (y p : List ℕ) → length y ≡ k → i + length (y ++ p) ≡ e → between i e (moved_down k) (a ++ ((y ++ p) ++ r)) ≡ a ++ (p ++ (replicate k 0 ++ r))
+  pub moved_down_lem : (y p : List ℕ) → length y ≡ k → i + length (y ++ p) ≡ e → between i e (moved_down k 0) (a ++ ((y ++ p) ++ r)) ≡ a ++ (p ++ (replicate k 0 ++ r))
   moved_down_lem y p l g =
       let n = length-append y p in
-      changed (moved_down k) a (y ++ p) (p ++ replicate k 0) r i e h g (down y p l) (ap length (sym (down y p l)) ∙ length_down k (y ++ p) (omega arith))
+      changed (moved_down k 0) a (y ++ p) (p ++ replicate k 0) r i e h g (down y p l) (ap length (sym (down y p l)) ∙ length_down k 0 (y ++ p) (omega arith))
       ∙ ap (λ (x : List ℕ). a ++ x) (append_assoc p (replicate k 0) r)

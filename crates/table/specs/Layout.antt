@@ -63,4 +63,4 @@ pub record Holds (c : ℕ) (xs : List Row) (numbers keys : List ℕ) : Type 0 wh
   pub numbers_are : numbers ≡ numbers_of c xs
   pub keys_are : keys ≡ keys_of c xs
   pub room : length xs ≤ c
-  pub keys_fit_lem : keys_fit xs ≡ true
+  pub keys_have_room : keys_fit xs ≡ true

@@ -1,13 +1,19 @@
 // The table of versions in two buffers that a caller lends: eight numbers and 64 key bytes a row. The definitions are in specs/.
 #![tactic(auto)]
 
-ghost use Rattle.std.specs.Prelude.{◌≡◌, [], ◌+◌, ◌*◌, ◌≤◌, ◌<◌, length, get_or, set, replicate};
+pub mod lent;
+
+ghost use Rattle.std.specs.Prelude.{◌≡◌, List, ℕ, [], ◌+◌, ◌*◌, ◌≤◌, ◌<◌, length, get_or, set, replicate};
 ghost use Rattle.buffers.specs.Writes.{placed};
 ghost use Rattle.blocks.specs.Blocks.{block_of};
+ghost use Rattle.model.specs.Rows.{is_data, is_marker};
 ghost use Rattle.table.specs.Layout.{numbers_of_row, rows_of, capacity, Holds};
 ghost use Rattle.table.specs.Changes.{insert_at, remove_at};
 ghost use Rattle.table.specs.Places.{row_from, row_numbers, key_at, Insertable, InUse};
 ghost use Rattle.table.specs.Moves.{opened, closed};
+
+pub use lent::Table;
+use model::Kind;
 
 // The numbers of a row.
 #[derive(Clone, Copy)]
@@ -20,6 +26,23 @@ pub struct Numbers {
     pub mode: u64,
     pub until: u64,
     pub hold: u64,
+}
+
+impl Numbers {
+    // A kind each, as the model has them; a row's kind is a word that may be any number.
+    // The row is data.
+    pub fn is_data(self) -> bool
+        ensures { (k : List ℕ) → result ≡ is_data (row_from self k) }
+    {
+        self.kind == Kind::Data.number()
+    }
+
+    // The row is a delete marker.
+    pub fn is_marker(self) -> bool
+        ensures { (k : List ℕ) → result ≡ is_marker (row_from self k) }
+    {
+        self.kind == Kind::Marker.number()
+    }
 }
 
 // The numbers of a fresh table of 1024 rows.
@@ -41,16 +64,17 @@ pub fn numbers_at(rows: &[u64], at: usize) -> Numbers
     requires { 8 * at + 8 ≤ length rows.now }
     ensures { result ≡ row_numbers rows.now at }
 {
-    let i = 8 * at;
+    let row: [u64; 8] = rows[8 * at..8 * at + 8].try_into().unwrap();
+    let [number, kind, created, body, size, mode, until, hold] = row;
     Numbers {
-        number: rows[i],
-        kind: rows[i + 1],
-        created: rows[i + 2],
-        body: rows[i + 3],
-        size: rows[i + 4],
-        mode: rows[i + 5],
-        until: rows[i + 6],
-        hold: rows[i + 7],
+        number,
+        kind,
+        created,
+        body,
+        size,
+        mode,
+        until,
+        hold,
     }
 }
 
@@ -59,9 +83,7 @@ pub fn key_at(keys: &[u8], at: usize) -> &[u8]
     requires { (64 * at + 64 ≤ length keys.now) × (get_or keys.now (64 * at) 0 ≤ 63) }
     ensures { result.now ≡ key_at keys.now at }
 {
-    let first = 64 * at;
-    let end = first + 64;
-    blocks::key_in(&keys[first..end])
+    blocks::key_in(&keys[64 * at..64 * at + 64])
 }
 
 // Writes the numbers of the row at a position.
@@ -69,82 +91,44 @@ fn write_numbers(rows: &mut [u64], at: usize, n: Numbers)
     requires { 8 * at + 8 ≤ length rows.old }
     ensures { rows.new ≡ placed rows.old (8 * at) (numbers_of_row (row_from n [])) }
 {
-    let i = 8 * at;
-    rows[i] = n.number;
-    rows[i + 1] = n.kind;
-    rows[i + 2] = n.created;
-    rows[i + 3] = n.body;
-    rows[i + 4] = n.size;
-    rows[i + 5] = n.mode;
-    rows[i + 6] = n.until;
-    rows[i + 7] = n.hold;
+    let row = [
+        n.number, n.kind, n.created, n.body, n.size, n.mode, n.until, n.hold,
+    ];
+    buffers::copy_in(rows, 8 * at, &row);
 }
 
-// Moves the numbers of the used rows from `at` on by one row.
-fn open_numbers(rows: &mut [u64], used: usize, at: usize)
-    requires { (at ≤ used) × (8 * used + 8 ≤ length rows.old) }
-    ensures { rows.new ≡ opened 8 used at rows.old }
+// Moves the used rows from `at` on by one row, in a buffer where a row has `width` items.
+#[tactic(auto, using(crate::proofs::Steps::open_cases))]
+fn open_at<T: Copy>(items: &mut [T], width: usize, used: usize, at: usize)
+    requires { (at ≤ used) × (width * used + width ≤ length items.old) }
+    ensures { items.new ≡ opened width used at items.old }
 {
-    let first = 8 * at;
-    let end = 8 * used + 8;
-    buffers::move_up_numbers(&mut rows[first..end], 8);
+    let first = width * at;
+    let end = width * used + width;
+    buffers::move_up(&mut items[first..end], width);
 }
 
-// Moves the key bytes of the used rows from `at` on by one row.
-fn open_keys(keys: &mut [u8], used: usize, at: usize)
-    requires { (at ≤ used) × (64 * used + 64 ≤ length keys.old) }
-    ensures { keys.new ≡ opened 64 used at keys.old }
+// Moves the used rows behind `at` back by one row; zeros come in behind them.
+#[tactic(auto, using(crate::proofs::Steps::close_cases))]
+fn close_at<T: Copy>(items: &mut [T], width: usize, used: usize, at: usize, zero: T)
+    requires { (at < used) × (width * used ≤ length items.old) }
+    ensures { items.new ≡ closed width zero used at items.old }
 {
-    let first = 64 * at;
-    let end = 64 * used + 64;
-    buffers::move_up_bytes(&mut keys[first..end], 64);
-}
-
-// Puts the numbers of a row in at a position.
-fn insert_numbers(rows: &mut [u64], used: usize, at: usize, n: Numbers)
-    requires { (at ≤ used) × (8 * used + 8 ≤ length rows.old) }
-    ensures { rows.new ≡ placed (opened 8 used at rows.old) (8 * at) (numbers_of_row (row_from n [])) }
-{
-    open_numbers(rows, used, at);
-    write_numbers(rows, at, n);
-}
-
-// Puts the 64 bytes of a key in at a position.
-fn insert_key(keys: &mut [u8], used: usize, at: usize, key: &[u8])
-    requires { (at ≤ used) × (64 * used + 64 ≤ length keys.old) × (length key.now ≤ 63) }
-    ensures { keys.new ≡ placed (opened 64 used at keys.old) (64 * at) (block_of key.now) }
-{
-    open_keys(keys, used, at);
-    blocks::put_block(keys, 64 * at, key);
-}
-
-// Moves the numbers of the used rows behind `at` back by one row.
-fn close_numbers(rows: &mut [u64], used: usize, at: usize)
-    requires { (at < used) × (8 * used ≤ length rows.old) }
-    ensures { rows.new ≡ closed 8 used at rows.old }
-{
-    let first = 8 * at;
-    let end = 8 * used;
-    buffers::move_down_numbers(&mut rows[first..end], 8);
-}
-
-// Moves the key bytes of the used rows behind `at` back by one row.
-fn close_keys(keys: &mut [u8], used: usize, at: usize)
-    requires { (at < used) × (64 * used ≤ length keys.old) }
-    ensures { keys.new ≡ closed 64 used at keys.old }
-{
-    let first = 64 * at;
-    let end = 64 * used;
-    buffers::move_down_64_bytes(&mut keys[first..end]);
+    let first = width * at;
+    let end = width * used;
+    buffers::move_down(&mut items[first..end], width, zero);
 }
 
 // Puts a row in at a position: the used rows from there on move by one.
+// What writes takes the two buffers side by side: of a struct that holds them by `&mut` a caller learns only that they keep their lengths.
 pub fn insert_row(rows: &mut [u64], keys: &mut [u8], used: usize, at: usize, n: Numbers, key: &[u8])
     requires { Insertable rows.old keys.old used at × (length key.now ≤ 63) }
     ensures { Holds (capacity keys.old) (insert_at at (row_from n key.now) (rows_of rows.old keys.old used)) rows.new keys.new }
 {
-    insert_numbers(rows, used, at, n);
-    insert_key(keys, used, at, key);
+    open_at(rows, 8, used, at);
+    write_numbers(rows, at, n);
+    open_at(keys, 64, used, at);
+    blocks::put_block(keys, 64 * at, key);
 }
 
 // Removes the row at a position: the used rows behind it move by one, and a zero row comes in behind them.
@@ -152,8 +136,8 @@ pub fn remove_row(rows: &mut [u64], keys: &mut [u8], used: usize, at: usize)
     requires { InUse rows.old keys.old used at }
     ensures { Holds (capacity keys.old) (remove_at at (rows_of rows.old keys.old used)) rows.new keys.new }
 {
-    close_numbers(rows, used, at);
-    close_keys(keys, used, at);
+    close_at(rows, 8, used, at, 0);
+    close_at(keys, 64, used, at, 0);
 }
 
 // Replaces the numbers of the row at a position; its key stays, so that `keys` and `used` stand for the contract alone.

@@ -5,120 +5,36 @@ use mathlib.Core.Logic.{inl, inr}
 use mathlib.Core.Bool.{Bool, true, false}
 use mathlib.Core.List.{List, [], ◌∷◌, ◌++◌}
 use native.Mathlib.Omega.{arith}
-use native.Mathlib.Nat.{mul-add, add-mul, mul_comm, mul_assoc, mul_left_comm, pow-suc, zero-div, div-div-eq-div-mul}
+use native.Mathlib.Nat.{mul_comm, pow-suc, zero-div, div-div-eq-div-mul}
+use lib.Lanes.{zip2, mask_l, top}
+use Rattle.std.proofs.Common.{map, cond, replicate, take_all, le_refl, w8}
+use Rattle.std.proofs.lemmas.Simd.{bitmask_splat}
 use lib.Dec.{eqb}
-use lib.ListN.{length, get_or, take, drop, length-drop, take-append-drop, drop_of_length-le}
-use lib.Seq.{length-take-le, get_or-take}
+use lib.ListN.{length, get_or, take, drop}
 use lib.Bits.{bit_and, and_step, and_self}
 use lib.Count.{count_trailing_zeros, trailing_le}
 use mir.Syntax.{w64}
 use mir.Val.{Fits}
-use borrow.Author.Tests.{eq-eqb, ne_eqb, eqb-true, eqb-false}
+use borrow.Author.Tests.{eqb-true, eqb-false}
 use Rattle.buffers.specs.Choices.{pick}
-use Rattle.buffers.specs.Ranges.{Within}
 use Rattle.buffers.proofs.Tests.{either}
-use Rattle.buffers.proofs.Parts.{part_element}
+use Rattle.buffers.proofs.Parts.{part_element, rest_all}
 use Rattle.text.specs.Bits.{bits_of}
-use Rattle.text.proofs.Scans.{next}
 
--- ## Bits made from the highest on
+-- ## Bits of a vector
 
--- what is left of m and the bits of these bytes, each put in at the top while the others move down
-abbrev pub shift_in : ℕ → ℕ → ℕ → List ℕ → ℕ
-shift_in b top m [] = m
-shift_in b top m (a ∷ s) = shift_in b top (m / 2 + pick (eqb a b) top 0) s
+compared_bits : (b : ℕ) (s : List ℕ) → mask_l (map (λ a. eqb a b) s) ≡ bits_of b s
+compared_bits b [] = refl
+compared_bits b (a ∷ s) = go (eqb a b) (compared_bits b s)
+  where
+    go : (t : Bool) → mask_l (map (λ a. eqb a b) s) ≡ bits_of b s → cond t 1 0 + 2 * mask_l (map (λ a. eqb a b) s) ≡ pick t 1 0 + 2 * bits_of b s
+    go true e = omega arith
+    go false e = omega arith
 
--- twice for each byte
-abbrev span : List ℕ → ℕ
-span [] = 1
-span (a ∷ s) = 2 * span s
-
-shift_one : (top m v w p : ℕ) → top * 2 ≡ w * (2 * p) → m ≡ v * (2 * p) → m / 2 + top ≡ (v + w) * p
-shift_one top m v w p g h =
-    let a = mul_left_comm w 2 p in
-    let b = mul_left_comm v 2 p in
-    let c = add-mul v w p in
-    omega arith
-
-shift_none : (m v p : ℕ) → m ≡ v * (2 * p) → m / 2 + 0 ≡ v * p
-shift_none m v p h = let b = mul_left_comm v 2 p in omega arith
-
-shift_is : (b top : ℕ) (s : List ℕ) (v w m : ℕ) → top * 2 ≡ w * span s → m ≡ v * span s → shift_in b top m s ≡ v + w * bits_of b s
-shift_is b top [] v w m g h = omega arith
-shift_is b top (a ∷ s) v w m g h =
-    let d : top * 2 ≡ 2 * w * span s = g ∙ mul_left_comm w 2 (span s) ∙ sym (mul_assoc 2 w (span s)) in
-    let e = mul_left_comm w 2 (bits_of b s) in
-    let f = mul_assoc 2 w (bits_of b s) in
-    elim (either (eqb a b)) [
-      | inl t ↦
-          let i = shift_is b top s (v + w) (2 * w) (m / 2 + top) d (shift_one top m v w (span s) g h) in
-          let j = mul-add w 1 (2 * bits_of b s) in
-          rw t (i ∙ omega arith)
-      | inr t ↦
-          let i = shift_is b top s v (2 * w) (m / 2 + 0) d (shift_none m v (span s) h) in
-          let j = mul-add w 0 (2 * bits_of b s) in
-          rw t (i ∙ omega arith)
-    ]
-
-span_is : (s : List ℕ) → span s ≡ 2 ^ length s
-span_is [] = refl
-span_is (a ∷ s) = let p = pow-suc 2 (length s) in let i = span_is s in omega arith
-
-bits_append : (b : ℕ) (s t : List ℕ) → bits_of b (s ++ t) ≡ bits_of b s + span s * bits_of b t
-bits_append b [] t = omega arith
-bits_append b (a ∷ s) t = let i = bits_append b s t in let d = mul_assoc 2 (span s) (bits_of b t) in omega arith
-
-pub bit_hit : (a b top : ℕ) → a ≡ b → Within top (pick (eqb a b) top 0) top
-bit_hit a b top e = record { is = sym (rw (eq-eqb a b e)); most = omega arith }
-
-pub bit_miss : (a b top : ℕ) → (a ≡ b → ⊥) → Within 0 (pick (eqb a b) top 0) top
-bit_miss a b top e = record { is = sym (rw (ne_eqb a b e)); most = omega arith }
-
-pub ruleset bit_cases = (bit_hit, bit_miss)
-
-shift_step : (b top v : ℕ) (s : List ℕ) (i m r : ℕ) → i < length s → r ≡ pick (eqb (get_or s i 0) b) top 0 → v ≡ shift_in b top m (drop i s) → v ≡ shift_in b top (m / 2 + r) (drop (i + 1) s)
-shift_step b top v s i m r h e q = q ∙ rw (next s i h, e)
-
--- ## The first eight bytes of sixteen
-
-module _ (b : ℕ) (s : List ℕ) (l : length s ≡ 16) where
-  eight : length (take 8 s) ≡ 8
-  eight = length-take-le 8 s (omega arith)
-
-  pub low_start : bits_of b (take 8 s) ≡ shift_in b 128 0 (drop 0 (take 8 s))
-  low_start =
-      let p : span (take 8 s) ≡ 256 = span_is (take 8 s) ∙ rw eight in
-      sym (shift_is b 128 (take 8 s) 0 1 0 (omega arith) (omega arith) ∙ omega arith)
-
-  module _ (i m : ℕ) (q : bits_of b (take 8 s) ≡ shift_in b 128 m (drop i (take 8 s))) where
-    pub low_step : (r : ℕ) → i < 8 → Within r (pick (eqb (get_or s i 0) b) 128 0) 128 → bits_of b (take 8 s) ≡ shift_in b 128 (m / 2 + r) (drop (i + 1) (take 8 s))
-    low_step r h w = shift_step b 128 (bits_of b (take 8 s)) (take 8 s) i m r (rw eight h) (w.is ∙ rw (get_or-take 8 s i 0 h)) q
-
-    pub low_end : 8 ≤ i → m ≤ 255 → Within m (bits_of b (take 8 s)) 255
-    low_end h k = record { is = sym (q ∙ rw (drop_of_length-le (take 8 s) {i = i} (rw eight h))); most = k }
-
-  -- ## All sixteen
-
-  pub high_start : (m : ℕ) → Within m (bits_of b (take 8 s)) 255 → bits_of b s ≡ shift_in b 32768 (m * 256) (drop 8 s)
-  high_start m w =
-      let d : length (drop 8 s) ≡ 8 = length-drop 8 s ∙ omega arith in
-      let p : span (take 8 s) ≡ 256 = span_is (take 8 s) ∙ rw eight in
-      let o : span (drop 8 s) ≡ 256 = span_is (drop 8 s) ∙ rw d in
-      let a = bits_append b (take 8 s) (drop 8 s) in
-      let e : bits_of b s ≡ bits_of b (take 8 s) + 256 * bits_of b (drop 8 s) = rw (take-append-drop 8 s, p) at a in
-      let z = w.is in
-      e ∙ sym (shift_is b 32768 (drop 8 s) m 256 (m * 256) (rw o) (rw o) ∙ omega arith)
-
-  module _ (i m : ℕ) (q : bits_of b s ≡ shift_in b 32768 m (drop i s)) where
-    pub high_step : (r : ℕ) → i < 16 → Within r (pick (eqb (get_or s i 0) b) 32768 0) 32768 → bits_of b s ≡ shift_in b 32768 (m / 2 + r) (drop (i + 1) s)
-    high_step r h w = shift_step b 32768 (bits_of b s) s i m r (rw l h) w.is q
-
-    pub high_end : 16 ≤ i → m ≡ bits_of b s
-    high_end h = sym (q ∙ rw (drop_of_length-le s {i = i} (rw l h)))
-
-pub ruleset low_cases = (low_start, low_step, low_end)
-
-pub ruleset high_cases = (high_start, high_step, high_end)
+pub mask_bits : (b : ℕ) (s : List ℕ) → length s ≡ 16 → mask_l (map (top 7) (zip2 (λ x y. cond (eqb x y) 255 0) (take 16 (drop 0 s)) (replicate 16 b))) % 2 ^ 64 ≡ bits_of b s
+mask_bits b s l =
+    let whole : take 16 s ≡ s = rw (← l) (take_all _ _ (le_refl (length s))) in
+    rw whole (bitmask_splat w8 eqb s 16 b l (omega arith) ∙ compared_bits b s)
 
 -- ## Bits without the first
 
@@ -133,6 +49,22 @@ bits_drop b (suc k) (a ∷ s) =
     go : (t : Bool) → (pick t 1 0 + 2 * bits_of b s) / 2 ≡ bits_of b s
     go true = omega arith
     go false = omega arith
+
+-- ## Zeros behind a text
+
+zeros_none : (n k : ℕ) → bits_of 9 (drop n (replicate k 0)) ≡ 0
+zeros_none zero zero = refl
+zeros_none zero (suc k) = let e = zeros_none 0 k in omega arith
+zeros_none (suc n) zero = refl
+zeros_none (suc n) (suc k) = zeros_none n k
+
+bits_before : (b : ℕ) (s t : List ℕ) → bits_of b t ≡ 0 → bits_of b (s ++ t) ≡ bits_of b s
+bits_before b [] t e = e
+bits_before b (a ∷ s) t e = ap (λ (n : ℕ). pick (eqb a b) 1 0 + 2 * n) (bits_before b s t e)
+
+-- The bits of a text that is copied into 16 zeros.
+pub bits_padded : (s t : List ℕ) (n r : ℕ) → t ≡ s → r ≡ bits_of 9 (t ++ drop n (replicate 16 0)) → r ≡ bits_of 9 (take (length s - 0) s)
+bits_padded s t n r c e = e ∙ ap (λ (x : List ℕ). bits_of 9 (x ++ drop n (replicate 16 0))) c ∙ bits_before 9 s _ (zeros_none n 16) ∙ ap (bits_of 9) (sym (rest_all 0 s))
 
 -- ## The lowest bit
 
@@ -256,5 +188,5 @@ absent b s start n lo hi l f x g h e =
 
 -- ## Numbers that fit
 
-pub zeros_fit : (n : ℕ) → Fits w64 (count_trailing_zeros 32 n)
-zeros_fit n = let l = trailing_le 32 n in record { fits = omega arith }
+pub zeros_fit : (n : ℕ) → Fits w64 (count_trailing_zeros 64 n)
+zeros_fit n = let l = trailing_le 64 n in record { fits = omega arith }

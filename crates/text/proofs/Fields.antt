@@ -160,6 +160,10 @@ place_within s i =
     let k = start_most s i in
     omega arith
 
+pub end_most : (s : List ℕ) (i : ℕ) → end_of s i ≤ length s
+unfolding place_of
+end_most s i = let d = end_is s i in let w = place_within s i in omega arith
+
 -- The part of a line at a field's place is the field.
 pub place_field : (s : List ℕ) (i : ℕ) → part_of s (place_of s i) ≡ field_of s i
 unfolding place_of

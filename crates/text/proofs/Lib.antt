@@ -1,5 +1,4 @@
 pub mod Keys
-pub mod Values
 pub mod Scans
 pub mod Sixteens
 pub mod Bits

@@ -1,13 +1,15 @@
 -- The marks of a line: the loop that makes them, and the places that they give.
-use Prim.Native.Nat.{ℕ, zero, suc, ◌+◌, ◌-◌, ◌/◌, ◌^◌, ◌≤◌, ◌<◌}
-use mathlib.Core.Path.{◌≡◌, refl, sym, ap, ◌∙◌}
+use Prim.Native.Nat.{ℕ, zero, suc, ◌+◌, ◌*◌, ◌-◌, ◌/◌, ◌^◌, ◌≤◌, ◌<◌}
+use mathlib.Core.Path.{◌≡◌, refl, sym, ◌∙◌}
 use mathlib.Core.Logic.{inl, inr}
-use mathlib.Core.List.{List, [], ◌∷◌}
+use mathlib.Core.List.{List}
 use native.Mathlib.Omega.{arith}
 use native.Mathlib.Nat.{add-zero}
+use Rattle.std.proofs.Common.{min}
+use Rattle.std.proofs.Math.Nat.{min-eq_left, min-eq_right}
 use lib.Dec.{eqb, ltb}
 use lib.ListN.{length, get_or, set, take, drop, replicate, length-set, length-drop, get_or-replicate, drop_of_length-le}
-use lib.Seq.{drop-cons, drop-drop, length-take-le, get_or-set_same, get_or-set_other}
+use lib.Seq.{drop-drop, length-take-le, get_or-set_same, get_or-set_other}
 use lib.Bits.{bit_and, and_le_r}
 use lib.Count.{count_trailing_zeros}
 use mir.Syntax.{w64}
@@ -16,16 +18,16 @@ use borrow.Author.Tests.{eq-eqb, ne_eqb, ltb-true, ltb-false, eqb-true, eqb-fals
 use Rattle.buffers.proofs.Tests.{either}
 use Rattle.buffers.proofs.Parts.{part_element, rest_all}
 use Rattle.text.specs.declared.Place.{Place}
-use Rattle.text.specs.Fields.{field_of, tabs_in, start_of, end_of, marks_of, place_of, Split, Marking, Piece}
+use Rattle.text.specs.Fields.{field_of, tabs_in, start_of, end_of, place_of, Split, Marking, Piece}
 use Rattle.text.specs.Bits.{bits_of}
 use Rattle.text.proofs.Scans.{next}
 use Rattle.text.proofs.Sixteens.{block_long, last_long}
 use Rattle.text.proofs.Bits.{bits_from, First, lowest, cleared, none_left, absent, zeros_fit, bits_drop}
-use Rattle.text.proofs.Fields.{start_zero, end_tab, end_other, next_start, last_start, end_is}
+use Rattle.text.proofs.Fields.{start_zero, end_tab, end_other, next_start, last_start, end_is, end_most}
 
 -- ## The loop
 
-pub mark_start : (s : List ℕ) → Marking s 0 0 (replicate 10 (length s))
+pub mark_start : (s : List ℕ) → Marking s 0 0 (replicate 9 (length s))
 mark_start s =
     record {
       within = omega arith;
@@ -33,7 +35,7 @@ mark_start s =
       long = refl;
       count = omega arith;
       ended = λ j a b. absurd (omega arith);
-      left = λ j a b. get_or-replicate 10 j (length s) 0 (omega arith);
+      left = λ j a b. get_or-replicate 9 j (length s) 0 (omega arith);
       rest = λ j a. let z : j - 0 ≡ j = omega arith in rw z (omega arith);
     }
 
@@ -63,11 +65,12 @@ module _ (s : List ℕ) (i n : ℕ) (m : List ℕ) (h : i < length s) (k : Marki
         let z : j - n ≡ suc (j - (n + 1)) = omega arith in
         k.rest j (omega arith) ∙ rw (z, next s i h) (rw (end_tab (get_or s i 0) (drop (i + 1) s) (j - (n + 1)) t) (omega arith))
 
-    pub mark_tab : n < 9 → Marking s (i + 1) (n + 1) (set m n i)
+    pub mark_tab : n + 1 ≤ 9 → Marking s (i + 1) (n + 1) (set m (n + 1 - 1) i)
     mark_tab q =
         let f = k.few in
         let l = k.long in
-        record {
+        let z : n + 1 - 1 ≡ n = omega arith in
+        rw z (record {
           within = omega arith;
           few = omega arith;
           long = length-set m n i ∙ k.long;
@@ -80,9 +83,9 @@ module _ (s : List ℕ) (i n : ℕ) (m : List ℕ) (h : i < length s) (k : Marki
               ];
           left = λ j a b. get_or-set_other m n j i 0 (λ z. omega arith) ∙ k.left j a (omega arith);
           rest = rest_tab;
-        }
+        })
 
-    pub mark_more : 9 ≤ n → Marking s (i + 1) (n + 1) m
+    pub mark_more : 9 < n + 1 → Marking s (i + 1) (n + 1) m
     mark_more q =
         let f = k.few in
         record {
@@ -103,9 +106,6 @@ mark_pass s i n m k (suc d) h f =
     let e : i + suc d ≡ i + d + 1 = omega arith in
     rw e (mark_other s (i + d) n m (omega arith) (mark_pass s i n m k d (omega arith) (λ x a b. f x a (omega arith))) (f (i + d) (omega arith) (omega arith)))
 
-pub mark_all : (s : List ℕ) (i n : ℕ) (m : List ℕ) → length s ≤ i → Marking s i n m → Marking s (length s) n m
-mark_all s i n m h k = let w = k.within in let e : i ≡ length s = omega arith in rw e at k
-
 -- ## Tabs given as bits
 
 -- The tabs of a piece up to some place are marked, and the bits of the others are left.
@@ -114,7 +114,7 @@ pub record Walking (s : List ℕ) (start end n bits : ℕ) (m : List ℕ) : Type
   pub before : start + far ≤ end
   pub piece : Piece s start end 16
   pub few : n ≤ length s
-  pub long : length m ≡ 10
+  pub long : length m ≡ 9
   pub left : bits ≡ bits_from 9 far (take (end - start) (drop start s))
   pub done : Marking s (start + far) n m
 
@@ -145,62 +145,62 @@ module _ (s : List ℕ) (start end n bits : ℕ) (m : List ℕ) where
         rw e at (mark_pass s (start + w.far) n m w.done (end - (start + w.far)) (omega arith) (λ x g h. f x g (omega arith)))
 
     module _ (h : bits ≡ 0 → ⊥) where
-      found : First 9 w.far (take (end - start) (drop start s)) (count_trailing_zeros 32 bits)
+      found : First 9 w.far (take (end - start) (drop start s)) (count_trailing_zeros 64 bits)
       found =
           let l = piece_long in
           let p = w.piece.most in
-          rw w.left (lowest 9 32 w.far (take (end - start) (drop start s)) (omega arith) (λ e. h (w.left ∙ e)))
+          rw w.left (lowest 9 64 w.far (take (end - start) (drop start s)) (omega arith) (λ e. h (w.left ∙ e)))
 
-      pub walk_fits : Fits w64 end → Fits w64 (start + count_trailing_zeros 32 bits)
+      pub walk_fits : Fits w64 end → Fits w64 (start + count_trailing_zeros 64 bits)
       walk_fits f =
           let a = found.within in
           let l = piece_long in
           let e = f.fits in
           record { fits = omega arith }
 
-      walk_at : start + count_trailing_zeros 32 bits < length s
+      walk_at : start + count_trailing_zeros 64 bits < length s
       walk_at =
           let a = found.within in
           let b = w.piece.to in
           let l = piece_long in
           omega arith
 
-      at_tab : get_or s (start + count_trailing_zeros 32 bits) 0 ≡ 9
-      at_tab = let a = found.within in let l = piece_long in part_element s start (count_trailing_zeros 32 bits) (end - start) (omega arith) ∙ found.hit
+      at_tab : get_or s (start + count_trailing_zeros 64 bits) 0 ≡ 9
+      at_tab = let a = found.within in let l = piece_long in part_element s start (count_trailing_zeros 64 bits) (end - start) (omega arith) ∙ found.hit
 
-      to_tab : Marking s (start + count_trailing_zeros 32 bits) n m
+      to_tab : Marking s (start + count_trailing_zeros 64 bits) n m
       to_tab =
           let a = found.from in
           let b = found.within in
           let c = walk_at in
           let l = piece_long in
-          let e : start + w.far + (count_trailing_zeros 32 bits - w.far) ≡ start + count_trailing_zeros 32 bits = omega arith in
-          let f = absent 9 s start (end - start) w.far (count_trailing_zeros 32 bits) (omega arith) found.none in
-          rw e at (mark_pass s (start + w.far) n m w.done (count_trailing_zeros 32 bits - w.far) (omega arith) (λ x g q. f x g (omega arith)))
+          let e : start + w.far + (count_trailing_zeros 64 bits - w.far) ≡ start + count_trailing_zeros 64 bits = omega arith in
+          let f = absent 9 s start (end - start) w.far (count_trailing_zeros 64 bits) (omega arith) found.none in
+          rw e at (mark_pass s (start + w.far) n m w.done (count_trailing_zeros 64 bits - w.far) (omega arith) (λ x g q. f x g (omega arith)))
 
-      behind : (k : List ℕ) → length k ≡ 10 → Marking s (start + count_trailing_zeros 32 bits + 1) (n + 1) k → Walking s start end (n + 1) (bit_and bits (bits - 1)) k
+      behind : (k : List ℕ) → length k ≡ 9 → Marking s (start + count_trailing_zeros 64 bits + 1) (n + 1) k → Walking s start end (n + 1) (bit_and bits (bits - 1)) k
       behind k j q =
           let a = found.within in
           let b = q.few in
           let c = walk_at in
           let l = piece_long in
           let p = w.piece.most in
-          let e : start + suc (count_trailing_zeros 32 bits) ≡ start + count_trailing_zeros 32 bits + 1 = omega arith in
+          let e : start + suc (count_trailing_zeros 64 bits) ≡ start + count_trailing_zeros 64 bits + 1 = omega arith in
           record {
-            far = suc (count_trailing_zeros 32 bits);
+            far = suc (count_trailing_zeros 64 bits);
             before = omega arith;
             piece = w.piece;
             few = omega arith;
             long = j;
-            left = rw w.left (cleared 9 32 w.far (take (end - start) (drop start s)) (omega arith) (λ z. h (w.left ∙ z)));
+            left = rw w.left (cleared 9 64 w.far (take (end - start) (drop start s)) (omega arith) (λ z. h (w.left ∙ z)));
             done = rw e q;
           }
 
-      pub walk_mark : n < 9 → Walking s start end (n + 1) (bit_and bits (bits - 1)) (set m n (start + count_trailing_zeros 32 bits))
-      walk_mark q = behind _ (length-set m n _ ∙ w.long) (mark_tab s (start + count_trailing_zeros 32 bits) n m walk_at to_tab at_tab q)
+      pub walk_mark : n + 1 ≤ 9 → Walking s start end (n + 1) (bit_and bits (bits - 1)) (set m (n + 1 - 1) (start + count_trailing_zeros 64 bits))
+      walk_mark q = behind _ (length-set m (n + 1 - 1) _ ∙ w.long) (mark_tab s (start + count_trailing_zeros 64 bits) n m walk_at to_tab at_tab q)
 
-      pub walk_more : 9 ≤ n → Walking s start end (n + 1) (bit_and bits (bits - 1)) m
-      walk_more q = behind m w.long (mark_more s (start + count_trailing_zeros 32 bits) n m walk_at to_tab at_tab q)
+      pub walk_more : 9 < n + 1 → Walking s start end (n + 1) (bit_and bits (bits - 1)) m
+      walk_more q = behind m w.long (mark_more s (start + count_trailing_zeros 64 bits) n m walk_at to_tab at_tab q)
 
 pub walk_less : (bits : ℕ) → (bits ≡ 0 → ⊥) → bit_and bits (bits - 1) < bits
 walk_less bits h = let l = and_le_r bits (bits - 1) in omega arith
@@ -210,11 +210,11 @@ pub ruleset walking = (zeros_fit, walk_start, walk_end, walk_fits, walk_mark, wa
 -- ## Blocks of 16 bytes
 
 module _ (s : List ℕ) (i : ℕ) where
-  pub block_piece : 16 ≤ length s - i → Piece s i (i + 16) 16
+  pub block_piece : i < length s / 16 → Piece s (i * 16) (i * 16 + 16) 16
   block_piece h = record { from = omega arith; to = omega arith; most = omega arith }
 
-  pub last_piece : length s - i < 16 → i ≤ length s → Piece s i (length s) 16
-  last_piece h k = record { from = k; to = omega arith; most = omega arith }
+  pub last_piece : Piece s (length s / 16 * 16) (length s) 16
+  last_piece = record { from = omega arith; to = omega arith; most = omega arith }
 
   pub last_is : (r : ℕ) → 16 ≤ length s → length s ≤ i + 16 → r ≡ bits_of 9 (take (length s - (length s - 16)) (drop (length s - 16) s))
       → r / 2 ^ (i - (length s - 16)) ≡ bits_of 9 (take (length s - i) (drop i s))
@@ -226,54 +226,13 @@ pub ruleset last_cases = (last_long, last_is)
 
 pub ruleset block_cases = (block_long, block_piece, last_piece)
 
--- ## All the marks
+-- ## The whole line
 
--- A list of ten, number by number.
-ten : (m : List ℕ) → length m ≡ 10
-    → m ≡ get_or m 0 0 ∷ get_or m 1 0 ∷ get_or m 2 0 ∷ get_or m 3 0 ∷ get_or m 4 0 ∷ get_or m 5 0 ∷ get_or m 6 0 ∷ get_or m 7 0 ∷ get_or m 8 0 ∷ get_or m 9 0 ∷ []
-ten m h =
-    drop-cons m 0 0 (omega arith)
-    ∙ rw (
-      drop-cons m 1 0 (omega arith),
-      drop-cons m 2 0 (omega arith),
-      drop-cons m 3 0 (omega arith),
-      drop-cons m 4 0 (omega arith),
-      drop-cons m 5 0 (omega arith),
-      drop-cons m 6 0 (omega arith),
-      drop-cons m 7 0 (omega arith),
-      drop-cons m 8 0 (omega arith),
-      drop-cons m 9 0 (omega arith),
-      drop_of_length-le m {i = 10} (omega arith),
-    )
-
-marks_are : (s m : List ℕ) → length m ≡ 10 → ((j : ℕ) → j < 9 → get_or m j 0 ≡ end_of s j) → get_or m 9 0 ≡ tabs_in s → m ≡ marks_of s
-unfolding marks_of
-marks_are s m h f t =
-    ten m h
-    ∙ rw (
-      f 0 (omega arith),
-      f 1 (omega arith),
-      f 2 (omega arith),
-      f 3 (omega arith),
-      f 4 (omega arith),
-      f 5 (omega arith),
-      f 6 (omega arith),
-      f 7 (omega arith),
-      f 8 (omega arith),
-      t,
-    )
-
-pub marked : (s : List ℕ) (n : ℕ) (m : List ℕ) → Marking s (length s) n m → Split s (set m 9 n)
-marked s n m k = record { is = marks_are s (set m 9 n) long ends tabs; long = long }
+pub marked : (s : List ℕ) (n : ℕ) (m : List ℕ) → Marking s (length s) n m → Split s m n
+marked s n m k = record { long = k.long; ended = ends; count = sym (k.count ∙ rw (drop_of_length-le s {i = length s} (omega arith)) (omega arith)) }
   where
-    long : length (set m 9 n) ≡ 10
-    long = length-set m 9 n ∙ k.long
-
-    tabs : get_or (set m 9 n) 9 0 ≡ tabs_in s
-    tabs = let l = k.long in get_or-set_same m 9 n 0 (omega arith) ∙ sym (k.count ∙ rw (drop_of_length-le s {i = length s} (omega arith)) (omega arith))
-
-    end : (j : ℕ) → j < 9 → get_or m j 0 ≡ end_of s j
-    end j a =
+    ends : (j : ℕ) → j < 9 → get_or m j 0 ≡ end_of s j
+    ends j a =
         elim (either (ltb j n)) [
           | inl t ↦ k.ended j a (ltb-true j n t)
           | inr t ↦
@@ -284,68 +243,47 @@ marked s n m k = record { is = marks_are s (set m 9 n) long ends tabs; long = lo
               omega arith
         ]
 
-    ends : (j : ℕ) → j < 9 → get_or (set m 9 n) j 0 ≡ end_of s j
-    ends j a = get_or-set_other m 9 j n 0 (λ z. omega arith) ∙ end j a
-
-pub ruleset marking = (mark_other, mark_tab, mark_more, mark_all)
-
 pub ruleset marks = (mark_start, marked)
 
--- ## What marks say
+-- ## The places of fields
 
-mark_end : (s : List ℕ) (j : ℕ) → j < 9 → get_or (marks_of s) j 0 ≡ end_of s j
-unfolding marks_of
-mark_end s zero h = refl
-mark_end s (suc zero) h = refl
-mark_end s (suc (suc zero)) h = refl
-mark_end s (suc (suc (suc zero))) h = refl
-mark_end s (suc (suc (suc (suc zero)))) h = refl
-mark_end s (suc (suc (suc (suc (suc zero))))) h = refl
-mark_end s (suc (suc (suc (suc (suc (suc zero)))))) h = refl
-mark_end s (suc (suc (suc (suc (suc (suc (suc zero))))))) h = refl
-mark_end s (suc (suc (suc (suc (suc (suc (suc (suc zero)))))))) h = refl
-mark_end s (suc (suc (suc (suc (suc (suc (suc (suc (suc j))))))))) h = absurd (omega arith)
+module _ (s m : List ℕ) (n : ℕ) (k : Split s m n) (i : ℕ) (h : i < 9) where
+  pub start_first : i ≡ 0 → 0 ≡ start_of s i
+  start_first z = sym (rw z (start_zero s))
 
-module _ (s m : List ℕ) (k : Split s m) where
-  pub tabs_marked : get_or m 9 0 ≡ tabs_in s
-  unfolding marks_of
-  tabs_marked = ap (λ (l : List ℕ). get_or l 9 0) k.is
+  pub end_before : (i ≡ 0 → ⊥) → get_or m (i - 1) 0 ≤ length s
+  end_before z = let e = k.ended (i - 1) (omega arith) in let w = end_most s (i - 1) in omega arith
 
-  end_marked : (i : ℕ) → i < 9 → get_or m i 0 ≡ end_of s i
-  end_marked i h = ap (λ (l : List ℕ). get_or l i 0) k.is ∙ mark_end s i h
+  pub start_behind : (i ≡ 0 → ⊥) → min (get_or m (i - 1) 0 + 1) (length s) ≡ start_of s i
+  start_behind z =
+      let e = k.ended (i - 1) (omega arith) in
+      let w = end_most s (i - 1) in
+      let y : suc (i - 1) ≡ i = omega arith in
+      elim (either (ltb (end_of s (i - 1)) (length s))) [
+        | inl t ↦
+            let q = ltb-true _ _ t in
+            let x : start_of s i ≡ suc (end_of s (i - 1)) = rw y at (next_start s (i - 1) q) in
+            let f : get_or m (i - 1) 0 + 1 ≤ length s = omega arith in
+            min-eq_left f ∙ omega arith
+        | inr t ↦
+            let q = ltb-false _ _ t in
+            let x : start_of s i ≡ end_of s (i - 1) = rw y at (last_start s (i - 1) q) in
+            let f : length s ≤ get_or m (i - 1) 0 + 1 = omega arith in
+            min-eq_right f ∙ omega arith
+      ]
 
-  module _ (i : ℕ) (h : i < 9) where
-    pub start_first : i ≡ 0 → 0 ≡ start_of s i
-    start_first z = sym (rw z (start_zero s))
+  module _ (a : ℕ) (q : a ≡ start_of s i) where
+    pub start_before : a ≤ get_or m i 0
+    start_before = let e = k.ended i h in let d = end_is s i in omega arith
 
-    pub start_behind : (i ≡ 0 → ⊥) → get_or m (i - 1) 0 < length s → get_or m (i - 1) 0 + 1 ≡ start_of s i
-    start_behind z q =
-        let e = end_marked (i - 1) (omega arith) in
-        let n = next_start s (i - 1) (omega arith) in
-        let y : suc (i - 1) ≡ i = omega arith in
-        let x : start_of s i ≡ suc (end_of s (i - 1)) = rw y at n in
-        omega arith
+    pub place_marked : ◌≡◌ {A = Place} (record { start = a; len = get_or m i 0 - a }) (place_of s i)
+    unfolding place_of
+    place_marked =
+        let e = k.ended i h in
+        let d = end_is s i in
+        let l : get_or m i 0 - a ≡ length (field_of s i) = omega arith in
+        rw (l, q)
 
-    pub start_last : (i ≡ 0 → ⊥) → length s ≤ get_or m (i - 1) 0 → get_or m (i - 1) 0 ≡ start_of s i
-    start_last z q =
-        let e = end_marked (i - 1) (omega arith) in
-        let n = last_start s (i - 1) (omega arith) in
-        let y : suc (i - 1) ≡ i = omega arith in
-        let x : start_of s i ≡ end_of s (i - 1) = rw y at n in
-        omega arith
-
-    module _ (a : ℕ) (q : a ≡ start_of s i) where
-      pub start_before : a ≤ get_or m i 0
-      start_before = let e = end_marked i h in let d = end_is s i in omega arith
-
-      pub place_marked : ◌≡◌ {A = Place} (record { start = a; len = get_or m i 0 - a }) (place_of s i)
-      unfolding place_of
-      place_marked =
-          let e = end_marked i h in
-          let d = end_is s i in
-          let l : get_or m i 0 - a ≡ length (field_of s i) = omega arith in
-          rw (l, q)
-
-pub ruleset starts = (start_first, start_behind, start_last)
+pub ruleset starts = (start_first, end_before, start_behind)
 
 pub ruleset places = (start_before, place_marked)

@@ -3,7 +3,7 @@ use Prim.Native.Nat.{ℕ, zero, suc, ◌+◌, ◌-◌, ◌*◌, ◌/◌, ◌%◌
 use mathlib.Core.Path.{◌≡◌, refl, sym, ap, ◌∙◌}
 use mathlib.Core.Bool.{Bool, true, false}
 use mathlib.Core.List.{List, [], ◌∷◌, ◌++◌}
-use mathlib.Core.Option.{some}
+use Rattle.std.specs.Prelude.{Some}
 use native.Mathlib.Omega.{arith}
 use lib.ListN.{length, get_or, length-append, get_or-append}
 use lib.Dec.{ltb, eqb}
@@ -73,7 +73,7 @@ no_zero_first (suc n) = go (ltb (length (digits_up (suc (suc n)) (suc n))) 2) (u
     go false h = ne_eqb (get_or (digits_up (suc (suc n)) (suc n)) 0 0) 48 (λ e. omega arith)
 
 -- What is printed is read as the same number.
-pub number_back : (k n : ℕ) → n ≤ k → number_of k (digits n) ≡ some n
+pub number_back : (k n : ℕ) → n ≤ k → number_of k (digits n) ≡ Some n
 unfolding number_of digits
 number_back k n h =
     let s = up_some (suc n) n (omega arith) in
@@ -82,7 +82,7 @@ number_back k n h =
 -- Different numbers are printed differently.
 pub digits_one_number : (m n : ℕ) → digits m ≡ digits n → m ≡ n
 digits_one_number m n e =
-    let s : some m ≡ some n = sym (number_back (m + n) m (omega arith)) ∙ ap (number_of (m + n)) e ∙ number_back (m + n) n (omega arith) in
+    let s : Some m ≡ Some n = sym (number_back (m + n) m (omega arith)) ∙ ap (number_of (m + n)) e ∙ number_back (m + n) n (omega arith) in
     cc
 
 -- Only digits are printed.

@@ -1,52 +1,32 @@
 -- Loops over a text: what holds of the whole equals what holds of the rest from where the loop stands.
-use Prim.Native.Nat.{ℕ, suc, ◌+◌, ◌≤◌, ◌<◌}
+use Prim.Native.Nat.{ℕ, suc, ◌+◌, ◌<◌}
 use mathlib.Core.Path.{◌≡◌, refl, sym, ap, ◌∙◌}
-use mathlib.Core.Bool.{Bool, true, false}
+use mathlib.Core.Logic.{inl, inr}
+use mathlib.Core.Bool.{Bool, true, false, ◌&&◌, false≢true}
 use mathlib.Core.List.{List, [], ◌∷◌}
 use native.Mathlib.Omega.{arith}
 use native.Mathlib.Numerals.{add-one}
-use lib.ListN.{length, get_or, drop, drop_of_length-le}
+use lib.ListN.{length, get_or, take, drop}
 use lib.Seq.{drop-cons}
 use lib.Dec.{eqb}
-use borrow.Author.Tests.{eq-eqb, ne_eqb}
+use lib.Pointwise.{pointwise}
+use Rattle.std.specs.Bool.{Decides}
+use Rattle.std.specs.List.{starts_with}
 use Rattle.buffers.specs.Choices.{pick}
-use Rattle.buffers.specs.Lists.{all, same, begins}
-use Rattle.text.specs.Keys.{contains}
+use Rattle.buffers.specs.Lists.{same, begins}
+use Rattle.buffers.proofs.Lists.{same_refl, same_path}
+use Rattle.buffers.proofs.Tests.{either}
 
 -- ## The rest of a list
 
 pub next : (s : List ℕ) (i : ℕ) → i < length s → drop i s ≡ get_or s i 0 ∷ drop (i + 1) s
 next s i h = rw (add-one, drop-cons s i 0)
 
--- ## Every byte passes a test
+-- ## Texts that are compared
 
-module _ (p : ℕ → Bool) (s : List ℕ) (i : ℕ) where
-  pub all_stop : (r : Bool) → i < length s → r ≡ p (get_or s i 0) → r ≡ false → all p s ≡ all p (drop i s) → false ≡ all p s
-  all_stop r h e t q = sym (q ∙ rw (next s i h, sym e ∙ t))
-
-  pub all_step : (r : Bool) → i < length s → r ≡ p (get_or s i 0) → r ≡ true → all p s ≡ all p (drop i s) → all p s ≡ all p (drop (i + 1) s)
-  all_step r h e t q = q ∙ rw (next s i h, sym e ∙ t)
-
-  pub all_end : length s ≤ i → all p s ≡ all p (drop i s) → true ≡ all p s
-  all_end h q = sym (q ∙ rw (drop_of_length-le s h))
-
-pub ruleset all_cases = (all_stop, all_step, all_end)
-
--- ## A byte stands in a text
-
-module _ (s : List ℕ) (b i : ℕ) where
-  pub has_hit : i < length s → get_or s i 0 ≡ b → contains s b ≡ contains (drop i s) b → true ≡ contains s b
-  has_hit h t q = sym (q ∙ rw (next s i h, eq-eqb _ _ t))
-
-  pub has_step : i < length s → (get_or s i 0 ≡ b → ⊥) → contains s b ≡ contains (drop i s) b → contains s b ≡ contains (drop (i + 1) s) b
-  has_step h t q = q ∙ rw (next s i h, ne_eqb _ _ t)
-
-  pub has_end : length s ≤ i → contains s b ≡ contains (drop i s) b → false ≡ contains s b
-  has_end h q = sym (q ∙ rw (drop_of_length-le s h))
-
-pub ruleset contains_cases = (has_hit, has_step, has_end)
-
--- ## One text begins another
+and_pick : (a b : Bool) → (a && b) ≡ pick a b false
+and_pick true b = refl
+and_pick false b = refl
 
 pub begins_short : (t s : List ℕ) → length s < length t → false ≡ begins t s
 begins_short [] s h = absurd (omega arith)
@@ -57,30 +37,23 @@ begins_short (x ∷ t) (y ∷ s) h = go (eqb x y) (begins_short t s (omega arith
     go true e = e
     go false e = refl
 
-module _ (t s : List ℕ) (i : ℕ) where
-  pub begins_stop : i < length t → length t ≤ length s → (get_or t i 0 ≡ get_or s i 0 → ⊥) → begins t s ≡ begins (drop i t) (drop i s) → false ≡ begins t s
-  begins_stop h k n q = let m : i < length s = omega arith in sym (q ∙ rw (next t i h, next s i m) (simp (ne_eqb _ _ n)))
+begins_as : (t s : List ℕ) → pointwise eqb t (take (length t) s) ≡ begins t s
+begins_as [] s = refl
+begins_as (x ∷ t) [] = refl
+begins_as (x ∷ t) (y ∷ s) = rw (begins_as t s) (and_pick (eqb x y) (begins t s))
 
-  pub begins_step : i < length t → length t ≤ length s → get_or t i 0 ≡ get_or s i 0 → begins t s ≡ begins (drop i t) (drop i s)
-      → begins t s ≡ begins (drop (i + 1) t) (drop (i + 1) s)
-  begins_step h k n q = let m : i < length s = omega arith in q ∙ rw (next t i h, next s i m) (simp (eq-eqb _ _ n))
-
-  pub begins_end : length t ≤ i → begins t s ≡ begins (drop i t) (drop i s) → true ≡ begins t s
-  begins_end h q = sym (q ∙ rw (drop_of_length-le t h))
-
-pub ruleset begins_cases = (begins_short, begins_stop, begins_step, begins_end)
+pub begins_is : (r : Bool) (t s : List ℕ) → r ≡ starts_with eqb s t → r ≡ begins t s
+begins_is r t s e = e ∙ begins_as t s
 
 -- ## Two texts are the same
 
-pub same_begins : (s t : List ℕ) (r : Bool) → length s ≡ length t → r ≡ begins s t → r ≡ same s t
-same_begins [] [] r h e = e
-same_begins [] (y ∷ t) r h e = absurd (omega arith)
-same_begins (x ∷ s) [] r h e = absurd (omega arith)
-same_begins (x ∷ s) (y ∷ t) r h e = e ∙ go (eqb x y) (same_begins s t (begins s t) (omega arith) refl)
-  where
-    go : (b : Bool) → begins s t ≡ same s t → pick b (begins s t) false ≡ pick b (same s t) false
-    go true q = q
-    go false q = refl
+pub same_decides : (r : Bool) (s t : List ℕ) → Decides r (s ≡ t) → r ≡ same s t
+same_decides true s t d = let e : s ≡ t = d.0 refl in rw (← e) (sym (same_refl s))
+same_decides false s t d =
+    elim (either (same s t)) [
+      | inl e ↦ absurd (false≢true (d.1 (same_path s t e)))
+      | inr e ↦ sym e
+    ]
 
 pub same_length : (s t : List ℕ) → (length s ≡ length t → ⊥) → false ≡ same s t
 same_length [] [] h = absurd (h refl)
@@ -91,5 +64,3 @@ same_length (x ∷ s) (y ∷ t) h = go (eqb x y) (same_length s t (λ e. h (ap s
     go : (b : Bool) → false ≡ same s t → false ≡ pick b (same s t) false
     go true e = e
     go false e = refl
-
-pub ruleset word_cases = (same_begins, same_length)

@@ -1,17 +1,16 @@
 -- Laws of blocks of 16 bytes: how long they are, and that each byte of a text passes a test where each block does.
 use Prim.Native.Nat.{ℕ, ◌+◌, ◌-◌, ◌≤◌, ◌<◌}
-use mathlib.Core.Path.{◌≡◌, refl, sym, ap, ◌∙◌}
+use mathlib.Core.Path.{◌≡◌, sym, ap, ◌∙◌}
 use mathlib.Core.Logic.{inl, inr}
-use mathlib.Core.Bool.{Bool, true, false, ◌&&◌, and_assoc, and-true, false≢true}
+use mathlib.Core.Bool.{Bool, true, false, false≢true}
 use mathlib.Core.List.{List}
 use native.Mathlib.Omega.{arith}
-use lib.ListN.{length, get_or, take, drop, length-drop, take-append-drop, drop_of_length-le}
+use lib.ListN.{length, take, drop, length-drop, take-append-drop}
 use lib.Seq.{drop-drop, length-take-le}
 use Rattle.buffers.specs.Lists.{all}
 use Rattle.buffers.proofs.Lists.{all_take, all_drop, all_append}
 use Rattle.buffers.proofs.Tests.{either}
 use Rattle.buffers.proofs.Parts.{part_cut, rest_all}
-use Rattle.text.proofs.Scans.{next}
 
 -- ## Their length
 
@@ -29,18 +28,6 @@ module _ (s : List ℕ) where
   last_long h = rw (rest_all (length s - 16) s, length-drop (length s - 16) s) (omega arith)
 
 module _ (p : ℕ → Bool) (s : List ℕ) where
-  -- ## One block that passes a test
-
-  module _ (ok : Bool) (i : ℕ) (l : length s ≡ 16) (q : all p s ≡ ok && all p (drop i s)) where
-    pub block_step : (r : Bool) → i < 16 → r ≡ p (get_or s i 0) → all p s ≡ (ok && r) && all p (drop (i + 1) s)
-    block_step r h e = q ∙ rw (next s i (omega arith), ← e) (sym (and_assoc ok r (all p (drop (i + 1) s))))
-
-    pub block_end : 16 ≤ i → ok ≡ all p s
-    block_end h = sym (q ∙ rw (drop_of_length-le s {i = i} (omega arith)) (and-true ok))
-
-  pub block_start : all p s ≡ true && all p (drop 0 s)
-  block_start = refl
-
   -- ## The blocks of a text
 
   not_all : (t : List ℕ) → (all p s ≡ true → all p t ≡ true) → all p t ≡ false → false ≡ all p s
@@ -72,7 +59,5 @@ module _ (p : ℕ → Bool) (s : List ℕ) where
               f ∙ a ∙ sym (q ∙ (rw (drop-drop (i - (length s - 16)) (length s - 16) s, d) at b))
           | inr a ↦ f ∙ a ∙ not_all (drop (length s - 16) s) (all_drop p (length s - 16) s) a
         ]
-
-pub ruleset pass_cases = (block_start, block_step, block_end)
 
 pub ruleset piece_cases = (piece_long, last_long, piece_bad, piece_step, piece_last)

@@ -1,6 +1,6 @@
 -- Numbers, fields, tabs as bits, keys and prefixes, computed.
 use Rattle.std.specs.Prelude.{◌≡◌, refl, true, false, [], ◌∷◌, replicate}
-use Rattle.std.proofs.Math.Option.{some, none}
+use Rattle.std.specs.Prelude.{Some, None}
 use Rattle.buffers.specs.Texts.{bytes}
 use Rattle.buffers.specs.Lists.{begins}
 use Rattle.text.specs.Numbers.{is_digit, leading_zero, number_of, positive_of}
@@ -12,13 +12,13 @@ use Rattle.text.specs.Printing.{digits}
 
 -- what the definitions say of these texts
 pub record Examples : Type 0 where
-  pub zero_alone : number_of 7 (bytes "0") ≡ some 0
-  pub most : number_of 18446744073709551615 (bytes "18446744073709551615") ≡ some 18446744073709551615
-  pub too_large : number_of 18446744073709551615 (bytes "18446744073709551616") ≡ none
-  pub leading_zeros : number_of 100 (bytes "007") ≡ none
-  pub empty : number_of 100 [] ≡ none
-  pub sign : number_of 100 (bytes "+1") ≡ none
-  pub no_positive : positive_of 100 (bytes "0") ≡ none
+  pub zero_alone : number_of 7 (bytes "0") ≡ Some 0
+  pub most : number_of 18446744073709551615 (bytes "18446744073709551615") ≡ Some 18446744073709551615
+  pub too_large : number_of 18446744073709551615 (bytes "18446744073709551616") ≡ None
+  pub leading_zeros : number_of 100 (bytes "007") ≡ None
+  pub empty : number_of 100 [] ≡ None
+  pub sign : number_of 100 (bytes "+1") ≡ None
+  pub no_positive : positive_of 100 (bytes "0") ≡ None
   pub printed : digits 2024 ≡ bytes "2024"
   pub split : fields (bytes "GET\tkey\t\t7") ≡ bytes "GET" ∷ bytes "key" ∷ [] ∷ bytes "7" ∷ []
   pub last : place_of (bytes "GET\tkey\t\t7") 3 ≡ record { start = 9; len = 1 }

@@ -43,10 +43,6 @@ end_of [] i = 0
 end_of (b ∷ s) zero = pick (eqb b 9) 0 (suc (end_of s 0))
 end_of (b ∷ s) (suc i) = suc (end_of s (suc i - tab_at b))
 
--- a line's marks: where its first nine fields end, then the count of its tabs
-unfoldable pub marks_of : List ℕ → List ℕ
-marks_of s = end_of s 0 ∷ end_of s 1 ∷ end_of s 2 ∷ end_of s 3 ∷ end_of s 4 ∷ end_of s 5 ∷ end_of s 6 ∷ end_of s 7 ∷ end_of s 8 ∷ tabs_in s ∷ []
-
 -- the place of field i
 unfoldable pub place_of : List ℕ → ℕ → Place
 place_of s i = record { start = start_of s i; len = length (field_of s i) }
@@ -55,16 +51,17 @@ place_of s i = record { start = start_of s i; len = length (field_of s i) }
 abbrev pub part_of : List ℕ → Place → List ℕ
 part_of s p = take p.len (drop p.start s)
 
--- the marks of a line
-pub record Split (s : List ℕ) (marks : List ℕ) : Type 0 where
-  pub is : marks ≡ marks_of s
-  pub long : length marks ≡ 10
+-- a line is parted: where its first nine fields end, and the count of its tabs
+pub record Split (s ends : List ℕ) (tabs : ℕ) : Type 0 where
+  pub long : length ends ≡ 9
+  pub ended : (i : ℕ) → i < 9 → get_or ends i 0 ≡ end_of s i
+  pub count : tabs ≡ tabs_in s
 
 -- i bytes of the line are passed, with n tabs among them: the fields that have ended are marked, the others are left at the line's end
 pub record Marking (s : List ℕ) (i n : ℕ) (m : List ℕ) : Type 0 where
   pub within : i ≤ length s
   pub few : n ≤ i
-  pub long : length m ≡ 10
+  pub long : length m ≡ 9
   pub count : tabs_in s ≡ n + tabs_in (drop i s)
   pub ended : (j : ℕ) → j < 9 → j < n → get_or m j 0 ≡ end_of s j
   pub left : (j : ℕ) → j < 9 → n ≤ j → get_or m j 0 ≡ length s

@@ -1,5 +1,5 @@
 -- The lines of a text, parted by line feeds (0x0A).
-use Rattle.std.specs.Prelude.{ℕ, suc, ◌+◌, ◌≤◌, ◌≡◌, List, [], ◌∷◌, eqb, length, take, drop}
+use Rattle.std.specs.Prelude.{ℕ, suc, List, [], ◌∷◌, eqb, take}
 use Rattle.buffers.specs.Choices.{pick}
 use Rattle.text.specs.Fields.{on_first}
 
@@ -16,8 +16,3 @@ feed_at (b ∷ s) = pick (eqb b 10) 0 (suc (feed_at s))
 -- the bytes before the first line feed
 abbrev pub first_line : List ℕ → List ℕ
 first_line s = take (feed_at s) s
-
--- the first i bytes have no line feed
-pub record Clear (s : List ℕ) (i : ℕ) : Type 0 where
-  pub within : i ≤ length s
-  pub feed : feed_at s ≡ i + feed_at (drop i s)

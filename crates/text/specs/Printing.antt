@@ -10,13 +10,3 @@ digits_up (suc f) n = pick (ltb n 10) ((48 + n) ∷ []) (digits_up f (n / 10) ++
 -- the digits of a number, the first one first: n + 1 steps are always enough
 unfoldable pub digits : ℕ → List ℕ
 digits n = digits_up (suc n) n
-
--- two digits, those of a number below 100, zeros in front; four and eight likewise
-abbrev pub pair_of : ℕ → List ℕ
-pair_of n = (48 + n / 10) ∷ (48 + n % 10) ∷ []
-
-abbrev pub four_of : ℕ → List ℕ
-four_of n = pair_of (n / 100) ++ pair_of (n % 100)
-
-abbrev pub eight_of : ℕ → List ℕ
-eight_of n = four_of (n / 10000) ++ four_of (n % 10000)

@@ -1,7 +1,7 @@
 -- `write_number` meets its contract.
-use Rattle.answers.proofs.Writing.{one_field}
+use Rattle.answers.proofs.Writing.{all_fields}
 use borrow.Author.Rules.{rules}
 use Rattle.answers.proofs.write_number.Goals as goal
 
 pub returns : goal.returns
-returns c = search (rules, one_field)
+returns c = search (rules, all_fields)

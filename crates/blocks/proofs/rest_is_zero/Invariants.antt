@@ -1,5 +1,4 @@
 -- `rest_is_zero` meets its contract.
-use Prim.Native.Nat.{◌-◌, ◌≤◌}
 use Rattle.blocks.specs.Places.{is_zero}
 use Rattle.buffers.specs.Lists.{all}
 use lib.ListN.{drop}
@@ -8,7 +7,4 @@ use mathlib.Core.Path.{◌≡◌}
 use Rattle.blocks.proofs.rest_is_zero.Given as goal
 
 abbrev pub invariant-loop-i : goal.invariant-loop-i
-invariant-loop-i l = (l.i ≤ 64) × (all is_zero (drop 32 l.b) ≡ l.ok && all is_zero (drop l.i l.b))
-
-abbrev pub decreases-loop-i : goal.decreases-loop-i
-decreases-loop-i l = 64 - l.i
+invariant-loop-i l = all is_zero (drop 32 l.b) ≡ l.ok && all is_zero (drop l.i l.b)

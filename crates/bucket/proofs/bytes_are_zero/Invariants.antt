@@ -1,14 +1,10 @@
 -- `bytes_are_zero` meets its contract.
-use Prim.Native.Nat.{◌-◌, ◌≤◌}
 use Rattle.bucket.specs.Steps.{zeros}
 use lib.Dec.{eqb}
-use lib.ListN.{length, drop}
+use lib.ListN.{drop}
 use mathlib.Core.Bool.{◌&&◌}
 use mathlib.Core.Path.{◌≡◌}
 use Rattle.bucket.proofs.bytes_are_zero.Given as goal
 
 abbrev pub invariant-loop-i : goal.invariant-loop-i
-invariant-loop-i l = (l.i ≤ length l.keys) × (zeros (drop l.at l.keys) ≡ eqb l.bits 0 && zeros (drop l.i l.keys))
-
-abbrev pub decreases-loop-i : goal.decreases-loop-i
-decreases-loop-i l = length l.keys - l.i
+invariant-loop-i l = zeros (drop l.at l.keys) ≡ eqb l.bits 0 && zeros (drop l.i l.keys)

@@ -3,11 +3,11 @@ use Rattle.bucket.proofs.Following.{follows_cases}
 use borrow.Author.Rules.{rules}
 use Rattle.bucket.proofs.follows.Goals as goal
 
-pub returns-in-Before : goal.returns-in-Before
-returns-in-Before c = search (rules, follows_cases)
+pub returns-in-Less : goal.returns-in-Less
+returns-in-Less c = search (rules, follows_cases)
 
-pub returns-in-Same : goal.returns-in-Same
-returns-in-Same c = search (rules, follows_cases)
+pub returns-in-Equal : goal.returns-in-Equal
+returns-in-Equal c = search (rules, follows_cases)
 
-pub returns-in-After : goal.returns-in-After
-returns-in-After c = search (rules, follows_cases)
+pub returns-in-Greater : goal.returns-in-Greater
+returns-in-Greater c = search (rules, follows_cases)

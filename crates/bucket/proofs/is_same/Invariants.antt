@@ -1,5 +1,4 @@
 -- `is_same` meets its contract.
-use Prim.Native.Nat.{◌-◌, ◌≤◌}
 use Rattle.buffers.specs.Lists.{same}
 use lib.ListN.{drop}
 use mathlib.Core.Bool.{◌&&◌}
@@ -7,7 +6,4 @@ use mathlib.Core.Path.{◌≡◌}
 use Rattle.bucket.proofs.is_same.Given as goal
 
 abbrev pub invariant-loop-i : goal.invariant-loop-i
-invariant-loop-i l = (l.i ≤ 64) × (same l.a l.b ≡ l.ok && same (drop l.i l.a) (drop l.i l.b))
-
-abbrev pub decreases-loop-i : goal.decreases-loop-i
-decreases-loop-i l = 64 - l.i
+invariant-loop-i l = same l.a l.b ≡ l.ok && same (drop l.i l.a) (drop l.i l.b)

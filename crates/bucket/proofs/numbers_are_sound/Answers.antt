@@ -5,13 +5,13 @@ use Rattle.buffers.proofs.Choices.{picks}
 use borrow.Author.Rules.{rules}
 use Rattle.bucket.proofs.numbers_are_sound.Goals as goal
 
-pub returns-then-kind-eq-DATA : goal.returns-then-kind-eq-DATA
+pub returns-then-kind-number : goal.returns-then-kind-number
 unfolding sound_numbers
-returns-then-kind-eq-DATA c = search (rules, picks, with_same)
+returns-then-kind-number c = search (rules, picks, with_same)
 
-pub returns-then-kind-eq-MARKER : goal.returns-then-kind-eq-MARKER
+pub returns-then-kind-number-2 : goal.returns-then-kind-number-2
 unfolding sound_numbers
-returns-then-kind-eq-MARKER c = search (rules, picks, with_same)
+returns-then-kind-number-2 c = search (rules, picks, with_same)
 
 pub returns : goal.returns
 unfolding sound_numbers

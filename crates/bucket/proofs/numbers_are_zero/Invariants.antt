@@ -1,14 +1,10 @@
 -- `numbers_are_zero` meets its contract.
-use Prim.Native.Nat.{◌-◌, ◌≤◌}
 use Rattle.bucket.specs.Steps.{zeros}
 use lib.Dec.{eqb}
-use lib.ListN.{length, drop}
+use lib.ListN.{drop}
 use mathlib.Core.Bool.{◌&&◌}
 use mathlib.Core.Path.{◌≡◌}
 use Rattle.bucket.proofs.numbers_are_zero.Given as goal
 
 abbrev pub invariant-loop-i : goal.invariant-loop-i
-invariant-loop-i l = (l.i ≤ length l.rows) × (zeros (drop l.at l.rows) ≡ eqb l.bits 0 && zeros (drop l.i l.rows))
-
-abbrev pub decreases-loop-i : goal.decreases-loop-i
-decreases-loop-i l = length l.rows - l.i
+invariant-loop-i l = zeros (drop l.at l.rows) ≡ eqb l.bits 0 && zeros (drop l.i l.rows)

@@ -3,6 +3,9 @@ use Rattle.engine.proofs.Serving.{pages}
 use borrow.Author.Rules.{rules}
 use Rattle.engine.proofs.serve_page.Goals as goal
 
+pub new-table-requires : goal.new-table-requires
+new-table-requires c = search (rules, pages)
+
 pub part-prefix-requires : goal.part-prefix-requires
 part-prefix-requires c = search (rules, pages)
 

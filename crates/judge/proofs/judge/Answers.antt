@@ -3,8 +3,8 @@ use Rattle.judge.proofs.Dispatch.{action_ways}
 use borrow.Author.Rules.{rules}
 use Rattle.judge.proofs.judge.Goals as goal
 
-pub judge_marker-requires-clause-key_value : goal.judge_marker-requires-clause-key_value
-judge_marker-requires-clause-key_value c = search (rules, action_ways)
+pub judge_marker-requires-clause-valid_key : goal.judge_marker-requires-clause-valid_key
+judge_marker-requires-clause-valid_key c = search (rules, action_ways)
 
 pub returns-in-Put : goal.returns-in-Put
 returns-in-Put c = search (rules, action_ways)

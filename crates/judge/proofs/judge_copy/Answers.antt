@@ -1,13 +1,13 @@
 -- `judge_copy` meets its contract.
+use mathlib.Core.Path.{◌≡◌}
+use Rattle.std.proofs.Common.{arith, Err}
+use Rattle.std.proofs.lemmas.Grind.{common_steps}
 use Rattle.judge.proofs.Adding.{copy_ways}
 use borrow.Author.Rules.{rules}
 use Rattle.judge.proofs.judge_copy.Goals as goal
 
-pub key_place-at-requires : goal.key_place-at-requires
-key_place-at-requires c = search (rules, copy_ways)
+pub returns-in_err-named : goal.returns-in_err-named
+returns-in_err-named c = λ who us fs. let q : c.from_residual.result ≡ Err c.in_err-named.field-0.0 = grind (arith, common_steps) in rw q (search (rules, copy_ways, c.in_err-named.was))
 
-pub returns-in-Refused : goal.returns-in-Refused
-returns-in-Refused c = λ who us fs. search (rules, copy_ways)
-
-pub returns-in-Row : goal.returns-in-Row
-returns-in-Row c = λ who us fs. search (rules, copy_ways)
+pub returns : goal.returns
+returns c = λ who us fs. search (rules, copy_ways, c.in_ok-named.was)

@@ -12,5 +12,5 @@ returns-then-is_repeated c = λ who us fs. search (rules, put_ways)
 pub returns-else-is_repeated : goal.returns-else-is_repeated
 returns-else-is_repeated c = λ who us fs. search (rules, put_ways)
 
-pub returns-in-Place : goal.returns-in-Place
-returns-in-Place c = λ who us fs. search (rules, put_ways)
+pub returns-in-Err : goal.returns-in-Err
+returns-in-Err c = λ who us fs. search (rules, put_ways)

@@ -1,13 +1,16 @@
 -- `judge_retain` meets its contract.
+use mathlib.Core.Path.{◌≡◌}
+use Rattle.std.proofs.Common.{arith, Err}
+use Rattle.std.proofs.lemmas.Grind.{common_steps}
 use Rattle.judge.proofs.Naming.{data_ways}
 use borrow.Author.Rules.{rules}
 use Rattle.judge.proofs.judge_retain.Goals as goal
 
 pub returns-then-is_admitted : goal.returns-then-is_admitted
-returns-then-is_admitted c = λ who us fs. search (rules, data_ways)
+returns-then-is_admitted c = λ who us fs. search (rules, data_ways, c.in_ok-named.was)
 
-pub returns-in-Refused : goal.returns-in-Refused
-returns-in-Refused c = λ who us fs. search (rules, data_ways)
+pub returns-in_err-named : goal.returns-in_err-named
+returns-in_err-named c = λ who us fs. let q : c.from_residual.result ≡ Err c.in_err-named.field-0.0 = grind (arith, common_steps) in rw q (search (rules, data_ways, c.in_err-named.was))
 
-pub returns-else-is_admitted : goal.returns-else-is_admitted
-returns-else-is_admitted c = λ who us fs. search (rules, data_ways)
+pub returns : goal.returns
+returns c = λ who us fs. search (rules, data_ways, c.in_ok-named.was)

@@ -6,11 +6,11 @@ use Rattle.judge.proofs.judge_sweep.Goals as goal
 pub judge_table-judged-requires-clause-judgeable : goal.judge_table-judged-requires-clause-judgeable
 judge_table-judged-requires-clause-judgeable c = search (rules, sweep_ways)
 
-pub returns-then-s-new-clause-by_index : goal.returns-then-s-new-clause-by_index
-returns-then-s-new-clause-by_index c = search (rules, sweep_ways)
+pub returns-then-s-new-clause-judged : goal.returns-then-s-new-clause-judged
+returns-then-s-new-clause-judged c = search (rules, sweep_ways)
 
-pub returns-then-keys-used-clause-by_index : goal.returns-then-keys-used-clause-by_index
-returns-then-keys-used-clause-by_index c = search (rules, sweep_ways)
+pub returns-then-room-s-clause-judged : goal.returns-then-room-s-clause-judged
+returns-then-room-s-clause-judged c = search (rules, sweep_ways)
 
-pub returns-clause-by_index : goal.returns-clause-by_index
-returns-clause-by_index c = search (rules, sweep_ways)
+pub returns-else-room-s-clause-judged : goal.returns-else-room-s-clause-judged
+returns-else-room-s-clause-judged c = search (rules, sweep_ways)

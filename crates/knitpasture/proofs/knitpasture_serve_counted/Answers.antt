@@ -1,13 +1,9 @@
--- `knitpasture_serve_counted` meets its contract: each way through it is one of the cited laws.
-use Rattle.knitpasture.proofs.Serving.{accepted_as_0, count_cases}
-use borrow.Author.Rules.{rules}
+-- `knitpasture_serve_counted` meets its contract.
+use Rattle.knitpasture.proofs.Serving.{count_kept, count_written}
 use Rattle.knitpasture.proofs.knitpasture_serve_counted.Goals as goal
 
-pub returns-then-called-ne0-clause-comparisons_after : goal.returns-then-called-ne0-clause-comparisons_after
-returns-then-called-ne0-clause-comparisons_after c = search (rules, count_cases)
+pub returns-in-Ok-clause-comparisons_after : goal.returns-in-Ok-clause-comparisons_after
+returns-in-Ok-clause-comparisons_after c = count_written _ _ _ _ _ _ c.in-Ok.ensures.answer_after c.in-Ok.ensures.comparisons_value
 
-pub returns-clause-answer_after : goal.returns-clause-answer_after
-returns-clause-answer_after c = search (rules, accepted_as_0)
-
-pub returns-clause-comparisons_after : goal.returns-clause-comparisons_after
-returns-clause-comparisons_after c = search (rules, count_cases)
+pub returns-in-Err-clause-comparisons_after : goal.returns-in-Err-clause-comparisons_after
+returns-in-Err-clause-comparisons_after c = count_kept _ _ _ _ _ _ c.in-Err.ensures.answer_after

@@ -1,13 +1,13 @@
--- `current_fate` meets its contract.
-use Rattle.lifecycle.proofs.RowFates.{current_cases}
-use borrow.Author.Rules.{rules}
+-- `current_fate` meets its contract: whether a row is data is the same with any key.
+use Rattle.std.proofs.Common.{[], arith}
+use Rattle.std.proofs.lemmas.Grind.{common_steps}
+use Rattle.lifecycle.specs.Judging.{current_by}
 use Rattle.lifecycle.proofs.current_fate.Goals as goal
 
-pub returns-then-n-ne-DATA : goal.returns-then-n-ne-DATA
-returns-then-n-ne-DATA c = search (rules, current_cases)
-
 pub returns-then-is_over : goal.returns-then-is_over
-returns-then-is_over c = search (rules, current_cases)
+unfolding current_by
+returns-then-is_over c = grind (arith, common_steps, c.is_data.ensures [])
 
-pub returns : goal.returns
-returns c = search (rules, current_cases)
+pub returns-else-is_data : goal.returns-else-is_data
+unfolding current_by
+returns-else-is_data c = grind (arith, common_steps, c.is_data.ensures [])

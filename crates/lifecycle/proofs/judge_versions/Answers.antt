@@ -1,7 +1,10 @@
 -- `judge_versions` meets its contract.
-use Rattle.lifecycle.proofs.KeyRows.{version_cases}
+use Rattle.lifecycle.proofs.KeyRows.{version_cases, versions_counted}
 use borrow.Author.Rules.{rules}
 use Rattle.lifecycle.proofs.judge_versions.Goals as goal
 
-pub returns : goal.returns
-returns c = search (rules, version_cases)
+pub returns-clause-fates_stored : goal.returns-clause-fates_stored
+returns-clause-fates_stored c = search (rules, version_cases)
+
+pub returns-clause-counted : goal.returns-clause-counted
+returns-clause-counted c = versions_counted _ _ _ _ _ _ _ _ _ _ _ c.current_fate-fate.ensures (search rules) (search rules) c.eq.ensures c.from.ensures c.judge_older-removed.ensures.counted

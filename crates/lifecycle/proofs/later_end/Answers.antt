@@ -6,5 +6,5 @@ use Rattle.lifecycle.proofs.later_end.Goals as goal
 pub loop-next-preserved : goal.loop-next-preserved
 loop-next-preserved c = search (rules, next_cases)
 
-pub returns-else-same_key : goal.returns-else-same_key
-returns-else-same_key c = search (rules, next_cases)
+pub returns-then-not-same_key : goal.returns-then-not-same_key
+returns-then-not-same_key c = search (rules, next_cases)

@@ -9,8 +9,8 @@ returns-then-version-eq0 c = search (rules, after_cases, after_fits)
 pub overflow_add-result : goal.overflow_add-result
 overflow_add-result c = search (rules, after_cases, after_fits)
 
-pub returns-in-At : goal.returns-in-At
-returns-in-At c = search (rules, after_cases, after_fits)
+pub returns-in-Ok : goal.returns-in-Ok
+returns-in-Ok c = search (rules, after_cases, after_fits)
 
-pub returns-in-Place : goal.returns-in-Place
-returns-in-Place c = search (rules, after_cases, after_fits)
+pub returns-in-Err : goal.returns-in-Err
+returns-in-Err c = search (rules, after_cases, after_fits)

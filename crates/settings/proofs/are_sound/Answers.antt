@@ -6,8 +6,8 @@ use Rattle.settings.proofs.are_sound.Goals as goal
 pub loop-k-preserved : goal.loop-k-preserved
 loop-k-preserved c = search (rules, rules_checked)
 
-pub returns-else-is_sound_rule : goal.returns-else-is_sound_rule
-returns-else-is_sound_rule c = search (rules, rules_checked)
+pub returns-then-not-is_sound_rule : goal.returns-then-not-is_sound_rule
+returns-then-not-is_sound_rule c = search (rules, rules_checked)
 
 pub returns : goal.returns
 returns c = search (rules, rules_checked)

@@ -1,5 +1,4 @@
 -- `are_sound` meets its contract: the rules before `k` are sound.
-use Prim.Native.Nat.{◌-◌, ◌≤◌}
 use Rattle.buffers.specs.Lists.{all}
 use Rattle.settings.specs.Bytes.{rules_of}
 use Rattle.settings.specs.Changes.{rule_sound}
@@ -8,7 +7,4 @@ use mathlib.Core.Path.{◌≡◌}
 use Rattle.settings.proofs.are_sound.Given as goal
 
 abbrev pub invariant-loop-k : goal.invariant-loop-k
-invariant-loop-k l = (l.k ≤ 8) × (all rule_sound (rules_of l.e) ≡ all rule_sound (drop l.k (rules_of l.e)))
-
-abbrev pub decreases-loop-k : goal.decreases-loop-k
-decreases-loop-k l = 8 - l.k
+invariant-loop-k l = all rule_sound (rules_of l.e) ≡ all rule_sound (drop l.k (rules_of l.e))

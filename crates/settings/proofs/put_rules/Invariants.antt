@@ -1,12 +1,8 @@
 -- `put_rules` meets its contract: the rules before `k` are written.
-use Prim.Native.Nat.{◌-◌, ◌≤◌}
 use Rattle.settings.specs.Bytes.{rules_of}
 use lib.ListN.{length, take}
 use mathlib.Core.Path.{◌≡◌}
 use Rattle.settings.proofs.put_rules.Given as goal
 
 abbrev pub invariant-loop-k : goal.invariant-loop-k
-invariant-loop-k l = (l.k ≤ 8) × (length l.e ≡ 640) × (take l.k (rules_of l.e) ≡ take l.k l.rules)
-
-abbrev pub decreases-loop-k : goal.decreases-loop-k
-decreases-loop-k l = 8 - l.k
+invariant-loop-k l = (length l.e ≡ 640) × (take l.k (rules_of l.e) ≡ take l.k l.rules)

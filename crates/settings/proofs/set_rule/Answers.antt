@@ -6,5 +6,5 @@ use Rattle.settings.proofs.set_rule.Goals as goal
 pub returns-then-current-noncurrent : goal.returns-then-current-noncurrent
 returns-then-current-noncurrent c = search (rules, stored_cases)
 
-pub returns : goal.returns
-returns c = search (rules, stored_cases)
+pub returns-else-current-noncurrent : goal.returns-else-current-noncurrent
+returns-else-current-noncurrent c = search (rules, stored_cases)

@@ -3,8 +3,11 @@ use Rattle.table.proofs.Steps.{row_cases}
 use borrow.Author.Rules.{rules}
 use Rattle.table.proofs.insert_row.Goals as goal
 
-pub insert_numbers-requires : goal.insert_numbers-requires
-insert_numbers-requires c = search (rules, row_cases)
+pub open_at-requires : goal.open_at-requires
+open_at-requires c = search (rules, row_cases)
+
+pub write_numbers-requires : goal.write_numbers-requires
+write_numbers-requires c = search (rules, row_cases)
 
 pub returns : goal.returns
 returns c = search (rules, row_cases)

@@ -1,12 +1,7 @@
 -- `key_bytes` meets its contract.
-use Prim.Native.Nat.{◌-◌, ◌≤◌}
+use Rattle.std.proofs.Common.{◌≡◌, ◌*◌, ◌≤◌, length, drop}
 use Rattle.text.specs.Keys.{key_bytes}
-use lib.ListN.{length, drop}
-use mathlib.Core.Path.{◌≡◌}
 use Rattle.text.proofs.key_bytes.Given as goal
 
-abbrev pub invariant-loop-i : goal.invariant-loop-i
-invariant-loop-i l = (l.i ≤ length l.text) × (key_bytes l.text ≡ key_bytes (drop l.i l.text))
-
-abbrev pub decreases-loop-i : goal.decreases-loop-i
-decreases-loop-i l = length l.text - l.i
+abbrev pub invariant-loop-block : goal.invariant-loop-block
+invariant-loop-block l = (l.block * 16 ≤ length l.text) × (key_bytes l.text ≡ key_bytes (drop (l.block * 16) l.text))

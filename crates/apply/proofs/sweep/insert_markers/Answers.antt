@@ -6,20 +6,23 @@ use Rattle.apply.proofs.sweep.insert_markers.Goals as goal
 pub loop-k-init : goal.loop-k-init
 loop-k-init c = search (rules, mark_cases)
 
+pub loop-k-preserved-in-Goes : goal.loop-k-preserved-in-Goes
+loop-k-preserved-in-Goes c = search (rules, mark_cases)
+
 pub overflow_sub-i : goal.overflow_sub-i
 overflow_sub-i c = search (rules, mark_cases)
-
-pub copy_row_with_marker-requires : goal.copy_row_with_marker-requires
-copy_row_with_marker-requires c = search (rules, mark_cases)
-
-pub loop-k-preserved-then-fate-eq-GAINS : goal.loop-k-preserved-then-fate-eq-GAINS
-loop-k-preserved-then-fate-eq-GAINS c = search (rules, mark_cases)
 
 pub copy_row-requires : goal.copy_row-requires
 copy_row-requires c = search (rules, mark_cases)
 
-pub loop-k-preserved-else-fate-eq-GAINS : goal.loop-k-preserved-else-fate-eq-GAINS
-loop-k-preserved-else-fate-eq-GAINS c = search (rules, mark_cases)
+pub loop-k-preserved-in-Stays : goal.loop-k-preserved-in-Stays
+loop-k-preserved-in-Stays c = search (rules, mark_cases)
+
+pub overflow_sub-i-in-Gains : goal.overflow_sub-i-in-Gains
+overflow_sub-i-in-Gains c = search (rules, mark_cases)
+
+pub copy_row_with_marker-requires : goal.copy_row_with_marker-requires
+copy_row_with_marker-requires c = search (rules, mark_cases)
 
 pub loop-k-preserved : goal.loop-k-preserved
 loop-k-preserved c = search (rules, mark_cases)

@@ -1,13 +1,13 @@
 -- `data_named` meets its contract.
-use Rattle.judge.proofs.Looking.{data_cases}
-use borrow.Author.Rules.{rules}
+use Rattle.std.proofs.Common.{arith, []}
+use Rattle.std.proofs.lemmas.Grind.{common_steps}
+use Rattle.judge.specs.Named.{data_named}
 use Rattle.judge.proofs.lookup.data_named.Goals as goal
 
-pub returns-then-n-eq-MARKER : goal.returns-then-n-eq-MARKER
-returns-then-n-eq-MARKER c = search (rules, data_cases)
+pub returns-then-is_marker : goal.returns-then-is_marker
+unfolding data_named
+returns-then-is_marker c = grind (arith, common_steps, c.is_marker.ensures [])
 
-pub returns-in-Refused : goal.returns-in-Refused
-returns-in-Refused c = search (rules, data_cases)
-
-pub returns-else-n-eq-MARKER : goal.returns-else-n-eq-MARKER
-returns-else-n-eq-MARKER c = search (rules, data_cases)
+pub returns : goal.returns
+unfolding data_named
+returns c = grind (arith, common_steps, c.is_marker.ensures [])

@@ -6,14 +6,17 @@ use Rattle.lifecycle.proofs.rules.match_key.Goals as goal
 pub key_at-key-requires : goal.key_at-key-requires
 key_at-key-requires c = search (rules, match_cases)
 
-pub loop-i-init : goal.loop-i-init
-loop-i-init c = search (rules, match_cases)
+pub loop-rule-init : goal.loop-rule-init
+loop-rule-init c = search (rules, match_cases)
 
-pub compare-m-requires-clause-rules : goal.compare-m-requires-clause-rules
-compare-m-requires-clause-rules c = search (rules, match_cases)
+pub compare-found-requires-clause-rank : goal.compare-found-requires-clause-rank
+compare-found-requires-clause-rank c = search (rules, match_cases)
 
-pub loop-i-preserved : goal.loop-i-preserved
-loop-i-preserved c = search (rules, match_cases)
+pub compare-found-requires-clause-comparisons_lt_most_comparisons : goal.compare-found-requires-clause-comparisons_lt_most_comparisons
+compare-found-requires-clause-comparisons_lt_most_comparisons c = search (rules, match_cases)
 
-pub compare-m-requires-clause-comparisons_lt_most_comparisons : goal.compare-m-requires-clause-comparisons_lt_most_comparisons
-compare-m-requires-clause-comparisons_lt_most_comparisons c = search (rules, match_cases)
+pub loop-rule-preserved : goal.loop-rule-preserved
+loop-rule-preserved c = search (rules, match_cases)
+
+pub returns : goal.returns
+returns c = search (rules, match_cases)

@@ -1,11 +1,8 @@
 -- `match_key` meets its contract.
-use Rattle.lifecycle.specs.Flat.{rules_in}
+use Rattle.lifecycle.specs.LaidRules.{rules_in}
 use Rattle.lifecycle.specs.Least.{KeyMatched}
-use Rattle.std.proofs.Common.{◌-◌, ◌≤◌}
+use Rattle.std.proofs.Common.{take}
 use Rattle.lifecycle.proofs.rules.match_key.Given as goal
 
-abbrev pub invariant-loop-i : goal.invariant-loop-i
-invariant-loop-i l = (l.i ≤ l.n) × KeyMatched (rules_in l.prefixes l.numbers l.i) l.key l.comparisons l.m
-
-abbrev pub decreases-loop-i : goal.decreases-loop-i
-decreases-loop-i l = l.n - l.i
+abbrev pub invariant-loop-rule : goal.invariant-loop-rule
+invariant-loop-rule l = KeyMatched (rules_in (take l.rule-index l.rules)) l.key l.comparisons l.found

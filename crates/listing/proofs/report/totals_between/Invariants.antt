@@ -1,10 +1,6 @@
 -- `totals_between` meets its contract.
-use Prim.Native.Nat.{◌-◌}
 use Rattle.listing.proofs.Totals.{Totalling}
 use Rattle.listing.proofs.report.totals_between.Given as goal
 
 abbrev pub invariant-loop-i : goal.invariant-loop-i
-invariant-loop-i l = Totalling l.rows l.start l.end l.instant l.t l.i
-
-abbrev pub decreases-loop-i : goal.decreases-loop-i
-decreases-loop-i l = l.end - l.i
+invariant-loop-i l = Totalling l.table.rows l.start l.end l.instant l.t l.i

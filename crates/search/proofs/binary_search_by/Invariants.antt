@@ -1,0 +1,10 @@
+-- `binary_search_by` meets its contract.
+use Prim.Native.Nat.{◌-◌}
+use Rattle.search.proofs.Halving.{Between}
+use Rattle.search.proofs.binary_search_by.Given as goal
+
+abbrev pub invariant-loop-low : goal.invariant-loop-low
+invariant-loop-low g l = Between (goal.F-post g l.order) l.start l.end l.low l.high l.found
+
+abbrev pub decreases-loop-low : goal.decreases-loop-low
+decreases-loop-low g l = l.high - l.low
