@@ -34,9 +34,8 @@ fn copy_row(rows: &mut [u64], keys: &mut [u8], from: usize, to: usize)
     if from == to {
         return;
     }
-    let numbers: [u64; 8] = part_at(rows, from);
-    let block: [u8; 64] = part_at(keys, from);
-    put_row(rows, keys, to, numbers, block);
+    rows.copy_within(8 * from..8 * from + 8, 8 * to);
+    keys.copy_within(64 * from..64 * from + 64, 64 * to);
 }
 
 // Writes two rows of one key, the second behind the first.
