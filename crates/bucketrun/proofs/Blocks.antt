@@ -7,9 +7,8 @@ use native.Mathlib.Omega.{arith}
 use lib.ListN.{length, take, drop, replicate, length-append, length-drop, length-replicate}
 use lib.Seq.{paste, length-take-le, take-add}
 use Rattle.std.proofs.Common.{Option, subst}
-use Rattle.std.specs.Prelude.{Some, None, Result, Ok, Err, IfOk, is_some, is_ok, is_err}
+use Rattle.std.specs.Prelude.{Some, None, Result, Ok, is_some, is_ok, is_err}
 use Rattle.std.specs.Io.KnownBytes.{Appends, Consumes}
-use Rattle.bucketrun.specs.declared.Rest.{Rest}
 use Rattle.std.proofs.KnownBytes.{Appends-trans, Consumes-trans, Consumes-whole}
 use Rattle.buffers.specs.Ranges.{Span}
 use Rattle.buffers.specs.Writes.{placed, Wrote}
@@ -78,33 +77,27 @@ module _ (h : Lent) (e₀ input₀ out₀ : List ℕ) (u₀ v₀ : Option (List 
     all_read : over ≡ true → Consumes u₀ u' (joined g.blocks)
     all_read o = subst (Consumes u₀ u') (append-nil (joined g.blocks)) (Consumes-trans u₀ u u' _ _ g.reads (c.rests o))
 
-    run_written : (v' : Option (List ℕ)) (b' : Lent) (input' : List ℕ) (kept' : ℕ) → TookBlock b (take end filled) v b' input' v' kept' → over ≡ true
+    run_written : (v' : Option (List ℕ)) (b' : Lent) (input' : List ℕ) (kept' : ℕ) (told : Bool) → TookBlock b (take end filled) v b' input' v' kept' told → over ≡ true → told ≡ true
         → Appends v₀ v' (printed_by h (lines_of (joined g.blocks)))
-    run_written v' b' input' kept' d o = subst (Appends v₀ v') (last_written o) (Appends-trans v₀ v v' _ _ g.writes d.writes)
+    run_written v' b' input' kept' told d o t = subst (Appends v₀ v') (last_written o) (Appends-trans v₀ v v' _ _ g.writes (d.writes t))
 
-    run_ends : (s : State) (e' n k input' : List ℕ) (v' : Option (List ℕ)) (kept' : ℕ) → TookBlock b (take end filled) v (lent_with s e' n k) input' v' kept' → over ≡ true → Ran true failed h u₀ v₀ n k u' v'
-    run_ends s e' n k input' v' kept' d o =
+    pub run_ends : (s : State) (e' n k input' : List ℕ) (v' : Option (List ℕ)) (kept' : ℕ) (told : Bool) → TookBlock b (take end filled) v (lent_with s e' n k) input' v' kept' told → over ≡ true → Ran told failed h u₀ v₀ n k u' v'
+    run_ends s e' n k input' v' kept' told d o =
         record {
           blocks = g.blocks;
           settings = settings_with s e';
           is =
-              λ t. ap (λ (w : Waiting). w.bucket) d.takes
+              λ t. ap (λ (w : Waiting). w.bucket) (d.takes t)
               ∙ ap (left_by b) (ap ended_lines (c.ends o) ∙ closed_lines (take kept input) g.no_feed)
               ∙ ap (λ (w : Waiting). left_by w.bucket (lines_of w.begun)) g.leads
               ∙ blocks_left h [] g.blocks;
           reads = λ t. all_read o;
-          writes = λ t. run_written v' (lent_with s e' n k) input' kept' d o;
+          writes = λ t. run_written v' (lent_with s e' n k) input' kept' told d o t;
           at_end = λ t. c.at_end o;
           whole =
               λ t f. Consumes-whole u₀ u' (joined g.blocks) (λ (xs : List ℕ). Appends v₀ v' (printed_by h (lines_of xs))) (all_read o) (c.at_end o f)
-              (run_written v' (lent_with s e' n k) input' kept' d o);
+              (run_written v' (lent_with s e' n k) input' kept' told d o t);
         }
-
-    -- The last block is written, or nobody takes it.
-    run_tells : {E : Type 0} (r : Result Rest E) (e' n k input' : List ℕ) (v' : Option (List ℕ)) → IfOk r (λ (rest : Rest). TookBlock b (take end filled) v (lent_with rest.state e' n k) input' v' rest.kept) → over ≡ true
-        → Ran (is_ok r) failed h u₀ v₀ n k u' v'
-    run_tells (Ok rest) e' n k input' v' d o = run_ends rest.state e' n k input' v' rest.kept d o
-    run_tells (Err x) e' n k input' v' d o = run_stopped failed h u₀ v₀ n k u' v'
 
     -- The text up to its end is what was kept, and what came.
     came : take end filled ≡ take kept input ++ take (end - kept) (drop kept filled)
@@ -120,15 +113,15 @@ module _ (h : Lent) (e₀ input₀ out₀ : List ℕ) (u₀ v₀ : Option (List 
         (λ (t : List ℕ). written_by (waiting h []) g.blocks ++ t)
         (ap (λ (w : Waiting). printed_by w.bucket (ended_lines (w.begun ++ x))) (sym g.leads) ∙ ap (λ (t : List ℕ). printed_by b (ended_lines t)) (sym came))
 
-    next_block : (b' : Lent) (input' : List ℕ) (v' : Option (List ℕ)) (kept' : ℕ) → TookBlock b (take end filled) v b' input' v' kept' → (e' out' : List ℕ) → over ≡ false → length filled ≡ length input
+    pub next_block : (b' : Lent) (input' : List ℕ) (v' : Option (List ℕ)) (kept' : ℕ) (told : Bool) → TookBlock b (take end filled) v b' input' v' kept' told → (e' out' : List ℕ) → over ≡ false → told ≡ true → length filled ≡ length input
         → length input' ≡ length filled → length e' ≡ length e → length b'.numbers ≡ length b.numbers → length b'.keys ≡ length b.keys → length out' ≡ length out → BetweenBlocks h e₀ input₀ out₀ u₀ v₀ b' e' input' out' u' v' kept'
-    next_block b' input' v' kept' d e' out' o lf li le ln lk lo =
+    next_block b' input' v' kept' told d e' out' o t lf li le ln lk lo =
         let x = take (end - kept) (drop kept filled) in
-        let q : waiting b' (take kept' input') ≡ after_block (waiting b []) (take end filled) = d.takes in
+        let q : waiting b' (take kept' input') ≡ after_block (waiting b []) (take end filled) = d.takes t in
         record {
           blocks = g.blocks ++ x ∷ [];
           reads = subst (Consumes u₀ u') (sym (joined_more g.blocks x)) (Consumes-trans u₀ u u' _ _ g.reads (c.reads o));
-          writes = subst (Appends v₀ v') (sym (next_written)) (Appends-trans v₀ v v' _ _ g.writes d.writes);
+          writes = subst (Appends v₀ v') (sym (next_written)) (Appends-trans v₀ v v' _ _ g.writes (d.writes t));
           leads = q ∙ ap (after_block (waiting b [])) came ∙ ap (λ (w : Waiting). after_block w x) g.leads ∙ sym (left_append after_block (waiting h []) g.blocks (x ∷ []));
           servable = record { is_whole = d.is_whole; entries_long = le ∙ g.servable.entries_long; long = lo ∙ g.servable.long };
           entries_same = le ∙ g.entries_same;
@@ -143,12 +136,13 @@ module _ (h : Lent) (e₀ input₀ out₀ : List ℕ) (u₀ v₀ : Option (List 
 
   -- By what was read.
   module _ {A E : Type 0} (filled : List ℕ) (u' : Option (List ℕ)) (end : ℕ) (over : Option (Result A E)) (c : CameBehind input kept u filled u' end (is_some over) (failed_in over)) where
-    pub run_over : {F : Type 0} (read : Result A E) → over ≡ Some read → (r : Result Rest F) (e' n k input' : List ℕ) (v' : Option (List ℕ)) → IfOk r (λ (rest : Rest). TookBlock b (take end filled) v (lent_with rest.state e' n k) input' v' rest.kept)
-        → (t : Bool) → t ≡ is_ok r → Ran t (is_err read) h u₀ v₀ n k u' v'
-    run_over read w r e' n k input' v' d t q =
+    pub run_over : (read : Result A E) → over ≡ Some read → (s : State) (e' n k input' : List ℕ) (v' : Option (List ℕ)) (kept' : ℕ) (told : Bool) → TookBlock b (take end filled) v (lent_with s e' n k) input' v' kept' told
+        → Ran told (is_err read) h u₀ v₀ n k u' v'
+    run_over read w s e' n k input' v' kept' told d =
         let x : failed_in over ≡ is_err read = ap failed_in w in
-        rw (q, ← x) (run_tells filled u' end (is_some over) (failed_in over) c r e' n k input' v' d (ap is_some w))
+        rw (← x) (run_ends filled u' end (is_some over) (failed_in over) c s e' n k input' v' kept' told d (ap is_some w))
 
-    pub run_next : over ≡ None → (b' : Lent) (input' : List ℕ) (v' : Option (List ℕ)) (kept' : ℕ) → TookBlock b (take end filled) v b' input' v' kept' → (e' out' : List ℕ) → length filled ≡ length input
+    pub run_next : over ≡ None → {F G : Type 0} (written : Result F G) (x : F) → written ≡ Ok x → (b' : Lent) (input' : List ℕ) (v' : Option (List ℕ)) (kept' : ℕ) → TookBlock b (take end filled) v b' input' v' kept' (is_ok written)
+        → (e' out' : List ℕ) → length filled ≡ length input
         → length input' ≡ length filled → length e' ≡ length e → length b'.numbers ≡ length b.numbers → length b'.keys ≡ length b.keys → length out' ≡ length out → BetweenBlocks h e₀ input₀ out₀ u₀ v₀ b' e' input' out' u' v' kept'
-    run_next w b' input' v' kept' d e' out' = next_block filled u' end (is_some over) (failed_in over) c b' input' v' kept' d e' out' (ap is_some w)
+    run_next w written x q b' input' v' kept' d e' out' = next_block filled u' end (is_some over) (failed_in over) c b' input' v' kept' (is_ok written) d e' out' (ap is_some w) (ap is_ok q)

@@ -1,7 +1,7 @@
 -- Laws of the loops over a block: what holds between two lines, and between two parts.
 use Prim.Native.Nat.{ℕ, suc, ◌+◌, ◌-◌, ◌≤◌, ◌<◌}
 use mathlib.Core.Path.{◌≡◌, refl, sym, ◌∙◌, ap, ap₂, subst⁻¹}
-use mathlib.Core.Bool.{true}
+use mathlib.Core.Bool.{true, false}
 use mathlib.Core.List.{List, [], ◌∷◌, ◌++◌, append-nil}
 use native.Mathlib.Omega.{arith}
 use lib.ListN.{length, take, drop, length-take, length-drop, length-replicate, take-append-drop}
@@ -12,6 +12,7 @@ use Rattle.std.specs.Io.KnownBytes.{Appends}
 use Rattle.std.proofs.KnownBytes.{Appends-trans}
 use Rattle.buffers.specs.Ranges.{Within}
 use Rattle.buffers.specs.Writes.{placed, Wrote}
+use Rattle.buffers.proofs.Tests.{clash}
 use Rattle.buffers.proofs.Parts.{rest_all, part_cut}
 use Rattle.buffers.proofs.Writes.{wrote_both}
 use Rattle.text.specs.Lines.{lines_of, feed_at}
@@ -34,7 +35,7 @@ use Rattle.engine.specs.declared.Done.{Done}
 use Rattle.engine.specs.Served.{outcome_from}
 use Rattle.engine.proofs.Serving.{answer_fits}
 use Rattle.bucketrun.specs.Program.{answer_room, served_line, after_line, printed_line, left_by, printed_by, ended_length}
-use Rattle.bucketrun.specs.Course.{Servable, Through, BetweenLines, ServedSome, BetweenParts, ServedAll}
+use Rattle.bucketrun.specs.Course.{Through, BetweenLines, ServedSome, BetweenParts, ServedAll}
 use Rattle.bucketrun.proofs.Printing.{wrote_front, prints_answer}
 use Rattle.bucketrun.proofs.Lines.{none_feed, none_end, end_append, end_first, lines_append, lines_first}
 
@@ -236,5 +237,9 @@ module _ (h : Lent) (block e₀ out₀ : List ℕ) (w₀ : Option (List ℕ)) (b
           out_same = lo ∙ g.out_same;
         }
 
-    pub parts_done : {A E : Type 0} (w' : Option (List ℕ)) (r : Result A E) (x : A) → r ≡ Ok x → OnOk r (Appends w w' (take at out')) → at ≤ 65536 → ServedAll h block w₀ b' w' j
-    parts_done w' r x q p m = record { through = part_through; all = omega (arith, on, d.all m, end_rest h block i b g.through); writes = part_written w' (rw q at p) }
+    -- Nobody takes the output.
+    pub parts_stopped : (w' : Option (List ℕ)) → ServedAll h block w₀ b' w' j false
+    parts_stopped w' = record { through = part_through; all = λ x. absurd (clash false x refl); writes = λ x. absurd (clash false x refl) }
+
+    pub parts_done : {A E : Type 0} (w' : Option (List ℕ)) (r : Result A E) (x : A) → r ≡ Ok x → OnOk r (Appends w w' (take at out')) → at ≤ 65536 → ServedAll h block w₀ b' w' j true
+    parts_done w' r x q p m = record { through = part_through; all = λ y. omega (arith, on, d.all m, end_rest h block i b g.through); writes = λ y. part_written w' (rw q at p) }

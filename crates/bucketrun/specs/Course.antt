@@ -58,11 +58,11 @@ pub record BetweenParts (h : Lent) (block entries₀ out₀ : List ℕ) (written
   pub keys_same : length b.keys ≡ length h.keys
   pub out_same : length out ≡ length out₀
 
--- Lines are served and written: all that a line feed ends.
-pub record ServedAll (h : Lent) (block : List ℕ) (written₀ : Option (List ℕ)) (b : Lent) (written : Option (List ℕ)) (i : ℕ) : Type 0 where
+-- Lines are served and written: all that a line feed ends, where all output was taken.
+pub record ServedAll (h : Lent) (block : List ℕ) (written₀ : Option (List ℕ)) (b : Lent) (written : Option (List ℕ)) (i : ℕ) (told : Bool) : Type 0 where
   pub through : Through h block i b
-  pub all : i ≡ ended_length block
-  pub writes : Appends written₀ written (printed_by h (lines_of (take i block)))
+  pub all : told ≡ true → i ≡ ended_length block
+  pub writes : told ≡ true → Appends written₀ written (printed_by h (lines_of (take i block)))
 
 -- ## The blocks
 
@@ -81,12 +81,12 @@ pub record CameBehind (input : List ℕ) (kept : ℕ) (unread₀ : Option (List 
   pub rests : over ≡ true → Consumes unread₀ unread []
   pub at_end : over ≡ true → failed ≡ false → IsAtEnd unread
 
--- A block is served and its output written, and the start of a line may be kept: what stands then is what the block leaves.
-pub record TookBlock (h : Lent) (block : List ℕ) (written₀ : Option (List ℕ)) (b : Lent) (input : List ℕ) (written : Option (List ℕ)) (kept : ℕ) : Type 0 where
+-- A block is served, and the start of a line may be kept: what stands then is what the block leaves, where all output was taken.
+pub record TookBlock (h : Lent) (block : List ℕ) (written₀ : Option (List ℕ)) (b : Lent) (input : List ℕ) (written : Option (List ℕ)) (kept : ℕ) (told : Bool) : Type 0 where
   pub is_whole : whole b ≡ true
   pub few : kept ≤ 513
-  pub takes : waiting b (take kept input) ≡ after_block (waiting h []) block
-  pub writes : Appends written₀ written (printed_by h (ended_lines block))
+  pub takes : told ≡ true → waiting b (take kept input) ≡ after_block (waiting h []) block
+  pub writes : told ≡ true → Appends written₀ written (printed_by h (ended_lines block))
 
 -- A run may start.
 pub record Startable (b : Lent) (entries input out : List ℕ) : Type 0 where

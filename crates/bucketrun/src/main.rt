@@ -2,7 +2,7 @@
 // All that is owed is written before more is read, so that whoever waits for an answer has it.
 #![tactic(auto)]
 
-ghost use Rattle.std.specs.Prelude.{◌+◌, ◌≤◌, ◌<◌, ◌≡◌, length, take, drop, replicate, is_some, is_ok, is_err, IfOk};
+ghost use Rattle.std.specs.Prelude.{◌+◌, ◌≤◌, ◌<◌, ◌≡◌, length, take, drop, replicate, is_some, is_ok, is_err};
 ghost use Rattle.buffers.specs.Ranges.{Span};
 ghost use Rattle.buffers.specs.Writes.{Wrote};
 ghost use Rattle.bucket.specs.Whole.{lent_with};
@@ -12,7 +12,6 @@ ghost use Rattle.bucketrun.specs.Course.{Servable, ServedSome, ServedAll, failed
 
 use model::Refusal;
 use settings::State;
-use std::io;
 use std::io::{ErrorKind, Read, Write};
 
 // The length of the answer buffer; no more output than that waits when a line comes.
@@ -29,32 +28,34 @@ pub struct Course {
     pub served: usize,
 }
 
-// After a block whose output is written: the state, and how many of its bytes are served.
+// After a block: the state, how many of its bytes are served, and whether all output is written.
 #[derive(Clone, Copy)]
 pub struct Block {
     pub state: State,
     pub served: usize,
+    pub written: Result<(), ErrorKind>,
 }
 
 // After a read: the place behind the bytes that are there, and, where no more come, whether reading failed.
-#[derive(Drop)]
+#[derive(Clone, Copy)]
 pub struct Came {
     pub end: usize,
-    pub over: Option<io::Result<()>>,
+    pub over: Option<Result<(), ErrorKind>>,
 }
 
-// Before the next block: the state, and how many bytes at the input's front are kept.
+// Before the next block: the state, how many bytes at the input's front are kept, and whether all output is written.
 #[derive(Clone, Copy)]
 pub struct Rest {
     pub state: State,
     pub kept: usize,
+    pub written: Result<(), ErrorKind>,
 }
 
-// After the run: whether reading failed, and whether writing did.
-#[derive(Drop)]
+// After the run: whether reading failed, and whether all output is written.
+#[derive(Clone, Copy)]
 pub struct End {
-    pub read: io::Result<()>,
-    pub written: io::Result<()>,
+    pub read: Result<(), ErrorKind>,
+    pub written: Result<(), ErrorKind>,
 }
 
 // Prints a refusal at a place of the output, and returns the place after it.
@@ -118,9 +119,9 @@ fn serve_all<W: Write>(
     rows: &mut [u64],
     keys: &mut [u8],
     out: &mut [u8],
-) -> io::Result<Block>
+) -> Block
     requires { Servable (lent_with s entries.old rows.old keys.old) entries.old out.old }
-    ensures { IfOk result (λ after. ServedAll (lent_with s entries.old rows.old keys.old) block.now (W.contents writer.old) (lent_with after.state entries.new rows.new keys.new) (W.contents writer.new) after.served) }
+    ensures { ServedAll (lent_with s entries.old rows.old keys.old) block.now (W.contents writer.old) (lent_with result.state entries.new rows.new keys.new) (W.contents writer.new) result.served (is_ok result.written) }
 {
     let mut after = s;
     let mut i = 0;
@@ -130,12 +131,19 @@ fn serve_all<W: Write>(
         after = course.state;
         i = course.served;
         let at = course.at;
-        streams::write_whole(writer, &out[..at])?;
-        if at <= ROOM {
-            return Ok(Block {
+        if let Err(error) = streams::write_whole(writer, &out[..at]) {
+            return Block {
                 state: after,
                 served: i,
-            });
+                written: Err(error.kind()),
+            };
+        }
+        if at <= ROOM {
+            return Block {
+                state: after,
+                served: i,
+                written: Ok(()),
+            };
         }
     }
 }
@@ -153,7 +161,7 @@ fn read_behind<R: Read>(reader: &mut R, input: &mut [u8], kept: usize) -> Came
             };
         }
         Ok(_) => Ok(()),
-        Err(error) => Err(error),
+        Err(error) => Err(error.kind()),
     };
     if kept == 0 {
         return Came {
@@ -188,17 +196,18 @@ fn serve_block<W: Write>(
     rows: &mut [u64],
     keys: &mut [u8],
     out: &mut [u8],
-) -> io::Result<Rest>
+) -> Rest
     requires end_in_bounds { end ≤ length input.old }
     requires servable { Servable (lent_with s entries.old rows.old keys.old) entries.old out.old }
-    ensures { IfOk result (λ rest. TookBlock (lent_with s entries.old rows.old keys.old) (take end input.old) (W.contents writer.old) (lent_with rest.state entries.new rows.new keys.new) input.new (W.contents writer.new) rest.kept) }
+    ensures { TookBlock (lent_with s entries.old rows.old keys.old) (take end input.old) (W.contents writer.old) (lent_with result.state entries.new rows.new keys.new) input.new (W.contents writer.new) result.kept (is_ok result.written) }
 {
-    let block = serve_all(writer, &input[..end], s, entries, rows, keys, out)?;
+    let block = serve_all(writer, &input[..end], s, entries, rows, keys, out);
     let kept = keep(input, block.served, end);
-    Ok(Rest {
+    Rest {
         state: block.state,
         kept,
-    })
+        written: block.written,
+    }
 }
 
 // Serves the input block by block, up to its end or to where reading or writing fails.
@@ -220,31 +229,25 @@ fn run<R: Read, W: Write>(
     let mut kept = 0;
     for _ in 0..u64::MAX {
         let came = read_behind(reader, input, kept);
-        let served = serve_block(writer, input, came.end, after, entries, rows, keys, out);
-        match came.over {
-            Some(read) => {
-                return End {
-                    read,
-                    written: served.map(|_| ()),
-                };
-            }
-            None => match served {
-                Ok(rest) => {
-                    after = rest.state;
-                    kept = rest.kept;
-                }
-                Err(error) => {
-                    return End {
-                        read: Ok(()),
-                        written: Err(error),
-                    };
-                }
-            },
+        let rest = serve_block(writer, input, came.end, after, entries, rows, keys, out);
+        if let Some(read) = came.over {
+            return End {
+                read,
+                written: rest.written,
+            };
         }
+        if let Err(error) = rest.written {
+            return End {
+                read: Ok(()),
+                written: Err(error),
+            };
+        }
+        after = rest.state;
+        kept = rest.kept;
     }
     End {
         read: Ok(()),
-        written: Err(io::Error::from(ErrorKind::Other)),
+        written: Err(ErrorKind::Other),
     }
 }
 
