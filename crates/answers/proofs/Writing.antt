@@ -17,6 +17,10 @@ use Rattle.answers.specs.Text.{longest_answer, fields_text, ok_text, data_fields
 
 -- ## A field: with its tab at most 25 bytes
 
+pub tab_then : (out : List ℕ) (a : ℕ) (m : List ℕ) (r : ℕ) (f : List ℕ) (j : ℕ) (exit : List ℕ) (q : ℕ)
+    → Wrote out a (9 ∷ []) 1 m r → Wrote m r f j exit q → a + 25 ≤ length out → j ≤ 24 → Wrote out a (9 ∷ f) 25 exit q
+tab_then out a m r f j exit q x y h n = wrote_wider (wrote_both out a (9 ∷ []) 1 m r f j exit q (omega arith) x y) (omega arith)
+
 pub field_as : (out : List ℕ) (a : ℕ) (f g : List ℕ) (exit : List ℕ) (r : ℕ) → Wrote out a (9 ∷ f) 25 exit r → f ≡ g → Wrote out a (9 ∷ g) 25 exit r
 field_as out a f g exit r w e = rw e at w
 

@@ -2,7 +2,8 @@
 use Prim.Native.Nat.{ℕ, zero, suc, ◌+◌, ◌-◌, ◌*◌, ◌≤◌, ◌<◌}
 use mathlib.Core.Path.{◌≡◌, refl, sym, ap, ◌∙◌}
 use mathlib.Core.Bool.{true}
-use mathlib.Core.List.{List, [], ◌∷◌, ◌++◌, append_assoc, append-nil}
+use mathlib.Core.List.{List, [], ◌∷◌, ◌++◌, map, append_assoc, append-nil}
+use Rattle.std.proofs.lemmas.List.{length-map}
 use native.Mathlib.Omega.{arith}
 use native.Mathlib.Nat.{add-zero}
 use lib.ListN.{length, get_or, take, drop, set, replicate, length-append, length-set, take-append-drop, length-drop}
@@ -19,7 +20,7 @@ use Rattle.table.proofs.Held.{rows_length}
 use Rattle.model.proofs.Sweeping.{carried_append}
 use Rattle.apply.specs.Passes.{kept, unless_gone, InBuffers, Put, Thinned}
 use Rattle.apply.proofs.Flat.{free, padded, padded_length, Lay, lay_numbers, lay_keys, lay_put, lay_set, lay_row, lay_block, holds_lay, lay_holds}
-use Rattle.apply.proofs.Passes.{marks_few, kept_append, kept_marks, carried_length, carried_fit}
+use Rattle.apply.proofs.Passes.{read_fate, marks_few, kept_append, kept_marks, carried_length, carried_fit}
 
 -- the fates of the first so many rows, and those of them that are left
 abbrev firsts : List Fate → ℕ → List Fate
@@ -272,9 +273,14 @@ module _ (t next u : ℕ) (m : List Fate) (c : ℕ) (xs : List Row) where
             keys = let a = lay_keys lay' in omega arith;
           }
 
+-- The fate in front of the place where the pass stands.
+pub mark_read : {A : Type 0} (fate_in : A → Fate) (fs : List A) (t next u c : ℕ) (xs : List Row) (n b : List ℕ) (j i k : ℕ) (r : A) (f v : Fate) → Marking t next u (map fate_in fs) c xs n b j i k → 0 < k
+    → r ≡ get_or fs (j - 1) r → f ≡ fate_in r → f ≡ v → get_or (map fate_in fs) (j - 1) Stays ≡ v
+mark_read fate_in fs t next u c xs n b j i k r f v p h g e d = read_fate fate_in fs (j - 1) r f e g (omega (arith, p.most, p.behind, h, length-map fs fate_in)) ∙ d
+
 pub mark_start : (t next u : ℕ) (m : List Fate) (n b : List ℕ) (left added : ℕ) → Thinned n b left u m added next
     → Marking t next u m (capacity b) (rows_of n b left) n b u left added
 mark_start t next u m n b left added h =
     marking_start t next u m (capacity b) (rows_of n b left) n b left added (rows_length n b left) h.holds h.each h.rest h.markers h.room h.numbers
 
-pub ruleset mark_cases = (refl, mark_start, mark_goes, mark_row, mark_place, mark_behind, mark_stays, mark_gains, mark_end)
+pub ruleset mark_cases = (refl, mark_start, mark_goes, mark_row, mark_place, mark_behind, mark_stays, mark_gains, mark_end, mark_read)

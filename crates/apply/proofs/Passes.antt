@@ -1,12 +1,13 @@
 -- Laws of the two passes on lists: what is kept, and what is carried out on it.
-use Prim.Native.Nat.{ℕ, ◌+◌, ◌-◌, ◌≤◌}
-use mathlib.Core.Path.{◌≡◌, refl, ap}
+use Prim.Native.Nat.{ℕ, ◌+◌, ◌-◌, ◌≤◌, ◌<◌}
+use mathlib.Core.Path.{◌≡◌, refl, sym, ap, ◌∙◌}
 use mathlib.Core.Bool.{true}
-use mathlib.Core.List.{List, [], ◌∷◌, ◌++◌, append_assoc}
+use mathlib.Core.List.{List, [], ◌∷◌, ◌++◌, map, append_assoc}
+use Rattle.std.proofs.lemmas.List.{get_or-map}
 use native.Mathlib.Omega.{arith}
 use native.Mathlib.Nat.{add-zero}
 use lib.Dec.{leb}
-use lib.ListN.{length, length-append}
+use lib.ListN.{length, get_or, length-append}
 use Rattle.buffers.specs.Lists.{total}
 use Rattle.buffers.proofs.Tests.{and_l, and_r}
 use Rattle.buffers.proofs.Lists.{all_append}
@@ -16,6 +17,11 @@ use Rattle.model.specs.declared.Fate.TheVariants.{Stays, Goes, Gains}
 use Rattle.model.specs.Sweep.{in_place, marker, marks, removes, carried_out}
 use Rattle.table.specs.Layout.{keys_fit}
 use Rattle.apply.specs.Passes.{kept, unless_gone}
+
+-- ## A fate that is kept
+
+pub read_fate : {A : Type 0} (fate_in : A → Fate) (m : List A) (i : ℕ) (r : A) (f : Fate) → f ≡ fate_in r → r ≡ get_or m i r → i < length m → get_or (map fate_in m) i Stays ≡ f
+read_fate fate_in m i r f e g h = get_or-map fate_in m i r Stays h ∙ ap fate_in (sym g) ∙ sym e
 
 -- ## One list after another
 

@@ -2,7 +2,8 @@
 use Prim.Native.Nat.{ℕ, suc, ◌+◌, ◌-◌, ◌*◌, ◌≤◌, ◌<◌}
 use mathlib.Core.Path.{◌≡◌, refl, sym, ap, ◌∙◌}
 use mathlib.Core.Bool.{Bool, true, false, not}
-use mathlib.Core.List.{List, [], ◌∷◌, ◌++◌, append_assoc, append-nil}
+use mathlib.Core.List.{List, [], ◌∷◌, ◌++◌, map, append_assoc, append-nil}
+use Rattle.std.proofs.lemmas.List.{length-map}
 use native.Mathlib.Omega.{arith}
 use native.Mathlib.Numerals.{add-one}
 use lib.ListN.{length, get_or, take, drop, set, replicate, length-set, drop_of_length-le, replicate-append-replicate}
@@ -17,7 +18,7 @@ use Rattle.table.specs.Layout.{Holds, rows_of, keys_fit}
 use Rattle.table.proofs.Held.{rows_length}
 use Rattle.apply.specs.Passes.{kept, unless_gone, Remaining, Put}
 use Rattle.apply.proofs.Flat.{free, padded, padded_length, Lay, lay_numbers, lay_keys, lay_set, lay_row, lay_block, lay_free, holds_lay, lay_holds}
-use Rattle.apply.proofs.Passes.{kept_more, kept_fit}
+use Rattle.apply.proofs.Passes.{read_fate, kept_more, kept_fit}
 
 -- What a test for going tells of a fate.
 not_going : (v : Fate) (q : Bool) → q ≡ not (sameb the_type v Goes) → q ≡ true → v ≡ Goes → ⊥
@@ -83,9 +84,9 @@ module _ (u : ℕ) (m : List Fate) (c : ℕ) where
           let l = length-take-le u m g in
           rw (drop-cons (take u m) i Stays (omega arith), drop-cons p.table i free (omega arith), get_or-take u m i Stays h)
 
-      pub remove_goes : (q : Bool) → q ≡ not (sameb the_type (get_or m i Stays) Goes) → q ≡ false → Removing u m c xs n b w (i + 1)
-      remove_goes q f t =
-          let e = going (get_or m i Stays) q f t in
+      pub remove_goes : (v : Fate) (q : Bool) → q ≡ not (sameb the_type v Goes) → q ≡ false → get_or m i Stays ≡ v → Removing u m c xs n b w (i + 1)
+      remove_goes v q f t d =
+          let e = d ∙ going v q f t in
           let l = p.low in
           record {
             table = p.table;
@@ -102,10 +103,10 @@ module _ (u : ℕ) (m : List Fate) (c : ℕ) where
             keys = p.keys;
           }
 
-      pub remove_stays : (n' b' : List ℕ) (r : Bool) → r ≡ not (sameb the_type (get_or m i Stays) Goes) → r ≡ true → Put w (take 8 (drop (8 * i) n)) (take 64 (drop (64 * i) b)) n b n' b'
+      pub remove_stays : (n' b' : List ℕ) (v : Fate) (r : Bool) → r ≡ not (sameb the_type v Goes) → r ≡ true → get_or m i Stays ≡ v → Put w (take 8 (drop (8 * i) n)) (take 64 (drop (64 * i) b)) n b n' b'
           → Removing u m c xs n' b' (w + 1) (i + 1)
-      remove_stays n' b' r f t q =
-          let e = not_going (get_or m i Stays) r f t in
+      remove_stays n' b' v r f t d q =
+          let e : get_or m i Stays ≡ Goes → ⊥ = λ h. not_going v r f t (sym d ∙ h) in
           let x : Row = get_or p.table i free in
           let s = p.size in
           let l = p.low in
@@ -149,7 +150,12 @@ module _ (u : ℕ) (m : List Fate) (c : ℕ) where
           many = sym j;
         }
 
-pub remove_start : (u : ℕ) (m : List Fate) (c : ℕ) (n b : List ℕ) → Holds c (rows_of n b u) n b → u ≤ length m → Removing u m c (rows_of n b u) n b 0 0
-remove_start u m c n b h g = removing_start u m c (rows_of n b u) n b (rows_length n b u) h g
+module _ {A : Type 0} (fate_in : A → Fate) (fs : List A) where
+  pub remove_start : (u c : ℕ) (n b : List ℕ) → Holds c (rows_of n b u) n b → u ≤ length fs → Removing u (map fate_in fs) c (rows_of n b u) n b 0 0
+  remove_start u c n b h g = removing_start u (map fate_in fs) c (rows_of n b u) n b (rows_length n b u) h (omega (arith, g, length-map fs fate_in))
 
-pub ruleset remove_cases = (remove_start, remove_goes, remove_stays, remove_end)
+  -- The fate at the place where the pass stands.
+  pub remove_read : (u c : ℕ) (xs : List Row) (n b : List ℕ) (w i : ℕ) (r : A) (f : Fate) → Removing u (map fate_in fs) c xs n b w i → i < u → r ≡ get_or fs i r → f ≡ fate_in r → get_or (map fate_in fs) i Stays ≡ f
+  remove_read u c xs n b w i r f p h g e = read_fate fate_in fs i r f e g (omega (arith, p.each, h, length-map fs fate_in))
+
+pub ruleset remove_cases = (remove_start, remove_goes, remove_stays, remove_end, remove_read)

@@ -1,7 +1,8 @@
 -- The two passes, one after the other.
 use Prim.Native.Nat.{ℕ, ◌≤◌}
 use mathlib.Core.Path.{◌≡◌, refl, sym, ap, ◌∙◌}
-use mathlib.Core.List.{List}
+use mathlib.Core.List.{List, map}
+use Rattle.std.proofs.lemmas.List.{length-map}
 use native.Mathlib.Omega.{arith}
 use lib.ListN.{length, take}
 use lib.Seq.{length-take-le}
@@ -14,11 +15,12 @@ use Rattle.apply.specs.Passes.{kept, Carriable, Thinned, Remaining}
 use Rattle.apply.proofs.Passes.{kept_length, kept_all, two_passes}
 
 -- No row goes.
-pub none_goes : (n b : List ℕ) (used : ℕ) (m : List Fate) (gone : ℕ) → Holds (capacity b) (rows_of n b used) n b → used ≤ length m
-    → gone ≡ total removes (take used m) → gone ≡ 0 → Remaining (capacity b) (kept (take used m) (rows_of n b used)) n b used
-none_goes n b used m gone h g e z =
+pub none_goes : {A : Type 0} (fate_in : A → Fate) (fs : List A) (n b : List ℕ) (used gone : ℕ) → Holds (capacity b) (rows_of n b used) n b → used ≤ length fs
+    → gone ≡ total removes (take used (map fate_in fs)) → gone ≡ 0 → Remaining (capacity b) (kept (take used (map fate_in fs)) (rows_of n b used)) n b used
+none_goes fate_in fs n b used gone h g e z =
+    let m = map fate_in fs in
     let l = rows_length n b used in
-    let t = length-take-le used m g in
+    let t = length-take-le used m (omega (arith, g, length-map fs fate_in)) in
     let k : kept (take used m) (rows_of n b used) ≡ rows_of n b used = kept_all (take used m) (rows_of n b used) (omega arith) (sym e ∙ z) in
     rw k (record { holds = h; many = sym l })
 

@@ -3,11 +3,12 @@
 
 mod sweep;
 
+ghost use Rattle.std.specs.Prelude.{map};
 ghost use Rattle.table.specs.Layout.{rows_of, capacity};
 ghost use Rattle.apply.specs.Applied.{judged, Applicable, Applied};
 
 use judge::Change;
-use model::Fate;
+use model::FateCell;
 
 // The counts of a table after a change: the used rows and the next version number.
 #[derive(Clone, Copy)]
@@ -17,7 +18,7 @@ pub struct Progress {
 }
 
 // Carries a change out.
-pub fn apply_change(
+pub fn apply_change<F: FateCell>(
     rows: &mut [u64],
     keys: &mut [u8],
     line: &[u8],
@@ -25,10 +26,10 @@ pub fn apply_change(
     next: u64,
     change: Change,
     instant: u64,
-    fates: &[Fate],
+    fates: &[F],
 ) -> Progress
-    requires { Applicable (judged line.now next instant fates.now) rows.old keys.old used change }
-    ensures { Applied (judged line.now next instant fates.now) (capacity keys.old) (rows_of rows.old keys.old used) change rows.new keys.new result }
+    requires { Applicable (judged line.now next instant (map F.fate_in fates.now)) rows.old keys.old used change }
+    ensures { Applied (judged line.now next instant (map F.fate_in fates.now)) (capacity keys.old) (rows_of rows.old keys.old used) change rows.new keys.new result }
 {
     match change {
         Change::Keep => Progress { used, next },
@@ -57,5 +58,33 @@ pub fn apply_change(
                 next: next + new as u64,
             }
         }
+    }
+}
+
+#[cfg(test)]
+mod tests {
+    use super::*;
+
+    // As bytes, 1 goes, and one that is no fate's stays.
+    #[test]
+    fn reads_fates_as_bytes(rt: HostRuntime) {
+        let mut rows = [0; 16];
+        rows[0] = 5;
+        rows[8] = 4;
+        let mut keys = [0; 128];
+        let fates = [9u8, 1];
+        let left = apply_change(
+            &mut rows,
+            &mut keys,
+            b"",
+            2,
+            6,
+            Change::Sweep(1, 0),
+            0,
+            &fates,
+        );
+        assert_eq!(rt; left.used, 1);
+        assert_eq!(rt; rows[0], 5);
+        assert_eq!(rt; rows[8], 0);
     }
 }

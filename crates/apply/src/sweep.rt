@@ -1,11 +1,11 @@
 // SWEEP carried out in the lent table: the rows that go are left out, then markers come in. The definitions are in specs/.
-ghost use Rattle.std.specs.Prelude.{◌≡◌, [], ◌++◌, ◌+◌, ◌-◌, ◌*◌, ◌≤◌, length, take, drop, replicate};
+ghost use Rattle.std.specs.Prelude.{◌≡◌, [], ◌++◌, ◌+◌, ◌-◌, ◌*◌, ◌≤◌, length, take, drop, map, replicate};
 ghost use Rattle.buffers.specs.Lists.{total};
 ghost use Rattle.model.specs.Sweep.{marker, removes, carried_out};
 ghost use Rattle.table.specs.Layout.{Holds, numbers_of_row, rows_of, capacity};
 ghost use Rattle.apply.specs.Passes.{kept, Carriable, Thinned, Remaining, InBuffers, Put};
 
-use model::{Fate, Kind};
+use model::{Fate, FateCell, Kind};
 
 // The N elements of the row at a place: its eight numbers, or its 64 key bytes.
 #[tactic(auto, using(buffers::proofs::Parts::part_cut))]
@@ -82,13 +82,13 @@ fn free_rows(rows: &mut [u64], keys: &mut [u8], at: usize, count: usize)
 }
 
 // Leaves out the rows that go, and returns how many are left. Each row is copied at most once.
-fn remove_rows(rows: &mut [u64], keys: &mut [u8], used: usize, fates: &[Fate]) -> usize
+fn remove_rows<F: FateCell>(rows: &mut [u64], keys: &mut [u8], used: usize, fates: &[F]) -> usize
     requires { Holds (capacity keys.old) (rows_of rows.old keys.old used) rows.old keys.old × (used ≤ length fates.now) }
-    ensures { Remaining (capacity keys.old) (kept (take used fates.now) (rows_of rows.old keys.old used)) rows.new keys.new result }
+    ensures { Remaining (capacity keys.old) (kept (take used (map F.fate_in fates.now)) (rows_of rows.old keys.old used)) rows.new keys.new result }
 {
     let mut left = 0;
     for at in 0..used {
-        if fates[at] != Fate::Goes {
+        if fates[at].fate() != Fate::Goes {
             copy_row(rows, keys, at, left);
             left += 1;
         }
@@ -98,10 +98,16 @@ fn remove_rows(rows: &mut [u64], keys: &mut [u8], used: usize, fates: &[Fate]) -
 }
 
 // Leaves out the rows that go, if any, and returns how many are left.
-fn thin(rows: &mut [u64], keys: &mut [u8], used: usize, fates: &[Fate], gone: usize) -> usize
+fn thin<F: FateCell>(
+    rows: &mut [u64],
+    keys: &mut [u8],
+    used: usize,
+    fates: &[F],
+    gone: usize,
+) -> usize
     requires holds { Holds (capacity keys.old) (rows_of rows.old keys.old used) rows.old keys.old × (used ≤ length fates.now) }
-    requires gone_value { gone ≡ total removes (take used fates.now) }
-    ensures { Remaining (capacity keys.old) (kept (take used fates.now) (rows_of rows.old keys.old used)) rows.new keys.new result }
+    requires gone_value { gone ≡ total removes (take used (map F.fate_in fates.now)) }
+    ensures { Remaining (capacity keys.old) (kept (take used (map F.fate_in fates.now)) (rows_of rows.old keys.old used)) rows.new keys.new result }
 {
     if gone == 0 {
         return used;
@@ -110,18 +116,18 @@ fn thin(rows: &mut [u64], keys: &mut [u8], used: usize, fates: &[Fate], gone: us
 }
 
 // Puts markers in front of the rows that gain one, from the last to the first. Each row is copied at most once.
-fn insert_markers(
+fn insert_markers<F: FateCell>(
     rows: &mut [u64],
     keys: &mut [u8],
     left: usize,
     used: usize,
-    fates: &[Fate],
+    fates: &[F],
     added: usize,
     next: u64,
     stamp: u64,
 )
-    requires { Thinned rows.old keys.old left used fates.now added next }
-    ensures { Holds (capacity keys.old) (carried_out stamp next (kept (take used fates.now) (take used fates.now)) (rows_of rows.old keys.old left)) rows.new keys.new }
+    requires { Thinned rows.old keys.old left used (map F.fate_in fates.now) added next }
+    ensures { Holds (capacity keys.old) (carried_out stamp next (kept (take used (map F.fate_in fates.now)) (take used (map F.fate_in fates.now))) (rows_of rows.old keys.old left)) rows.new keys.new }
 {
     let mut j = used;
     let mut i = left;
@@ -129,7 +135,7 @@ fn insert_markers(
     // Three places go back, each at a pace of its own, so that no range counts them.
     while 0 < k {
         j -= 1;
-        match fates[j] {
+        match fates[j].fate() {
             Fate::Goes => {}
             Fate::Stays => {
                 i -= 1;
@@ -145,18 +151,18 @@ fn insert_markers(
 }
 
 // Carries out the fates of the used rows: those that go are left out, then markers come in, numbered from `next` on.
-pub fn carry_out(
+pub fn carry_out<F: FateCell>(
     rows: &mut [u64],
     keys: &mut [u8],
     used: usize,
-    fates: &[Fate],
+    fates: &[F],
     gone: usize,
     added: usize,
     next: u64,
     stamp: u64,
 )
-    requires { Carriable rows.old keys.old used fates.now gone added next }
-    ensures { Holds (capacity keys.old) (carried_out stamp next (take used fates.now) (rows_of rows.old keys.old used)) rows.new keys.new }
+    requires { Carriable rows.old keys.old used (map F.fate_in fates.now) gone added next }
+    ensures { Holds (capacity keys.old) (carried_out stamp next (take used (map F.fate_in fates.now)) (rows_of rows.old keys.old used)) rows.new keys.new }
 {
     let left = thin(rows, keys, used, fates, gone);
     insert_markers(rows, keys, left, used, fates, added, next, stamp);

@@ -5,8 +5,8 @@ use mathlib.Core.List.{List, [], ◌∷◌, ◌++◌, append_assoc, append-nil}
 use native.Mathlib.Omega.{arith}
 use native.Mathlib.Numerals.{add-one}
 use native.Mathlib.Nat.{le_of_eq}
-use lib.ListN.{length, take, drop, set, replicate, length-replicate, get_or, length-append, length-take, length-drop, take-append-drop, drop_of_length-le}
-use lib.Seq.{take_at, drop_at, drop-drop, set_at, drop-cons, append_snoc, length-take-le, take-length}
+use lib.ListN.{length, take, drop, set, replicate, length-replicate, get_or, length-append, length-set, length-take, length-drop, take-append-drop, drop_of_length-le}
+use lib.Seq.{take_at, drop_at, drop-drop, set_split, set_at, drop-cons, append_snoc, length-take-le, take-length}
 use borrow.Rule.Slice.PartMut.{put_mid}
 use Rattle.std.proofs.lemmas.Slice.{put_mid-paste}
 use Rattle.std.proofs.lemmas.List.{replicate_more}
@@ -38,6 +38,15 @@ module _ {A : Type 0} where
         next = simp length-append (omega arith);
         holds = y.holds ∙ rw (x.holds, x.next) (placed_twice out a vs ws h);
         long = y.long ∙ x.long;
+        most = omega arith;
+      }
+
+  pub wrote_byte : (out : List A) (a : ℕ) (x : A) → a < length out → Wrote out a (x ∷ []) 1 (set out a x) (a + 1)
+  wrote_byte out a x h =
+      record {
+        next = refl;
+        holds = rw add-one (set_split out a x h ∙ sym (append_snoc (take a out) x (drop (suc a) out)));
+        long = length-set out a x;
         most = omega arith;
       }
 

@@ -1,11 +1,13 @@
 -- A plan carried out: what is returned and left is its decision, done.
 use Rattle.model.specs.declared.Fate.{Fate}
+use Rattle.model.specs.Fates.{same_fate}
 use Prim.Native.Nat.{ℕ, ◌+◌}
-use mathlib.Core.Path.{refl, ◌≡◌, sym, ◌∙◌, ap}
+use mathlib.Core.Path.{◌≡◌, sym, ◌∙◌, ap}
 use mathlib.Core.Bool.{true}
-use mathlib.Core.List.{List, ◌++◌}
+use mathlib.Core.List.{List, ◌++◌, map}
 use Rattle.std.specs.Prelude.{None}
 use native.Mathlib.Omega.{arith}
+use Rattle.std.proofs.lemmas.List.{map-id}
 use lib.ListN.{length, drop}
 use Rattle.buffers.specs.Writes.{Wrote}
 use Rattle.model.specs.Requests.{Verb, setting_of}
@@ -68,19 +70,24 @@ pub settings_after_lem : (s : State) (us : List Rule) (v : Verb) (now used next 
 unfolding config_after
 settings_after_lem s us v now used next e h = rw e (sym (means_back (settings_by (with_progress s now used next) us) h))
 
+-- A fate is kept as it is.
+pub kept_fates : (fates : List Fate) → map same_fate fates ≡ fates
+kept_fates fates = map-id fates
+
 module _ (s : State) (n keys line a : List ℕ) (plan : Plan) (now : ℕ) (fates : List Fate) (p : CanCarryOut s n keys line a plan now fates) where
-  pub plan_can : Applicable (judged line s.next now fates) n keys s.used plan.change
+  pub plan_can : Applicable (judged line s.next now (map same_fate fates)) n keys s.used plan.change
   plan_can =
       let r = p.ready in
-      record { held = p.held; can = p.feasible.0; small = r.capacity_fits; used_small = omega (arith, r.used_fits, r.capacity_fits) }
+      rw (kept_fates fates) (record { held = p.held; can = p.feasible.0; small = r.capacity_fits; used_small = omega (arith, r.used_fits, r.capacity_fits) })
 
   pub plan_prints : Printable plan.answer
   plan_prints = p.feasible.1
 
   pub plan_done : (n' keys' a' : List ℕ) (g : Progress) (len : ℕ)
-      → Applied (judged line s.next now fates) (capacity keys) (rows_of n keys s.used) plan.change n' keys' g → Wrote a 0 (text_of plan.answer) longest_answer a' len
+      → Applied (judged line s.next now (map same_fate fates)) (capacity keys) (rows_of n keys s.used) plan.change n' keys' g → Wrote a 0 (text_of plan.answer) longest_answer a' len
       → CarriedOut s n keys line a plan now fates (record { len = len; state = with_progress s now g.used g.next }) n' keys' a'
-  plan_done n' keys' a' g len d w =
+  plan_done n' keys' a' g len e w =
+      let d : Applied (judged line s.next now fates) (capacity keys) (rows_of n keys s.used) plan.change n' keys' g = rw (kept_fates fates) at e in
       record {
         is = λ us v h c. carried_is (settings_by s us) n keys now v a (plan_means (judged line s.next now fates) (rows_of n keys s.used) plan) _ len _ n' keys' a' w
             (rw (d.used_is, d.next_is) (settings_after_lem s us v now _ _ c h))

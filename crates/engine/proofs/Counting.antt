@@ -1,5 +1,6 @@
 -- The count of a call: that of SWEEP by its verdict, none for any other line.
 use Rattle.model.specs.declared.Fate.{Fate}
+use Rattle.model.specs.Fates.{same_fate}
 use Rattle.std.specs.Prelude.{Result, Ok, Err}
 use Rattle.model.specs.declared.Refusal.{Refusal}
 use Rattle.screen.specs.declared.Passed.{Passed}
@@ -7,7 +8,7 @@ use Rattle.model.proofs.Facts.{number_not_0}
 use Prim.Native.Nat.{ℕ}
 use mathlib.Core.Path.{◌≡◌, refl, sym, ◌∙◌, ap}
 use mathlib.Core.Bool.{Bool, true, false}
-use mathlib.Core.List.{List}
+use mathlib.Core.List.{List, map}
 use native.Mathlib.Omega.{arith}
 use lib.Dec.{eqb}
 use lib.ListN.{length}
@@ -31,7 +32,6 @@ use Rattle.request.proofs.Actions.{action_uncounted}
 use Rattle.screen.specs.Screen.{Screens, screened_line}
 use Rattle.screen.proofs.Lines.{line_passed}
 use Rattle.judge.specs.declared.Plan.{Plan}
-use Rattle.judge.specs.State.{rows_in}
 use Rattle.judge.specs.Premises.{JudgesBy}
 use Rattle.table.specs.Contents.{Contents, contents}
 use Rattle.model.specs.Requests.{Rights, Sweep}
@@ -100,7 +100,7 @@ pub ruleset line_counts = (stopped_counts, act_counts, set_counts, ask_counts)
 -- ## SWEEP
 
 module _ (s : State) (e n keys line a : List ℕ) (when : Now) (p : Passing (lent_with s e n keys) line a verb.Sweep when) (t : Contents) (there : t ≡ contents n keys s.used) (o : Result Plan Refusal) (fates : List Fate)
-    (j : (l : List ℕ) (who : Rights) → JudgesBy s t l when.judge who (rules_mean (rules_of e)) fates Sweep o) where
+    (j : (l : List ℕ) (who : Rights) → JudgesBy s t l when.judge who (rules_mean (rules_of e)) (map same_fate fates) Sweep o) where
   -- A refused sweep counts none.
   pub sweep_uncounted : (k : Refusal) → o ≡ Err k → 0 ≡ comparisons_of (lent_with s e n keys) (call line a)
   sweep_uncounted k f = refused_count (lent_with s e n keys) line a (λ y. number_not_0 k (ap (λ (z : Outcome). z.number) (sweep_stops s e n keys line a when p t there o fates j k f) ∙ y))

@@ -1,5 +1,6 @@
 -- A line served: refused, judged and carried out, or set.
 use Rattle.model.specs.declared.Fate.{Fate}
+use Rattle.model.specs.Fates.{same_fate}
 use Rattle.model.specs.declared.Fate.TheVariants.{Stays}
 use Rattle.std.specs.Prelude.{Result, Ok, Err}
 use Rattle.model.specs.declared.Refusal.{Refusal}
@@ -11,7 +12,7 @@ use Rattle.model.specs.Refusals.{first_of}
 use Prim.Native.Nat.{ℕ, ◌+◌, ◌≤◌, max}
 use mathlib.Core.Path.{◌≡◌, refl, sym, ◌∙◌, ap, subst⁻¹}
 use mathlib.Core.Bool.{Bool, true, false}
-use mathlib.Core.List.{List, []}
+use mathlib.Core.List.{List, [], map}
 use Rattle.std.specs.Prelude.{Some, None}
 use native.Mathlib.Omega.{arith}
 use lib.ListN.{length, replicate, length-replicate}
@@ -61,7 +62,6 @@ use Rattle.answers.specs.Meaning.{text_of, Printable}
 use Rattle.judge.specs.declared.Change.TheVariants as change
 use Rattle.judge.specs.declared.Plan.{Plan}
 use Rattle.judge.specs.Meaning.{plan_means, verdict_means}
-use Rattle.judge.specs.State.{rows_in}
 use Rattle.judge.specs.Premises.{both, Asked, Sweepable, JudgesBy, JudgesOn}
 use Rattle.judge.proofs.Deciding.{asks_does}
 use Rattle.judge.proofs.Sweeping as judge
@@ -69,8 +69,8 @@ use Rattle.listing.specs.Ready.{Listable}
 use Rattle.listing.specs.Totals.{Countable}
 use Rattle.listing.proofs.Sound.{listable, countable}
 use Rattle.table.specs.Searching.{Searchable}
-use Rattle.table.specs.Contents.{Contents, contents}
-use Rattle.search.proofs.Positions.{holds_searchable}
+use Rattle.table.specs.Contents.{Contents, contents, WholeBlocks}
+use Rattle.search.proofs.Positions.{holds_searchable, holds_whole}
 use Rattle.apply.specs.Applied.{judged}
 use Rattle.outcome.specs.Decision.{Effect, Decision, does, effect, table_decision, decision}
 use Rattle.outcome.specs.Calls.{Call, call, heard}
@@ -84,7 +84,7 @@ use Rattle.engine.specs.declared.Done.{Done}
 use Rattle.engine.specs.declared.Counted.{Counted}
 use Rattle.engine.specs.Served.{outcome_by, outcome_from, uncounted, served_outcome, answered_with, Passing, CanCarryOut, CarriedOut}
 use Rattle.engine.proofs.Ready.{whole_rules, line_says, line_judge, line_stamp, line_asked}
-use Rattle.engine.proofs.Carrying.{kept_is, settings_after_lem}
+use Rattle.engine.proofs.Carrying.{kept_is, kept_fates, settings_after_lem}
 
 -- ## Refusals
 
@@ -243,12 +243,15 @@ module _ (s : State) (e n keys line a : List ℕ) (when : Now) (p : Passing (len
       record { entries_long = l; prefixes = q.prefixes; rules_sound = whole_rules (lent_with s e n keys) p.is_whole; long = omega (arith, q.asked.ready.used_fits, q.asked.ready.capacity_fits) }
 
   module _ (t : Contents) (there : t ≡ contents n keys s.used) where
+    pub sweep_whole : WholeBlocks t
+    sweep_whole = rw there (holds_whole (known p).held s.used (sym (rows_length n keys s.used)))
+
     pub sweep_asked : Asked s t when.judge Sweep
     sweep_asked = rw there (known p).asked
 
-    module _ (o : Result Plan Refusal) (fates : List Fate) (given : (l : List ℕ) (who : model.Rights) → JudgesBy s t l when.judge who (rules_mean (rules_of e)) fates Sweep o) where
+    module _ (o : Result Plan Refusal) (fates : List Fate) (given : (l : List ℕ) (who : model.Rights) → JudgesBy s t l when.judge who (rules_mean (rules_of e)) (map same_fate fates) Sweep o) where
       judges : (l : List ℕ) (who : model.Rights) → JudgesBy s (contents n keys s.used) l when.judge who (rules_mean (rules_of e)) fates Sweep o
-      judges l who = rw there at (given l who)
+      judges l who = rw (kept_fates fates, there) at (given l who)
 
       sweep_decides : done (lent_with s e n keys) when.judge Sweep a (verdict_means (judged line s.next when.judge fates) (rows_of n keys s.used) o) ≡ outcome (lent_with s e n keys) (call line a)
       sweep_decides = (known p).decided _ (judges line (known p).who).is
@@ -265,7 +268,7 @@ module _ (s : State) (e n keys line a : List ℕ) (when : Now) (p : Passing (len
             let q = known p in
             (rw q.one_now at g).is (rules_of e) Sweep q.prefixes refl ∙ q.decided _ ((rw f at judges) l q.who).is
 
-pub ruleset sweeps = (sweep_table, sweep_asked, sweep_rules, sweep_stops, sweep_can, sweep_done)
+pub ruleset sweeps = (sweep_table, sweep_whole, sweep_asked, sweep_rules, sweep_stops, sweep_can, sweep_done)
 
 -- ## GET
 

@@ -1,12 +1,14 @@
 -- Laws of readers of single fields: the letters of rights, a key in its place.
-use Rattle.std.proofs.Common.{ℕ, ◌≡◌, refl, sym, ap, ◌∙◌, Bool, true, false, not, ◌&&◌, ◌||◌, List, [], ◌∷◌, Option, Some, None, if◌then◌else◌, arith}
+use Rattle.std.proofs.Common.{ℕ, zero, suc, ◌+◌, ◌-◌, ◌≤◌, ◌<◌, length, get_or, drop, ◌≡◌, refl, sym, ◌∙◌, Bool, true, false, not, ◌&&◌, ◌||◌, List, [], ◌∷◌, Option, Some, None, if◌then◌else◌, arith}
 use Rattle.std.proofs.lemmas.Grind.{common_steps}
 use Rattle.std.specs.Prelude.{option_and_then}
 use mathlib.Core.Logic.{inl, inr}
 use Rattle.buffers.proofs.Tests.{either}
-use mathlib.Core.Bool.{and-false, or-false}
+use mathlib.Core.Bool.{and-false, or-false, false≢true}
 use Rattle.buffers.specs.Texts.{bytes}
+use Rattle.buffers.specs.Choices.{pick}
 use Rattle.text.specs.Keys.{contains}
+use Rattle.text.proofs.Scans.{next}
 use Rattle.fields.specs.declared.Rights.{Rights}
 use Rattle.buffers.specs.Lists.{same}
 use Rattle.buffers.proofs.Lists.{same_path}
@@ -97,3 +99,33 @@ unfolding rights_in
 dash_rights s r e t = rw (same_path s dash (sym e ∙ t))
 
 pub ruleset rights_cases = (rights_are, dash_rights)
+
+once_drop : (s : List ℕ) (k : ℕ) → letters_once s ≡ true → letters_once (drop k s) ≡ true
+once_drop s zero e = e
+once_drop [] (suc k) e = refl
+once_drop (b ∷ s) (suc k) e = once_drop s k (go (contains (bytes "rwdthbc") b) (contains s b) e)
+  where
+    go : (p q : Bool) → pick p (pick q false (letters_once s)) false ≡ true → letters_once s ≡ true
+    go true true f = absurd (false≢true f)
+    go true false f = f
+    go false q f = absurd (false≢true f)
+
+-- Where each letter of a text stands once, the one in front of place i is none of those from i on.
+pub bit_before : (s : List ℕ) (i : ℕ) → letters_once s ≡ true → 0 < i → i ≤ length s → contains (drop i s) (get_or s (i - 1) 0) ≡ false
+bit_before s i o h w =
+    let e : i - 1 + 1 ≡ i = omega arith in
+    let here : drop (i - 1) s ≡ get_or s (i - 1) 0 ∷ drop i s = rw e at (next s (i - 1) (omega arith)) in
+    go (contains (bytes "rwdthbc") (get_or s (i - 1) 0)) (contains (drop i s) (get_or s (i - 1) 0)) (letters_once (drop i s)) (rw here at (once_drop s (i - 1) o))
+  where
+    go : (p q r : Bool) → pick p (pick q false r) false ≡ true → q ≡ false
+    go true true r f = absurd (false≢true f)
+    go true false r f = refl
+    go false q r f = absurd (false≢true f)
+
+-- A letter that stands a second time makes the rights none.
+pub once_twice : (s : List ℕ) (i : ℕ) → 0 < i → i ≤ length s → contains (drop i s) (get_or s (i - 1) 0) ≡ true → None ≡ (if letters_once s then Some (rights_in s) else None)
+once_twice s i h w t =
+    elim (either (letters_once s)) [
+      | inl o ↦ absurd (false≢true (sym (bit_before s i o h w) ∙ t))
+      | inr o ↦ rw o
+    ]

@@ -203,7 +203,7 @@ module _ (s : State) (table : Contents) (line : List ℕ) (now : ℕ) (p : Place
   -- Where a new row is meant, its judgement is that of the line.
   means_new : meant rows put ≡ put → Inside line p → Within i (places.key_place key rows) (length rows) → (u : Result Plan Refusal)
       → room ≡ table.room → JudgesNew s room now p i body size t u → JudgesOn s table line now (meant rows put) u
-  means_new e inside w u q h = rw e ((rw q at h) table.rows line (record { asked = asked; inside = inside; place = rw ek at w }))
+  means_new e inside w u q h = rw e ((rw q at h) table.rows table.keys line (record { asked = asked; inside = inside; place = rw ek at w }))
 
   -- The key has no row.
   pub put_first : r ≡ Err i → Inside line p → (who : Rights) (rules : List Rule) (fates : List Fate) (u : Result Plan Refusal)
@@ -262,7 +262,7 @@ module _ (s : State) (table : Contents) (line : List ℕ) (now : ℕ) (m : Name)
       let e = source.at.row_is in
       let g : table_decision table.room (bucket_by s rules table.rows) (both now) who (Copy m (part_of line p) t)
       ≡ table_decision table.room (bucket_by s rules table.rows) (both now) who (Put (part_of line p) w.numbers.body w.numbers.size t) = simp (e, ne_eqb w.numbers.kind 2 source.no_marker) in
-      rw g ((rw q at h) table.rows line (record { asked = copy_asks; inside = inside; place = rw ek at z }) who rules fates)
+      rw g ((rw q at h) table.rows table.keys line (record { asked = copy_asks; inside = inside; place = rw ek at z }) who rules fates)
 
 pub ruleset copy_ways = (refl, count_most, data_refused, copy_puts)
 

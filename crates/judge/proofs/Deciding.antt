@@ -50,17 +50,17 @@ does_effect c b now who v o unspent l =
 
 module _ (j : Judged) (c : ℕ) (b : Bucket) (now : Now) (who : Rights) (v : Verb) where
   pub refuse_7 : missing b.rows v ≡ true → Judges j c b.rows (Err NoRow) (table_decision c b now who v)
-  refuse_7 e = record { is = rw e; feasible = tt }
+  refuse_7 e = record { is = rw e; feasible = (omega arith, omega arith) }
 
   pub refuse_8 : missing b.rows v ≡ false → names_marker b.rows v ≡ true → Judges j c b.rows (Err IsMarker) (table_decision c b now who v)
-  refuse_8 e f = record { is = simp (e, f); feasible = tt }
+  refuse_8 e f = record { is = simp (e, f); feasible = (omega arith, omega arith) }
 
   pub refuse_9 : missing b.rows v ≡ false → names_marker b.rows v ≡ false → barred b.rows now.judge v ≡ true → Judges j c b.rows (Err Locked) (table_decision c b now who v)
-  refuse_9 e f g = record { is = simp (e, f, g); feasible = tt }
+  refuse_9 e f g = record { is = simp (e, f, g); feasible = (omega arith, omega arith) }
 
   pub refuse_10 : missing b.rows v ≡ false → names_marker b.rows v ≡ false → barred b.rows now.judge v ≡ false
       → too_late b.settings.config now.stamp v ≡ true → Judges j c b.rows (Err DateTooLate) (table_decision c b now who v)
-  refuse_10 e f g h = record { is = simp (e, f, g, h); feasible = tt }
+  refuse_10 e f g h = record { is = simp (e, f, g, h); feasible = (omega arith, omega arith) }
 
   module _ (o : Open b now v) where
     pub refuse_11 : spent_number < b.settings.next + added b now v → Judges j c b.rows (Err NumbersSpent) (table_decision c b now who v)
@@ -68,7 +68,7 @@ module _ (j : Judged) (c : ℕ) (b : Bucket) (now : Now) (who : Rights) (v : Ver
     refuse_11 l =
         record {
           is = simp (o.there, o.no_marker, o.unbarred, o.in_time, lt-ltb spent_number (b.settings.next + added b now v) l);
-          feasible = tt;
+          feasible = (omega arith, omega arith);
         }
 
     module _ (unspent : b.settings.next + added b now v ≤ spent_number) where
@@ -77,7 +77,7 @@ module _ (j : Judged) (c : ℕ) (b : Bucket) (now : Now) (who : Rights) (v : Ver
       refuse_12 l =
           record {
             is = simp (o.there, o.no_marker, o.unbarred, o.in_time, le-ltb spent_number (b.settings.next + added b now v) unspent, lt-leb (length (rows_after b now v)) c l);
-            feasible = tt;
+            feasible = (omega arith, omega arith);
           }
 
       pub accept : (p : Plan) → length (rows_after b now v) ≤ c → change_means j b.rows p.change ≡ rows_after b now v

@@ -2,14 +2,15 @@
 use Rattle.model.specs.declared.Fate.{Fate}
 use Rattle.std.specs.Prelude.{Ok, Err}
 use Rattle.model.specs.declared.Refusal.TheVariants.{NumbersSpent, TableFull}
-use Prim.Native.Nat.{ℕ, ◌+◌, ◌-◌, ◌≤◌, ◌<◌, ◌*◌}
+use Prim.Native.Nat.{ℕ, ◌+◌, ◌-◌, ◌≤◌, ◌<◌}
 use mathlib.Core.Path.{◌≡◌, refl}
 use mathlib.Core.Bool.{true}
-use mathlib.Core.List.{List}
+use mathlib.Core.List.{List, map}
 use Rattle.std.specs.Prelude.{None}
 use native.Mathlib.Omega.{arith}
 use lib.Dec.{eqb, leb}
-use lib.ListN.{length, take, drop}
+use Rattle.std.proofs.lemmas.List.{length-map}
+use lib.ListN.{length, take}
 use Rattle.buffers.specs.Lists.{all}
 use Rattle.buffers.proofs.Tests.{and_i, and_l, and_r}
 use Rattle.buffers.proofs.Lists.{all_as, all_at}
@@ -59,7 +60,7 @@ sound_days us e = all_as model.sound_rule few_days few us (and_r (eqb (length us
         let g = and_r (is_prefix u.prefix) _ f in
         and_i (leb u.current_days 36500) _ (and_l _ _ g) (and_l _ _ (and_r (leb u.current_days 36500) _ g))
 
-module _ (s : State) (t : Contents) (now : ℕ) (entries : List ℕ) (fs : List Fate) (v : Verb) (asked : Asked s t now v) (ready_rules : Sweepable s entries fs) where
+module _ {A : Type 0} (s : State) (t : Contents) (now : ℕ) (entries : List ℕ) (fs : List A) (v : Verb) (asked : Asked s t now v) (ready_rules : Sweepable s entries fs) where
   -- What lifecycle's judgement asks.
   pub sweep_asks : Judgeable t.rows (rules_of entries)
   sweep_asks =
@@ -86,9 +87,9 @@ sweep_open : (s : State) (us : List model.Rule) (xs : List Row) (now : ℕ) → 
 unfolding missing names_marker barred too_late
 sweep_open s us xs now = record { there = refl; no_marker = refl; unbarred = refl; in_time = refl }
 
-module _ (s : State) (t : Contents) (line : List ℕ) (now : ℕ) (who : Rights) (us : List model.Rule) (entry fs : List Fate) (n : Counts)
-    (asked : Asked s t now Sweep) (judged : JudgedRows us now t.rows entry fs n) where
-  pub sweep_spent : model.spent_number - s.next < n.added → JudgesBy s t line now who us fs Sweep (Err NumbersSpent)
+module _ {A : Type 0} (cell : Fate → A) (fate_in : A → Fate) (s : State) (t : Contents) (line : List ℕ) (now : ℕ) (who : Rights) (us : List model.Rule) (entry fs : List A) (n : Counts)
+    (asked : Asked s t now Sweep) (judged : JudgedRows cell us now t.rows entry fs n) where
+  pub sweep_spent : model.spent_number - s.next < n.added → JudgesBy s t line now who us (map fate_in fs) Sweep (Err NumbersSpent)
   unfolding added
   sweep_spent l =
       refuse_11 _ t.room (bucket_by s us t.rows) (both now) who Sweep (sweep_open s us t.rows now)
@@ -98,7 +99,7 @@ module _ (s : State) (t : Contents) (line : List ℕ) (now : ℕ) (who : Rights)
     left : s.next + n.added ≤ model.spent_number
     left = omega (arith, asked.ready.next_fits)
 
-    pub sweep_full : (room : ℕ) → room ≡ t.room → room < s.used - n.removed + n.added → JudgesBy s t line now who us fs Sweep (Err TableFull)
+    pub sweep_full : (room : ℕ) → room ≡ t.room → room < s.used - n.removed + n.added → JudgesBy s t line now who us (map fate_in fs) Sweep (Err TableFull)
     unfolding added rows_after
     sweep_full room q l =
         refuse_12 _ t.room (bucket_by s us t.rows) (both now) who Sweep (sweep_open s us t.rows now)
@@ -109,17 +110,18 @@ module _ (s : State) (t : Contents) (line : List ℕ) (now : ℕ) (who : Rights)
         let r = judged.removed.is in
         omega arith)
 
-    pub sweep_done : (room : ℕ) → room ≡ t.room → s.used - n.removed + n.added ≤ room
-        → JudgesBy s t line now who us fs Sweep (Ok (record { change = change.Sweep n.removed n.added; answer = Swept n.removed n.added }))
+    pub sweep_done : ((f : Fate) → fate_in (cell f) ≡ f) → (room : ℕ) → room ≡ t.room → s.used - n.removed + n.added ≤ room
+        → JudgesBy s t line now who us (map fate_in fs) Sweep (Ok (record { change = change.Sweep n.removed n.added; answer = Swept n.removed n.added }))
     unfolding added rows_after removed reply
-    sweep_done room w l =
+    sweep_done back room w l =
         let z = asked.ready.used_is in
         let e = swept_length us now s.next t.rows in
         let a = judged.added.is in
         let r = judged.removed.is in
         let q = judged.removed.most in
-        let f : take (length t.rows) fs ≡ fates us now None t.rows = rw judged.fates_are (fates_after_lem us now t.rows entry) in
-        let o : length t.rows ≤ length fs = rw judged.fates_are (after_long us now t.rows entry) in
+        let f : take (length t.rows) (map fate_in fs) ≡ fates us now None t.rows = rw judged.fates_are (fates_after_lem cell fate_in back us now t.rows entry) in
+        let h : length t.rows ≤ length fs = rw judged.fates_are (after_long cell fate_in back us now t.rows entry) in
+        let o : length t.rows ≤ length (map fate_in fs) = omega (arith, h, length-map fs fate_in) in
         accept _ t.room (bucket_by s us t.rows) (both now) who Sweep (sweep_open s us t.rows now)
         (rw judged.added.is at left)
         (record { change = change.Sweep n.removed n.added; answer = Swept n.removed n.added })

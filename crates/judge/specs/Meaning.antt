@@ -69,7 +69,7 @@ Changeable j c xs (Sweep gone new) =
     × (length xs + new ≤ c + gone) × (gone ≤ length xs) × (j.next + new ≤ spent_number) × (length xs ≤ length j.fates)
 
 abbrev pub Feasible : Judged → ℕ → List Row → Result Plan Refusal → Type 0
-Feasible j c xs (Err e) = Unit
+Feasible j c xs (Err e) = (1 ≤ number_of e) × (number_of e ≤ 12)
 Feasible j c xs (Ok p) = Changeable j c xs p.change × Printable p.answer
 
 -- A verdict that is the decision, and that can be carried out.

@@ -47,7 +47,7 @@ room_for c used next =
     else (if nat_lt used c then Ok tt else Err TableFull)
 
 -- The rules of a sweep are sound, and there is room for a fate of each used row.
-pub record Sweepable (s : State) (entries : List ℕ) (fates : List Fate) : Type 0 where
+pub record Sweepable {A : Type 0} (s : State) (entries : List ℕ) (fates : List A) : Type 0 where
   pub entries_long : length entries ≡ entries_length
   pub prefixes : prefixes_are (rules_of entries) ≡ true
   pub rules_sound : sound_rules (rules_mean (rules_of entries)) ≡ true
@@ -66,4 +66,5 @@ JudgesOn s table line now v r = (who : Rights) (rules : List Rule) (fates : List
 -- The verdict is that of a new row, on any rows and line that the place fits, with this room.
 abbrev pub JudgesNew : State → ℕ → ℕ → Place → ℕ → ℕ → ℕ → Terms → Result Plan Refusal → Type 0
 JudgesNew s room now p at body size t r =
-    (rows : List Row) (line : List ℕ) → Placed s (record { rows = rows; room = room }) line now p at body size t → JudgesOn s (record { rows = rows; room = room }) line now (Put (part_of line p) body size t) r
+    (rows : List Row) (keys line : List ℕ) → Placed s (record { rows = rows; room = room; keys = keys }) line now p at body size t
+    → JudgesOn s (record { rows = rows; room = room; keys = keys }) line now (Put (part_of line p) body size t) r

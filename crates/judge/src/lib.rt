@@ -4,7 +4,7 @@
 
 mod lookup;
 
-ghost use Rattle.std.specs.Prelude.{◌≡◌, Bool, true, List, ℕ, ◌≤◌};
+ghost use Rattle.std.specs.Prelude.{◌≡◌, Bool, true, List, ℕ, ◌≤◌, map};
 ghost use Rattle.std.specs.Option.{option_map};
 ghost use Rattle.buffers.specs.Choices.{or_zero};
 ghost use Rattle.model.specs.Requests as model;
@@ -19,7 +19,7 @@ ghost use Rattle.calendar.specs.Calendar.{latest};
 ghost use Rattle.settings.specs.Meaning.{rules_mean};
 ghost use Rattle.settings.specs.Bytes.{rules_of};
 ghost use Rattle.table.specs.Layout.{capacity, Holds};
-ghost use Rattle.table.specs.Contents.{contents};
+ghost use Rattle.table.specs.Contents.{contents, WholeBlocks};
 ghost use Rattle.table.specs.Places.{row_from};
 ghost use Rattle.fields.specs.Meaning.{Inside, retention_means, terms_means};
 ghost use Rattle.request.specs.Meaning.{name_means, action_means, ActionInside};
@@ -30,7 +30,7 @@ ghost use Rattle.judge.specs.Premises.{Asked, room_for, Sweepable, JudgesBy, Jud
 use answers::Answer;
 use calendar::Now;
 use fields::{Retention, Terms};
-use model::{Fate, Kind, Mode, Refusal};
+use model::{FateCell, Kind, Mode, Refusal};
 use request::{Action, Name};
 use settings::State;
 use table::{Numbers, Table};
@@ -330,17 +330,18 @@ fn judge_delete(
 }
 
 // SWEEP, whose judgement of each row is left in the fates, accepted or refused.
-pub fn judge_sweep(
+pub fn judge_sweep<F: FateCell>(
     table: &Table,
     s: State,
     entries: &[u8],
     instant: u64,
-    fates: &mut [Fate],
+    fates: &mut [F],
 ) -> SweepVerdict
+    requires whole { WholeBlocks table.now }
     requires asked { Asked s table.now instant model.Sweep }
     requires sweepable { Sweepable s entries.now fates.old }
-    ensures judged { (line : List ℕ) (who : model.Rights) → JudgesBy s table.now line instant who (rules_mean (rules_of entries.now)) fates.new model.Sweep result.verdict }
-    ensures fates_are { fates.new ≡ fates_after (rules_mean (rules_of entries.now)) instant table.now.rows fates.old }
+    ensures judged { (line : List ℕ) (who : model.Rights) → JudgesBy s table.now line instant who (rules_mean (rules_of entries.now)) (map F.fate_in fates.new) model.Sweep result.verdict }
+    ensures fates_are { fates.new ≡ fates_after F.cell (rules_mean (rules_of entries.now)) instant table.now.rows fates.old }
     ensures comparisons_value { result.comparisons ≡ comparisons (rules_mean (rules_of entries.now)) table.now.rows }
 {
     let judged = lifecycle::judge_table(table, entries, instant, fates);

@@ -1,7 +1,6 @@
 -- A call, a row's key and a fresh bucket, over numbers and over bytes: one law for each way through.
 use Prim.Native.Nat.{ℕ, ◌-◌, ◌/◌, ◌≤◌}
 use mathlib.Core.Path.{◌≡◌, sym, ap, ◌∙◌, subst}
-use mathlib.Core.Bool.{Bool, true, false}
 use mathlib.Core.List.{List, [], ◌++◌, append-nil}
 use native.Mathlib.Omega.{arith}
 use lib.ListN.{length, get_or, take, drop, replicate, length-drop, drop_of_length-le}
@@ -10,7 +9,6 @@ use mir.Val.{Fits}
 use mir.Syntax.{w8}
 use borrow.Author.Tests.{eq-eqb, ne_eqb}
 use borrow.Rule.Slice.PartMut.{mid_of, put_mid, put_same}
-use Rattle.buffers.specs.Choices.{pick}
 use Rattle.buffers.specs.Words as words
 use Rattle.buffers.specs.Words.{AllBytes}
 use Rattle.buffers.proofs.Parts.{rest_all}
@@ -116,6 +114,11 @@ module _ (settings n keys : List ℕ) (g : Call) (r : Result Counted Refusal) (s
       rw (eq-eqb (length settings) settings_length l, ← q, y)
 
 pub ruleset words_cases = (words_wrong, words_refused, words_accepted)
+
+-- Settings of another length count none.
+pub wrong_count : (b : Bytes) (line answer : List ℕ) → (length b.settings ≡ settings_length → ⊥) → 0 ≡ words_comparisons b (call line answer)
+unfolding words_comparisons
+wrong_count b line answer h = rw (ne_eqb (length b.settings) settings_length h)
 
 -- The count is that of the call on the settings that the bytes spell.
 pub words_count : (settings n keys : List ℕ) (g : Call) (r : Result Counted Refusal) (settings' n' keys' answer' : List ℕ) (d : Counted) → EntriesServed settings n keys g r settings' n' keys' answer' → length settings ≡ settings_length → r ≡ Ok d → d.comparisons ≡ words_comparisons (as_bytes settings n keys) g

@@ -268,6 +268,6 @@ pub fn knitpasture_fresh(settings: &mut [u8], rows: &mut [u8], keys: &mut [u8]) 
     }
     put_fresh(settings);
     rows.fill(0);
-    keys.fill(0);
+    keys.fill(0u8);
     0
 }

@@ -1,5 +1,6 @@
 -- The fates of all rows, and how many rows they remove and markers they add.
-use Rattle.std.proofs.Common.{◌≡◌, ℕ, ◌+◌, ◌<◌, ◌≤◌, List, [], ◌∷◌, length, take, drop, sym, refl, arith, length-append, take_at, take-suc-set, set, add-one}
+use Rattle.std.proofs.Common.{◌≡◌, ℕ, ◌+◌, ◌<◌, ◌≤◌, List, [], ◌∷◌, length, take, drop, sym, refl, arith, length-append, take_at, take-suc-set, set, add-one, ap₂, map}
+use Rattle.std.proofs.lemmas.List.{map-append, length-map}
 use denote.Enum.Bare.{sameb}
 use mir.Val.{bool_byte}
 use Rattle.std.specs.Prelude.{None}
@@ -14,15 +15,27 @@ use Rattle.model.proofs.Sweeping.{each_fate}
 use Rattle.lifecycle.specs.Fates.{fates_after}
 use Rattle.lifecycle.specs.Judging.{Counted, CountedOn}
 
-module _ (us : List Rule) (t : ℕ) (xs : List Row) (entry : List Fate) where
-  -- The first fates after a judgement are the rows'.
-  pub fates_after_lem : take (length xs) (fates_after us t xs entry) ≡ fates us t None xs
-  unfolding fates_after
-  fates_after_lem = take_at (fates us t None xs) (drop (length xs) entry) (length xs) (each_fate us t None xs)
+module _ {A : Type 0} (cell : Fate → A) (fate_in : A → Fate) (back : (f : Fate) → fate_in (cell f) ≡ f) where
+  -- The fates that are kept are those that were written.
+  all_back : (fs : List Fate) → map fate_in (map cell fs) ≡ fs
+  all_back [] = refl
+  all_back (f ∷ fs) = ap₂ (λ (x : Fate) (xs : List Fate). x ∷ xs) (back f) (all_back fs)
 
-  pub after_long : length xs ≤ length (fates_after us t xs entry)
-  unfolding fates_after
-  after_long = let a = length-append (fates us t None xs) (drop (length xs) entry) in let b = each_fate us t None xs in omega arith
+  module _ (us : List Rule) (t : ℕ) (xs : List Row) (entry : List A) where
+    -- The first fates after a judgement are the rows'.
+    pub fates_after_lem : take (length xs) (map fate_in (fates_after cell us t xs entry)) ≡ fates us t None xs
+    unfolding fates_after
+    fates_after_lem =
+        rw (map-append fate_in (map cell (fates us t None xs)) (drop (length xs) entry), all_back (fates us t None xs))
+        (take_at (fates us t None xs) (map fate_in (drop (length xs) entry)) (length xs) (each_fate us t None xs))
+
+    pub after_long : length xs ≤ length (fates_after cell us t xs entry)
+    unfolding fates_after
+    after_long =
+        let a = length-append (map cell (fates us t None xs)) (drop (length xs) entry) in
+        let b = each_fate us t None xs in
+        let c = length-map (fates us t None xs) cell in
+        omega arith
 
 -- ## Counting
 

@@ -1,6 +1,6 @@
 -- Judging a table's rows key by key is judging the list, and compares each rule with each different key once.
 use Rattle.std.proofs.lemmas.List.{length-map}
-use Rattle.std.proofs.Common.{◌≡◌, ℕ, zero, suc, ◌+◌, ◌-◌, ◌*◌, ◌<◌, ◌≤◌, Bool, true, false, eqb, List, [], ◌∷◌, ◌++◌, length, take, drop, sym, refl, ap, ◌∙◌, inl, inr, append_assoc, append-nil, mul-suc, arith, length-drop, length-take, length-take-le, take-append-drop, drop_of_length-le, get_or-drop, drop-cons, take-suc, ext_get_or, eqb-true}
+use Rattle.std.proofs.Common.{◌≡◌, ℕ, zero, suc, ◌+◌, ◌-◌, ◌*◌, ◌<◌, ◌≤◌, Bool, true, false, eqb, List, [], ◌∷◌, ◌++◌, length, take, drop, map, sym, refl, ap, ◌∙◌, inl, inr, append_assoc, append-nil, mul-suc, arith, length-drop, length-take, length-take-le, take-append-drop, drop_of_length-le, get_or-drop, drop-cons, take-suc, ext_get_or, eqb-true}
 use mathlib.Core.Bool.{false≢true}
 use Rattle.std.specs.Prelude.{Option, Some, None}
 use borrow.Author.Tests.{eqb-false}
@@ -36,8 +36,10 @@ use Rattle.lifecycle.proofs.KeyRows.{same_none, same_some, stored_none, stored_m
 -- ## The ways through judge_key
 
 -- A key's counts lie within its rows, so that all sums fit.
-pub counts_fit : (x at : ℕ) (m : List Fate) → x ≤ length (take at m) → at ≤ length m → x ≤ at
-counts_fit x at m h l = omega (arith, h, length-take-le at m l)
+pub counts_fit : {A : Type 0} (fate_in : A → Fate) (x at : ℕ) (m : List A) → x ≤ length (take at (map fate_in m)) → at ≤ length m → x ≤ at
+counts_fit fate_in x at m h l =
+    let k : at ≤ length (map fate_in m) = omega (arith, l, length-map m fate_in) in
+    omega (arith, h, length-take-le at (map fate_in m) k)
 
 module _ (xs : List Row) (i r : ℕ) (e : KeyEnds xs i r) where
   pub versions_some : i < r
@@ -46,7 +48,7 @@ module _ (xs : List Row) (i r : ℕ) (e : KeyEnds xs i r) where
   pub versions_there : r ≤ length xs
   versions_there = e.most
 
-  pub versions_fit : (m : List Fate) → length xs ≤ length m → r ≤ length m
+  pub versions_fit : {A : Type 0} (m : List A) → length xs ≤ length m → r ≤ length m
   versions_fit m l = omega (arith, e.most)
 
 module _ (us : List model.Rule) (t : ℕ) (xs : List Row) (u : ℕ) (d : u ≡ day_start t) where
@@ -81,13 +83,13 @@ module _ (us : List model.Rule) (xs : List Row) (at c : ℕ) (m : Matched) (h : 
   pub noncurrent_few : all few_days us ≡ true → m.limits.noncurrent ≤ 36500
   noncurrent_few e = noncurrent_most us (row_no xs at).key m.limits e h.limits_are
 
-  pub judged_key : (t r u : ℕ) (so_far : Judged) (counts : Counts) (entry exit : List Fate) → KeyEnds xs at r → same_key xs at ≡ false → u ≡ day_start t → so_far.comparisons ≡ c
-      → Stored (version_fate xs m.limits t u at) at r entry exit → CountedOn entry exit at r counts.removed counts.added → Counted (take at entry) so_far.counts.removed so_far.counts.added
-      → JudgedKey us t xs at so_far entry exit (record { end = r; judged = record { counts = record { removed = so_far.counts.removed + counts.removed; added = so_far.counts.added + counts.added }; comparisons = m.comparisons } })
-  judged_key t r u so_far counts entry exit ends first d e s k o =
+  pub judged_key : {A : Type 0} (cell : Fate → A) (fate_in : A → Fate) (t r u : ℕ) (so_far : Judged) (counts : Counts) (entry exit : List A) → KeyEnds xs at r → same_key xs at ≡ false → u ≡ day_start t → so_far.comparisons ≡ c
+      → Stored cell (version_fate xs m.limits t u at) at r entry exit → CountedOn (map fate_in entry) (map fate_in exit) at r counts.removed counts.added → Counted (take at (map fate_in entry)) so_far.counts.removed so_far.counts.added
+      → JudgedKey cell fate_in us t xs at so_far entry exit (record { end = r; judged = record { counts = record { removed = so_far.counts.removed + counts.removed; added = so_far.counts.added + counts.added }; comparisons = m.comparisons } })
+  judged_key cell fate_in t r u so_far counts entry exit ends first d e s k o =
       record {
         ends = ends;
-        stored = record { long = s.long; early = s.early; inside = λ i p q. s.inside i p q ∙ own i p q; late = s.late };
+        stored = record { long = s.long; early = s.early; inside = λ i p q. s.inside i p q ∙ ap cell (own i p q); late = s.late };
         counts = k.on so_far.counts.removed so_far.counts.added o;
         compared = rw e h.counted;
       }
@@ -113,21 +115,21 @@ rows_end : (xs : List Row) → drop (length xs) xs ≡ []
 rows_end xs = drop_of_length-le xs {i = length xs} (omega arith)
 
 -- Fates stored for all rows are theirs, and those behind them are as they were.
-stored_all : (us : List model.Rule) (t : ℕ) (xs : List Row) (entry m : List Fate) → Stored (fate_at us t xs) 0 (length xs) entry m → length xs ≤ length entry → m ≡ fates_after us t xs entry
+stored_all : {A : Type 0} (cell : Fate → A) (us : List model.Rule) (t : ℕ) (xs : List Row) (entry m : List A) → Stored cell (fate_at us t xs) 0 (length xs) entry m → length xs ≤ length entry → m ≡ fates_after cell us t xs entry
 unfolding fates_after
-stored_all us t xs entry m h l =
-    let d : take (length xs) m ≡ fates us t None xs = rw (rows_end xs, append-nil) at (done (length xs) (omega arith)) in
+stored_all cell us t xs entry m h l =
+    let d : take (length xs) m ≡ map cell (fates us t None xs) = rw (rows_end xs, append-nil) at (done (length xs) (omega arith)) in
     sym (take-append-drop (length xs) m) ∙ rw (d, behind)
   where
-    done : (i : ℕ) → i ≤ length xs → take i m ++ fates us t (row_before xs i) (drop i xs) ≡ fates us t None xs
+    done : (i : ℕ) → i ≤ length xs → take i m ++ map cell (fates us t (row_before xs i) (drop i xs)) ≡ map cell (fates us t None xs)
     done zero g = refl
     done (suc i) g =
-        rw (take-suc m i Stays (omega (arith, h.long)), append_assoc, h.inside i (omega arith) (omega arith)) (sym (rw (rows_next xs i (omega arith))) ∙ done i (omega arith))
+        rw (take-suc m i (cell Stays) (omega (arith, h.long)), append_assoc, h.inside i (omega arith) (omega arith)) (sym (rw (rows_next xs i (omega arith))) ∙ done i (omega arith))
 
     behind : drop (length xs) m ≡ drop (length xs) entry
     behind =
-        ext_get_or Stays (drop (length xs) m) (drop (length xs) entry) (rw (length-drop (length xs) m, length-drop (length xs) entry, h.long))
-        (λ i _. get_or-drop (length xs) m i Stays ∙ h.late (length xs + i) (omega arith) ∙ sym (get_or-drop (length xs) entry i Stays))
+        ext_get_or (cell Stays) (drop (length xs) m) (drop (length xs) entry) (rw (length-drop (length xs) m, length-drop (length xs) entry, h.long))
+        (λ i _. get_or-drop (length xs) m i (cell Stays) ∙ h.late (length xs + i) (omega arith) ∙ sym (get_or-drop (length xs) entry i (cell Stays)))
 
 -- ## Where keys begin
 
@@ -156,52 +158,52 @@ module _ (xs : List Row) where
 -- ## The loop over the keys
 
 -- what holds at each turn: the fates so far are stored and counted, and the comparisons so far and those of the keys to come are all
-pub record JudgingKeys (us : List model.Rule) (t : ℕ) (xs : List Row) (entry m : List Fate) (c : Judged) (i : ℕ) : Type 0 where
+pub record JudgingKeys {A : Type 0} (cell : Fate → A) (fate_in : A → Fate) (us : List model.Rule) (t : ℕ) (xs : List Row) (entry m : List A) (c : Judged) (i : ℕ) : Type 0 where
   pub low : i ≤ length xs
   pub first : i < length xs → same_key xs i ≡ false
   pub long : length m ≡ length entry
-  pub stored : Stored (fate_at us t xs) 0 i entry m
+  pub stored : Stored cell (fate_at us t xs) 0 i entry m
   pub few : c.comparisons ≤ 8 * i
-  pub counts : Counted (take i m) c.counts.removed c.counts.added
+  pub counts : Counted (take i (map fate_in m)) c.counts.removed c.counts.added
   pub counted : c.comparisons + length us * beginnings (row_before xs i) (drop i xs) ≡ length us * beginnings None xs
 
-pub keys_start : (us : List model.Rule) (t : ℕ) (xs : List Row) (entry : List Fate) → JudgingKeys us t xs entry entry (record { counts = record { removed = 0; added = 0 }; comparisons = 0 }) 0
-keys_start us t xs entry =
-    record { counts = counted_all; low = omega arith; first = λ _. same_none xs; long = refl; stored = stored_none (fate_at us t xs) 0 entry; few = omega arith; counted = omega arith }
+pub keys_start : {A : Type 0} (cell : Fate → A) (fate_in : A → Fate) (us : List model.Rule) (t : ℕ) (xs : List Row) (entry : List A) → JudgingKeys cell fate_in us t xs entry entry (record { counts = record { removed = 0; added = 0 }; comparisons = 0 }) 0
+keys_start cell fate_in us t xs entry =
+    record { counts = counted_all; low = omega arith; first = λ _. same_none xs; long = refl; stored = stored_none cell (fate_at us t xs) 0 entry; few = omega arith; counted = omega arith }
 
-module _ (us : List model.Rule) (t : ℕ) (xs : List Row) (entry m : List Fate) (c : Judged) (i : ℕ) (h : JudgingKeys us t xs entry m c i) where
+module _ {A : Type 0} (cell : Fate → A) (fate_in : A → Fate) (us : List model.Rule) (t : ℕ) (xs : List Row) (entry m : List A) (c : Judged) (i : ℕ) (h : JudgingKeys cell fate_in us t xs entry m c i) where
   pub keys_long : length xs ≤ length entry → length xs ≤ length m
   keys_long l = omega (arith, h.long)
 
   pub keys_first : i < length xs → same_key xs i ≡ false
   keys_first = h.first
 
-  pub keys_counted : Counted (take i m) c.counts.removed c.counts.added
+  pub keys_counted : Counted (take i (map fate_in m)) c.counts.removed c.counts.added
   keys_counted = h.counts
 
   pub keys_room : (k : ℕ) → i < length xs → length xs ≤ 1024 → k ≤ 8 → c.comparisons + k ≤ most_comparisons
   keys_room k g l e = omega (arith, h.few)
 
-  pub keys_end : length xs ≤ i → length xs ≤ length entry → ordered xs ≡ true → JudgedAll us t xs entry m c
+  pub keys_end : length xs ≤ i → length xs ≤ length entry → ordered xs ≡ true → JudgedAll cell fate_in us t xs entry m c
   keys_end g l o =
       let e : i ≡ length xs = omega (arith, h.low) in
-      let s : Stored (fate_at us t xs) 0 (length xs) entry m = rw e at h.stored in
+      let s : Stored cell (fate_at us t xs) 0 (length xs) entry m = rw e at h.stored in
       let k : c.comparisons + length us * 0 ≡ length us * beginnings None xs = rw (e, rows_end xs) at h.counted in
       record {
-        fates_are = stored_all us t xs entry m s l;
+        fates_are = stored_all cell us t xs entry m s l;
         enough = omega (arith, h.long);
         counts = rw e at h.counts;
         compared = rw (different_ordered xs o) (omega (arith, k));
       }
 
-pub keys_step : (rs : List LaidRule) (t : ℕ) (xs : List Row) (entry m : List Fate) (c : Judged) (i : ℕ) (m' : List Fate) (r : KeyDone) → JudgingKeys (rules_in rs) t xs entry m c i → length rs ≤ 8 → i < length xs
-    → JudgedKey (rules_in rs) t xs i c m m' r → JudgingKeys (rules_in rs) t xs entry m' r.judged r.end
-keys_step rs t xs entry m c i m' r h l g j =
+pub keys_step : {A : Type 0} (cell : Fate → A) (fate_in : A → Fate) (rs : List LaidRule) (t : ℕ) (xs : List Row) (entry m : List A) (c : Judged) (i : ℕ) (m' : List A) (r : KeyDone) → JudgingKeys cell fate_in (rules_in rs) t xs entry m c i → length rs ≤ 8 → i < length xs
+    → JudgedKey cell fate_in (rules_in rs) t xs i c m m' r → JudgingKeys cell fate_in (rules_in rs) t xs entry m' r.judged r.end
+keys_step cell fate_in rs t xs entry m c i m' r h l g j =
     record {
       low = j.ends.most;
       first = j.ends.other;
       long = j.stored.long ∙ h.long;
-      stored = stored_more (fate_at (rules_in rs) t xs) i r.end entry m m' h.stored (omega (arith, j.ends.more)) j.stored;
+      stored = stored_more cell (fate_at (rules_in rs) t xs) i r.end entry m m' h.stored (omega (arith, j.ends.more)) j.stored;
       few = omega (arith, h.few, j.compared, j.ends.more, length-map rs rule_of);
       counts = j.counts;
       counted = omega (arith, j.compared, h.counted, one_key);
@@ -232,13 +234,14 @@ module _ (rs : List LaidRule) (us : List model.Rule) (laid : rules_in rs ≡ set
   pub laid_days : all few_days us ≡ true → all few_days (rules_in rs) ≡ true
   laid_days e = ap (all few_days) laid ∙ few_set us e
 
-  module _ (t : ℕ) (xs : List Row) (entry exit : List Fate) (r : Judged) (h : JudgedAll (rules_in rs) t xs entry exit r) where
-    pub judged_laid : JudgedRows us t xs entry exit r.counts
+  module _ {A : Type 0} (cell : Fate → A) (fate_in : A → Fate) (t : ℕ) (xs : List Row) (entry exit : List A) (r : Judged) (h : JudgedAll cell fate_in (rules_in rs) t xs entry exit r) where
+    pub judged_laid : ((f : Fate) → fate_in (cell f) ≡ f) → JudgedRows cell us t xs entry exit r.counts
     unfolding fates_after
-    judged_laid =
-        let f : exit ≡ fates_after us t xs entry = h.fates_are ∙ rw (laid, fates_set us t None xs) in
-        let e : take (length xs) exit ≡ fates us t None xs = rw f (fates_after_lem us t xs entry) in
-        let l = length-take-le (length xs) exit h.enough in
+    judged_laid back =
+        let f : exit ≡ fates_after cell us t xs entry = h.fates_are ∙ rw (laid, fates_set us t None xs) in
+        let e : take (length xs) (map fate_in exit) ≡ fates us t None xs = rw f (fates_after_lem cell fate_in back us t xs entry) in
+        let n : length xs ≤ length (map fate_in exit) = omega (arith, h.enough, length-map exit fate_in) in
+        let l = length-take-le (length xs) (map fate_in exit) n in
         record {
           fates_are = f;
           removed = record { is = rw e at h.counts.gone.is; most = omega (arith, h.counts.gone.most) };
@@ -250,8 +253,8 @@ module _ (rs : List LaidRule) (us : List model.Rule) (laid : rules_in rs ≡ set
     judged_compared = h.compared ∙ rw laid
 
 -- The same of an instant that is told otherwise.
-pub judged_on : (us : List model.Rule) (s t : ℕ) (xs : List Row) (entry exit : List Fate) (r : Counts) → s ≡ t → JudgedRows us s xs entry exit r → JudgedRows us t xs entry exit r
-judged_on us s t xs entry exit r e h = rw e at h
+pub judged_on : {A : Type 0} (cell : Fate → A) (us : List model.Rule) (s t : ℕ) (xs : List Row) (entry exit : List A) (r : Counts) → s ≡ t → JudgedRows cell us s xs entry exit r → JudgedRows cell us t xs entry exit r
+judged_on cell us s t xs entry exit r e h = rw e at h
 
 pub laid_few : (n : ℕ) (rs : List LaidRule) → n ≤ 8 → length (take n rs) ≤ 8
 laid_few n rs h = omega (arith, length-take n rs)

@@ -1,5 +1,6 @@
 -- The rows of one key: where they end in a table in order, and storing their fates.
-use Rattle.std.proofs.Common.{◌≡◌, ℕ, zero, suc, ◌+◌, ◌-◌, ◌*◌, ◌<◌, ◌≤◌, Bool, true, false, eqb, ltb, List, length, take, drop, set, sym, refl, ap, ◌∙◌, inl, inr, arith, length-set, get_or-set_other, get_or-set_same, ltb-false, ltb-true, ne_eqb, eqb-true, ◌^◌, w64, Fits}
+use Rattle.std.proofs.Common.{◌≡◌, ℕ, zero, suc, ◌+◌, ◌-◌, ◌*◌, ◌<◌, ◌≤◌, Bool, true, false, eqb, ltb, List, length, take, drop, set, sym, refl, ap, ◌∙◌, inl, inr, arith, length-set, get_or-set_other, get_or-set_same, ltb-false, ltb-true, ne_eqb, eqb-true, ◌^◌, w64, Fits, map}
+use Rattle.std.proofs.lemmas.List.{map-set, length-map}
 use denote.Enum.Bare.{sameb}
 use mir.Val.{bool_byte}
 use borrow.Author.Tests.{eqb-false}
@@ -19,7 +20,7 @@ use Rattle.model.proofs.Order.{before_or, before_irrefl, ordered_at}
 use Rattle.model.proofs.Comparisons.{ordered_back}
 use Rattle.search.specs.Keys.{rank}
 use Rattle.search.proofs.Ranking.{key_rank}
-use Rattle.table.specs.Contents.{Contents, contents, spare_row, row_no}
+use Rattle.table.specs.Contents.{Contents, contents, WholeBlocks, spare_row, row_no}
 use Rattle.table.specs.Searching.{Searchable}
 use Rattle.table.proofs.Held.{rows_length, row_at_lem}
 use Rattle.lifecycle.specs.declared.Limits.{Limits}
@@ -45,14 +46,17 @@ module _ (n b : List ℕ) (u : ℕ) (t : Contents) (e : contents n b u ≡ t) (s
   pub behind_fits : length b < 2 ^ 64 → Fits w64 (64 * i + 64)
   behind_fits l = record { fits = omega (arith, used_there, s.keys_have_room) }
 
-  pub there_block : is_block (take (64 * i + 64 - 64 * i) (drop (64 * i) b)) ≡ true
-  there_block = rw (part_cut b (64 * i) 64) (s.whole i used_there)
+  whole_there : WholeBlocks t → is_block (take 64 (drop (64 * i) b)) ≡ true
+  whole_there w = ap (λ (v : Contents). is_block (take 64 (drop (64 * i) v.keys))) e ∙ w.whole i h
+
+  pub there_block : WholeBlocks t → is_block (take (64 * i + 64 - 64 * i) (drop (64 * i) b)) ≡ true
+  there_block w = rw (part_cut b (64 * i) 64) (whole_there w)
 
   block_key : key_in (take (64 * i + 64 - 64 * i) (drop (64 * i) b)) ≡ (row_no t.rows i).key
   block_key = rw (part_cut b (64 * i) 64) (ap (λ (x : Row). x.key) (row_at_lem n b u i spare_row used_there) ∙ ap (λ (v : Contents). (row_no v.rows i).key) e)
 
-  pub key_rank_as : (x : ℕ) → x ≡ rank 8 (drop (64 * i + 1) b) → x ≡ rank 8 (row_no t.rows i).key
-  key_rank_as x f = f ∙ key_rank b i (s.whole i used_there) ∙ ap (λ (l : List ℕ). rank 8 (key_in l)) (sym (part_cut b (64 * i) 64)) ∙ ap (rank 8) block_key
+  pub key_rank_as : WholeBlocks t → (x : ℕ) → x ≡ rank 8 (drop (64 * i + 1) b) → x ≡ rank 8 (row_no t.rows i).key
+  key_rank_as w x f = f ∙ key_rank b i (whole_there w) ∙ ap (λ (l : List ℕ). rank 8 (key_in l)) (sym (part_cut b (64 * i) 64)) ∙ ap (rank 8) block_key
 
 pub same_at : (n b : List ℕ) (u : ℕ) (t : Contents) → contents n b u ≡ t → Searchable n b u → (i j : ℕ) → i < length t.rows → j < length t.rows → (r : Bool)
     → r ≡ same (key_in (take (64 * i + 64 - 64 * i) (drop (64 * i) b))) (key_in (take (64 * j + 64 - 64 * j) (drop (64 * j) b))) → r ≡ same (row_no t.rows i).key (row_no t.rows j).key
@@ -188,23 +192,23 @@ pub ruleset first_cases = (end_last, second_same, second_other)
 
 -- ## Storing fates one after the other
 
-pub stored_none : (f : ℕ → Fate) (i : ℕ) (m : List Fate) → Stored f i i m m
-stored_none f i m = record { long = refl; early = λ _ _. refl; inside = λ j p q. absurd (omega arith); late = λ _ _. refl }
+pub stored_none : {A : Type 0} (cell : Fate → A) (f : ℕ → Fate) (i : ℕ) (m : List A) → Stored cell f i i m m
+stored_none cell f i m = record { long = refl; early = λ _ _. refl; inside = λ j p q. absurd (omega arith); late = λ _ _. refl }
 
-pub stored_next : (f : ℕ → Fate) (from i : ℕ) (v : Fate) (entry m : List Fate) → Stored f from i entry m → from ≤ i → i < length m → v ≡ f i → Stored f from (i + 1) entry (set m i v)
-stored_next f from i v entry m h l g e =
+pub stored_next : {A : Type 0} (cell : Fate → A) (f : ℕ → Fate) (from i : ℕ) (v : A) (entry m : List A) → Stored cell f from i entry m → from ≤ i → i < length m → v ≡ cell (f i) → Stored cell f from (i + 1) entry (set m i v)
+stored_next cell f from i v entry m h l g e =
     record {
       long = length-set m i v ∙ h.long;
-      early = λ j p. get_or-set_other m i j v Stays (λ q. omega arith) ∙ h.early j p;
+      early = λ j p. get_or-set_other m i j v (cell Stays) (λ q. omega arith) ∙ h.early j p;
       inside = λ j p q. elim (either (eqb j i)) [
-        | inl s ↦ let y : j ≡ i = eqb-true j i s in rw (y, get_or-set_same m i v Stays g) e
-        | inr s ↦ let y : j ≡ i → ⊥ = eqb-false j i s in rw (get_or-set_other m i j v Stays y) (h.inside j p (omega (arith, y)))
+        | inl s ↦ let y : j ≡ i = eqb-true j i s in rw (y, get_or-set_same m i v (cell Stays) g) e
+        | inr s ↦ let y : j ≡ i → ⊥ = eqb-false j i s in rw (get_or-set_other m i j v (cell Stays) y) (h.inside j p (omega (arith, y)))
       ];
-      late = λ j p. get_or-set_other m i j v Stays (λ q. omega arith) ∙ h.late j (omega arith);
+      late = λ j p. get_or-set_other m i j v (cell Stays) (λ q. omega arith) ∙ h.late j (omega arith);
     }
 
-pub stored_more : (f : ℕ → Fate) (i j : ℕ) (entry m exit : List Fate) → Stored f 0 i entry m → i ≤ j → Stored f i j m exit → Stored f 0 j entry exit
-stored_more f i j entry m exit h l g =
+pub stored_more : {A : Type 0} (cell : Fate → A) (f : ℕ → Fate) (i j : ℕ) (entry m exit : List A) → Stored cell f 0 i entry m → i ≤ j → Stored cell f i j m exit → Stored cell f 0 j entry exit
+stored_more cell f i j entry m exit h l g =
     record {
       long = g.long ∙ h.long;
       early = λ k p. absurd (omega arith);
@@ -223,66 +227,70 @@ older_marks xs d t u i =
     pick_ways (λ f. marks f ≡ 0) (over d (row_no xs (i - 1)).created u) (λ _. pick_ways (λ f. marks f ≡ 0) (locked t false (row_no xs i)) (λ _. refl) (λ _. refl)) (λ _. refl)
 
 -- what holds at each turn
-pub record JudgingOlder (xs : List Row) (from to d t u : ℕ) (entry m : List Fate) (i removed : ℕ) : Type 0 where
+pub record JudgingOlder {A : Type 0} (cell : Fate → A) (fate_in : A → Fate) (xs : List Row) (from to d t u : ℕ) (entry m : List A) (i removed : ℕ) : Type 0 where
   pub low : from ≤ i
   pub top : i ≤ to
   pub long : length m ≡ length entry
-  pub stored : Stored (older_fate xs d t u) from i entry m
-  pub counts : CountedOn entry m from i removed 0
+  pub stored : Stored cell (older_fate xs d t u) from i entry m
+  pub counts : CountedOn (map fate_in entry) (map fate_in m) from i removed 0
 
-module _ (xs : List Row) (from to d t u : ℕ) (entry : List Fate) where
-  pub older_start : from ≤ to → JudgingOlder xs from to d t u entry entry from 0
-  older_start h = record { low = omega arith; top = h; long = refl; stored = stored_none (older_fate xs d t u) from entry; counts = counted_none from entry }
+module _ {A : Type 0} (cell : Fate → A) (fate_in : A → Fate) (xs : List Row) (from to d t u : ℕ) (entry : List A) where
+  pub older_start : from ≤ to → JudgingOlder cell fate_in xs from to d t u entry entry from 0
+  older_start h =
+      record { low = omega arith; top = h; long = refl; stored = stored_none cell (older_fate xs d t u) from entry; counts = counted_none from (map fate_in entry) }
 
-  module _ (m : List Fate) (i c : ℕ) (h : JudgingOlder xs from to d t u entry m i c) where
+  module _ (m : List A) (i c : ℕ) (h : JudgingOlder cell fate_in xs from to d t u entry m i c) where
     pub older_room : i < to → to ≤ length entry → i < length m
     older_room g l = omega (arith, h.long)
 
     pub older_later : 1 ≤ from → 1 ≤ i
     older_later l = omega (arith, h.low)
 
-    pub older_step : (v : Fate) (q : Bool) (r : ℕ) → i < to → to ≤ length entry → v ≡ older_fate xs d t u i → q ≡ sameb the_type v Goes → r ≡ bool_byte q → JudgingOlder xs from to d t u entry (set m i v) (i + 1) (c + r)
-    older_step v q r g l e x s =
+    pub older_step : ((f : Fate) → fate_in (cell f) ≡ f) → (v : Fate) (w : A) (q : Bool) (r : ℕ) → i < to → to ≤ length entry → v ≡ older_fate xs d t u i → w ≡ cell v → q ≡ sameb the_type v Goes → r ≡ bool_byte q
+        → JudgingOlder cell fate_in xs from to d t u entry (set m i w) (i + 1) (c + r)
+    older_step back v w q r g l e y x s =
         record {
           low = omega (arith, h.low);
           top = omega arith;
-          long = length-set m i v ∙ h.long;
-          stored = stored_next (older_fate xs d t u) from i v entry m h.stored h.low (older_room g l) e;
-          counts = counted_more from i v entry m c 0 r 0 h.counts h.low (older_room g l) (s ∙ ap bool_byte x ∙ goes_is v) (sym (ap marks e ∙ older_marks xs d t u i));
+          long = length-set m i w ∙ h.long;
+          stored = stored_next cell (older_fate xs d t u) from i w entry m h.stored h.low (older_room g l) (y ∙ ap cell e);
+          counts =
+              let k : i < length (map fate_in m) = omega (arith, length-map m fate_in, older_room g l) in
+              rw (map-set fate_in m i w, y, back v) (counted_more from i v (map fate_in entry) (map fate_in m) c 0 r 0 h.counts h.low k (s ∙ ap bool_byte x ∙ goes_is v) (sym (ap marks e ∙ older_marks xs d t u i)));
         }
 
     pub older_few : c ≤ i
     older_few = omega (arith, h.counts.few_gone)
 
-    pub older_counted : to ≤ i → CountedOn entry m from to c 0
+    pub older_counted : to ≤ i → CountedOn (map fate_in entry) (map fate_in m) from to c 0
     older_counted g = let e : i ≡ to = omega (arith, h.top) in rw e at h.counts
 
-    pub older_end : to ≤ i → Stored (older_fate xs d t u) from to entry m
+    pub older_end : to ≤ i → Stored cell (older_fate xs d t u) from to entry m
     older_end g = let e : i ≡ to = omega (arith, h.top) in rw e at h.stored
 
 pub ruleset older_cases = (older_start, older_room, older_later, older_step, older_few, older_counted, older_end)
 
 -- ## All rows of a key
 
-pub first_room : (from to : ℕ) (m : List Fate) → from < to → to ≤ length m → from < length m
+pub first_room : {A : Type 0} (from to : ℕ) (m : List A) → from < to → to ≤ length m → from < length m
 first_room from to m h g = omega arith
 
-pub older_fits : (to i : ℕ) (v : Fate) (m : List Fate) → to ≤ length m → to ≤ length (set m i v)
+pub older_fits : {A : Type 0} (to i : ℕ) (v : A) (m : List A) → to ≤ length m → to ≤ length (set m i v)
 older_fits to i v m g = rw (length-set m i v) g
 
-pub versions_stored : (xs : List Row) (from to : ℕ) (l : Limits) (t u : ℕ) (v : Fate) (entry exit : List Fate) → from < to → to ≤ length entry → v ≡ current_by l.current u (row_no xs from)
-    → Stored (older_fate xs l.noncurrent t u) (from + 1) to (set entry from v) exit → Stored (version_fate xs l t u from) from to entry exit
-versions_stored xs from to l t u v entry exit g r e s =
+pub versions_stored : {A : Type 0} (cell : Fate → A) (xs : List Row) (from to : ℕ) (l : Limits) (t u : ℕ) (v : Fate) (w : A) (entry exit : List A) → from < to → to ≤ length entry → v ≡ current_by l.current u (row_no xs from) → w ≡ cell v
+    → Stored cell (older_fate xs l.noncurrent t u) (from + 1) to (set entry from w) exit → Stored cell (version_fate xs l t u from) from to entry exit
+versions_stored cell xs from to l t u v w entry exit g r e x s =
     record {
-      long = s.long ∙ length-set entry from v;
-      early = λ i p. s.early i (omega arith) ∙ get_or-set_other entry from i v Stays (λ q. omega arith);
+      long = s.long ∙ length-set entry from w;
+      early = λ i p. s.early i (omega arith) ∙ get_or-set_other entry from i w (cell Stays) (λ q. omega arith);
       inside = λ i p q. elim (either (eqb i from)) [
         | inl o ↦
             let y : i ≡ from = eqb-true i from o in
-            rw (o, y) (s.early from (omega arith) ∙ get_or-set_same entry from v Stays (omega arith) ∙ e)
+            rw (o, y) (s.early from (omega arith) ∙ get_or-set_same entry from w (cell Stays) (omega arith) ∙ x ∙ ap cell e)
         | inr o ↦ rw o (s.inside i (omega (arith, eqb-false i from o)) q)
       ];
-      late = λ i p. s.late i p ∙ get_or-set_other entry from i v Stays (λ q. omega arith);
+      late = λ i p. s.late i p ∙ get_or-set_other entry from i w (cell Stays) (λ q. omega arith);
     }
 
 -- A current row never goes.
@@ -290,9 +298,10 @@ current_removes : (d u : ℕ) (x : Row) → removes (current_by d u x) ≡ 0
 unfolding current_by
 current_removes d u x = pick_ways (λ f. removes f ≡ 0) (is_data x) (λ _. pick_ways (λ f. removes f ≡ 0) (over d x.created u) (λ _. refl) (λ _. refl)) (λ _. refl)
 
-pub versions_counted : (xs : List Row) (from to d u c r : ℕ) (q : Bool) (v : Fate) (entry exit : List Fate) → v ≡ current_by d u (row_no xs from) → from < to → to ≤ length entry → q ≡ sameb the_type v Gains → r ≡ bool_byte q
-    → CountedOn (set entry from v) exit (from + 1) to c 0 → CountedOn entry exit from to c r
-versions_counted xs from to d u c r q v entry exit e g l x s h =
-    counted_first from to v entry exit c r g l (ap removes e ∙ current_removes d u (row_no xs from)) (s ∙ ap bool_byte x ∙ gains_is v) h
+pub versions_counted : {A : Type 0} (cell : Fate → A) (fate_in : A → Fate) → ((f : Fate) → fate_in (cell f) ≡ f) → (xs : List Row) (from to d u c r : ℕ) (q : Bool) (v : Fate) (w : A) (entry exit : List A) → v ≡ current_by d u (row_no xs from) → from < to
+    → to ≤ length entry → q ≡ sameb the_type v Gains → r ≡ bool_byte q → w ≡ cell v → CountedOn (map fate_in (set entry from w)) (map fate_in exit) (from + 1) to c 0 → CountedOn (map fate_in entry) (map fate_in exit) from to c r
+versions_counted cell fate_in back xs from to d u c r q v w entry exit e g l x s y h =
+    counted_first from to v (map fate_in entry) (map fate_in exit) c r g (omega (arith, length-map entry fate_in)) (ap removes e ∙ current_removes d u (row_no xs from)) (s ∙ ap bool_byte x ∙ gains_is v)
+    (rw (map-set fate_in entry from w, y, back v) at h)
 
 pub ruleset version_cases = (first_room, older_fits, versions_stored, versions_counted)

@@ -1,5 +1,5 @@
 -- 01, SWEEP: judging a table's rows, key by key.
-use Rattle.std.specs.Prelude.{◌≡◌, ℕ, zero, suc, ◌+◌, ◌-◌, ◌*◌, ◌<◌, ◌≤◌, Bool, true, false, List, length, take, ◌==◌, ◌≢◌, get_or}
+use Rattle.std.specs.Prelude.{◌≡◌, ℕ, zero, suc, ◌+◌, ◌-◌, ◌*◌, ◌<◌, ◌≤◌, Bool, true, false, List, length, take, map, ◌==◌, ◌≢◌, get_or}
 use Rattle.std.specs.Prelude.{Option, Some, None}
 use Rattle.buffers.specs.Choices.{pick}
 use Rattle.buffers.specs.Lists.{all, same, total}
@@ -88,16 +88,16 @@ pub record Judgeable (xs : List Row) (rules : List Rule) : Type 0 where
   pub prefixes : prefixes_are rules ≡ true
   pub days : all few_days (rules_mean rules) ≡ true
 
--- the fate at a position; behind the last one any fate would do
-abbrev pub fate_no : List Fate → ℕ → Fate
-fate_no fs i = get_or fs i Stays
+-- what is kept at a position; behind the last one any fate would do
+abbrev pub cell_no : {A : Type 0} → (Fate → A) → List A → ℕ → A
+cell_no cell fs i = get_or fs i (cell Stays)
 
 -- The fates from one position to another were stored, each what f says, and the others are as they were.
-pub record Stored (f : ℕ → Fate) (from to : ℕ) (entry exit : List Fate) : Type 0 where
+pub record Stored {A : Type 0} (cell : Fate → A) (f : ℕ → Fate) (from to : ℕ) (entry exit : List A) : Type 0 where
   pub long : length exit ≡ length entry
-  pub early : (i : ℕ) → i < from → fate_no exit i ≡ fate_no entry i
-  pub inside : (i : ℕ) → from ≤ i → i < to → fate_no exit i ≡ f i
-  pub late : (i : ℕ) → to ≤ i → fate_no exit i ≡ fate_no entry i
+  pub early : (i : ℕ) → i < from → cell_no cell exit i ≡ cell_no cell entry i
+  pub inside : (i : ℕ) → from ≤ i → i < to → cell_no cell exit i ≡ cell (f i)
+  pub late : (i : ℕ) → to ≤ i → cell_no cell exit i ≡ cell_no cell entry i
 
 -- How many rows the fates remove, and how many markers they add.
 pub record Counted (fs : List Fate) (removed added : ℕ) : Type 0 where
@@ -111,21 +111,21 @@ pub record CountedOn (entry exit : List Fate) (from to removed added : ℕ) : Ty
   pub on : (gone come : ℕ) → Counted (take from entry) gone come → Counted (take to exit) (gone + removed) (come + added)
 
 -- The fates of a key's rows were stored and counted, and each rule compared with the key once.
-pub record JudgedKey (us : List model.Rule) (now : ℕ) (xs : List Row) (at : ℕ) (before : Judged) (entry exit : List Fate) (r : KeyDone) : Type 0 where
+pub record JudgedKey {A : Type 0} (cell : Fate → A) (fate_in : A → Fate) (us : List model.Rule) (now : ℕ) (xs : List Row) (at : ℕ) (before : Judged) (entry exit : List A) (r : KeyDone) : Type 0 where
   pub ends : KeyEnds xs at r.end
-  pub stored : Stored (fate_at us now xs) at r.end entry exit
-  pub counts : Counted (take r.end exit) r.judged.counts.removed r.judged.counts.added
+  pub stored : Stored cell (fate_at us now xs) at r.end entry exit
+  pub counts : Counted (take r.end (map fate_in exit)) r.judged.counts.removed r.judged.counts.added
   pub compared : r.judged.comparisons ≡ before.comparisons + length us
 
 -- The fates of all rows were stored and counted, and each rule compared with each different key once.
-pub record JudgedAll (us : List model.Rule) (now : ℕ) (xs : List Row) (entry exit : List Fate) (r : Judged) : Type 0 where
-  pub fates_are : exit ≡ fates_after us now xs entry
+pub record JudgedAll {A : Type 0} (cell : Fate → A) (fate_in : A → Fate) (us : List model.Rule) (now : ℕ) (xs : List Row) (entry exit : List A) (r : Judged) : Type 0 where
+  pub fates_are : exit ≡ fates_after cell us now xs entry
   pub enough : length xs ≤ length exit
-  pub counts : Counted (take (length xs) exit) r.counts.removed r.counts.added
+  pub counts : Counted (take (length xs) (map fate_in exit)) r.counts.removed r.counts.added
   pub compared : r.comparisons ≡ length us * length (different (row_keys xs))
 
 -- The fates of all rows, and how many rows go and how many markers come.
-pub record JudgedRows (us : List model.Rule) (now : ℕ) (xs : List Row) (entry exit : List Fate) (r : Counts) : Type 0 where
-  pub fates_are : exit ≡ fates_after us now xs entry
+pub record JudgedRows {A : Type 0} (cell : Fate → A) (us : List model.Rule) (now : ℕ) (xs : List Row) (entry exit : List A) (r : Counts) : Type 0 where
+  pub fates_are : exit ≡ fates_after cell us now xs entry
   pub removed : Within r.removed (counted removes us now None xs) (length xs)
   pub added : Within r.added (counted marks us now None xs) (length xs)

@@ -5,13 +5,13 @@ mod day;
 mod laid;
 mod rules;
 
-ghost use Rattle.std.specs.Prelude.{◌≡◌, ℕ, ◌+◌, ◌<◌, ◌≤◌, true, false, length, take};
+ghost use Rattle.std.specs.Prelude.{◌≡◌, ℕ, ◌+◌, ◌<◌, ◌≤◌, true, false, length, take, map};
 ghost use Rattle.buffers.specs.Lists.{all, same};
 ghost use Rattle.blocks.specs.Blocks.{key_in, is_block};
 ghost use Rattle.model.specs.Comparisons.{comparisons};
 ghost use Rattle.settings.specs.Meaning.{rules_mean};
 ghost use Rattle.settings.specs.Bytes.{entries_length, rules_of};
-ghost use Rattle.table.specs.Contents.{row_no};
+ghost use Rattle.table.specs.Contents.{WholeBlocks, row_no};
 ghost use Rattle.lifecycle.specs.Least.{most_comparisons};
 ghost use Rattle.lifecycle.specs.LaidRules.{rules_in};
 ghost use Rattle.lifecycle.specs.Days.{few_days};
@@ -19,7 +19,7 @@ ghost use Rattle.lifecycle.specs.Judging.{current_by, same_key, older_fate, vers
 
 use day::Day;
 use laid::LaidRule;
-use model::Fate;
+use model::{Fate, FateCell};
 use table::Table;
 
 // The least days that the rules set for a key's rows, 0 for none.
@@ -104,7 +104,8 @@ fn same_block(a: &[u8], b: &[u8]) -> bool
 
 // Two rows have one key.
 fn same_key(table: &Table, at: usize, other: usize) -> bool
-    requires { (at < length table.now.rows) × (other < length table.now.rows) }
+    requires there { (at < length table.now.rows) × (other < length table.now.rows) }
+    requires whole { WholeBlocks table.now }
     ensures { result ≡ same (row_no table.now.rows at).key (row_no table.now.rows other).key }
 {
     let keys = table.keys;
@@ -129,7 +130,8 @@ fn probe(low: usize, high: usize, guess: usize) -> usize
 
 // Where the rows of the key at a position end, which go on at least to `start`. Keys are in order, so that few are compared: first as many rows on as are expected, then in steps that double. A guess may be any number, so that its sums may wrap.
 fn search_end(table: &Table, at: usize, start: usize, expected: usize) -> usize
-    requires { KeyEnding table.now.rows at start (length table.now.rows) }
+    requires ending { KeyEnding table.now.rows at start (length table.now.rows) }
+    requires whole { WholeBlocks table.now }
     ensures { KeyEnds table.now.rows at result }
 {
     let mut low = start;
@@ -154,7 +156,8 @@ fn search_end(table: &Table, at: usize, start: usize, expected: usize) -> usize
 
 // Where the rows of a key that has two or more end. The next few are looked at one by one, since most keys have few.
 fn later_end(table: &Table, at: usize, expected: usize) -> usize
-    requires { KeyEnding table.now.rows at (at + 2) (length table.now.rows) }
+    requires ending { KeyEnding table.now.rows at (at + 2) (length table.now.rows) }
+    requires whole { WholeBlocks table.now }
     ensures { KeyEnds table.now.rows at result }
 {
     let near = at + (table.len() - at).min(4);
@@ -168,7 +171,8 @@ fn later_end(table: &Table, at: usize, expected: usize) -> usize
 
 // Where the rows of the key at a position end.
 fn key_end(table: &Table, at: usize, expected: usize) -> usize
-    requires { at < length table.now.rows }
+    requires there { at < length table.now.rows }
+    requires whole { WholeBlocks table.now }
     ensures { KeyEnds table.now.rows at result }
 {
     let used = table.len();
@@ -181,44 +185,44 @@ fn key_end(table: &Table, at: usize, expected: usize) -> usize
 }
 
 // Judges rows that aren't current, by their key's days, and returns how many go.
-fn judge_older(
+fn judge_older<F: FateCell>(
     table: &Table,
     from: usize,
     to: usize,
     days: u64,
     today: Day,
-    fates: &mut [Fate],
+    fates: &mut [F],
 ) -> usize
     requires rows { (1 ≤ from) × (from ≤ to) × (to ≤ length table.now.rows) × (to ≤ length fates.old) }
     requires dated { Dated table.now.rows × (days ≤ 36500) }
-    ensures fates_stored { Stored (older_fate table.now.rows days today.instant today.midnight) from to fates.old fates.new }
-    ensures counted { CountedOn fates.old fates.new from to result 0 }
+    ensures fates_stored { Stored F.cell (older_fate table.now.rows days today.instant today.midnight) from to fates.old fates.new }
+    ensures counted { CountedOn (map F.fate_in fates.old) (map F.fate_in fates.new) from to result 0 }
 {
     let mut removed = 0;
     for i in from..to {
         let fate = noncurrent_fate(table, i, days, today);
-        fates[i] = fate;
+        fates[i] = F::of(fate);
         removed += usize::from(fate == Fate::Goes);
     }
     removed
 }
 
 // Judges the rows of one key by its limits, and counts: the first is current, the others aren't.
-fn judge_versions(
+fn judge_versions<F: FateCell>(
     table: &Table,
     from: usize,
     to: usize,
     limits: Limits,
     today: Day,
-    fates: &mut [Fate],
+    fates: &mut [F],
 ) -> Counts
     requires rows { (from < to) × (to ≤ length table.now.rows) × (to ≤ length fates.old) }
     requires dated { Dated table.now.rows × (limits.current ≤ 36500) × (limits.noncurrent ≤ 36500) }
-    ensures fates_stored { Stored (version_fate table.now.rows limits today.instant today.midnight from) from to fates.old fates.new }
-    ensures counted { CountedOn fates.old fates.new from to result.removed result.added }
+    ensures fates_stored { Stored F.cell (version_fate table.now.rows limits today.instant today.midnight from) from to fates.old fates.new }
+    ensures counted { CountedOn (map F.fate_in fates.old) (map F.fate_in fates.new) from to result.removed result.added }
 {
     let fate = current_fate(table, from, limits.current, today);
-    fates[from] = fate;
+    fates[from] = F::of(fate);
     let removed = judge_older(table, from + 1, to, limits.noncurrent, today, fates);
     Counts {
         removed,
@@ -227,21 +231,22 @@ fn judge_versions(
 }
 
 // Judges the rows of the key that begins at a position. The key is compared with the rules once, however many rows it has.
-fn judge_key(
+fn judge_key<F: FateCell>(
     table: &Table,
     at: usize,
     expected: usize,
     rules: &[LaidRule],
     before: Judged,
     today: Day,
-    fates: &mut [Fate],
+    fates: &mut [F],
 ) -> KeyDone
     requires rows { (at < length table.now.rows) × (length table.now.rows ≤ length fates.old) × Dated table.now.rows }
     requires first { same_key table.now.rows at ≡ false }
+    requires whole { WholeBlocks table.now }
     requires days { all few_days (rules_in rules.now) ≡ true }
     requires most { before.comparisons + length rules.now ≤ most_comparisons }
-    requires counted { Counted (take at fates.old) before.counts.removed before.counts.added }
-    ensures { JudgedKey (rules_in rules.now) today.instant table.now.rows at before fates.old fates.new result }
+    requires counted { Counted (take at (map F.fate_in fates.old)) before.counts.removed before.counts.added }
+    ensures { JudgedKey F.cell F.fate_in (rules_in rules.now) today.instant table.now.rows at before fates.old fates.new result }
 {
     let end = key_end(table, at, expected);
     let matched = rules::match_key(rules, table, at, before.comparisons);
@@ -258,10 +263,11 @@ fn judge_key(
 }
 
 // Judges every row, key by key. Neighbouring keys often have as many rows.
-fn judge_rows(table: &Table, rules: &[LaidRule], today: Day, fates: &mut [Fate]) -> Judged
+fn judge_rows<F: FateCell>(table: &Table, rules: &[LaidRule], today: Day, fates: &mut [F]) -> Judged
     requires rows { (length table.now.rows ≤ length fates.old) × (length table.now.rows ≤ 1024) × Dated table.now.rows }
     requires laid { (length rules.now ≤ 8) × (all few_days (rules_in rules.now) ≡ true) }
-    ensures { JudgedAll (rules_in rules.now) today.instant table.now.rows fates.old fates.new result }
+    requires whole { WholeBlocks table.now }
+    ensures { JudgedAll F.cell F.fate_in (rules_in rules.now) today.instant table.now.rows fates.old fates.new result }
 {
     let counts = Counts {
         removed: 0,
@@ -284,11 +290,17 @@ fn judge_rows(table: &Table, rules: &[LaidRule], today: Day, fates: &mut [Fate])
 }
 
 // Judges every row by the rules that are set, and counts.
-pub fn judge_table(table: &Table, entries: &[u8], instant: u64, fates: &mut [Fate]) -> Judged
+pub fn judge_table<F: FateCell>(
+    table: &Table,
+    entries: &[u8],
+    instant: u64,
+    fates: &mut [F],
+) -> Judged
     requires entries_len { length entries.now ≡ entries_length }
+    requires whole { WholeBlocks table.now }
     requires judgeable { Judgeable table.now.rows (rules_of entries.now) }
     requires used_in_bounds { length table.now.rows ≤ length fates.old }
-    ensures judged_rows { JudgedRows (rules_mean (rules_of entries.now)) instant table.now.rows fates.old fates.new result.counts }
+    ensures judged_rows { JudgedRows F.cell (rules_mean (rules_of entries.now)) instant table.now.rows fates.old fates.new result.counts }
     ensures comparisons_value { result.comparisons ≡ comparisons (rules_mean (rules_of entries.now)) table.now.rows }
 {
     let mut rules = [rules::no_rule(); 8];

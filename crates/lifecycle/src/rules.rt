@@ -6,7 +6,7 @@ ghost use Rattle.model.specs.Settings.{is_set};
 ghost use Rattle.model.specs.Comparisons.{set_rules};
 ghost use Rattle.settings.specs.Meaning.{rules_mean, prefixes_are};
 ghost use Rattle.settings.specs.Bytes.{entries_length, rules_of};
-ghost use Rattle.table.specs.Contents.{row_no};
+ghost use Rattle.table.specs.Contents.{WholeBlocks, row_no};
 ghost use Rattle.search.specs.Keys.{rank};
 ghost use Rattle.lifecycle.specs.Least.{lesser, compared, most_comparisons, KeyMatched};
 ghost use Rattle.lifecycle.specs.LaidRules.{rule_of, rules_in};
@@ -105,7 +105,8 @@ fn compare(rule: &LaidRule, key: &[u8], first: u64, found: Matched) -> Matched
 
 // The rank of the first eight bytes of the key at a position.
 fn first_rank(table: &Table, at: usize) -> u64
-    requires { at < length table.now.rows }
+    requires there { at < length table.now.rows }
+    requires whole { WholeBlocks table.now }
     ensures { result ≡ rank 8 (row_no table.now.rows at).key }
 {
     search::rank_at(table.keys, 64 * at + 1)
@@ -113,7 +114,8 @@ fn first_rank(table: &Table, at: usize) -> u64
 
 // What the rules set for the key at a position, each compared with it once.
 pub fn match_key(rules: &[LaidRule], table: &Table, at: usize, comparisons: u64) -> Matched
-    requires { (at < length table.now.rows) × (comparisons + length rules.now ≤ most_comparisons) }
+    requires bounds { (at < length table.now.rows) × (comparisons + length rules.now ≤ most_comparisons) }
+    requires whole { WholeBlocks table.now }
     ensures { KeyMatched (rules_in rules.now) (row_no table.now.rows at).key comparisons result }
 {
     let first = first_rank(table, at);

@@ -117,6 +117,10 @@ pub start_within : (p k : List ℕ) (v u : ℕ) (xs : List Row) (f a r : ℕ) �
 unfolding page_start
 start_within p k v u xs f a r x y e = record { is = omega (arith, x.is, y.is); most = omega (arith, x.most, y.most) }
 
+-- It is the one after the key and the version, where the prefix's is in front of that.
+pub start_after : (p k : List ℕ) (v u : ℕ) (xs : List Row) (f a : ℕ) → Within f (key_place p xs) u → Within a (place_after k v xs) u → f < a → Within a (page_start p k v xs) u
+start_after p k v u xs f a x y h = start_within p k v u xs f a a x y (omega arith)
+
 -- ## The page's end
 
 module _ (xs : List Row) (p : List ℕ) (start count : ℕ) (o : ordered xs ≡ true) (s : Span (key_place p xs) start (length xs)) (answers : ℕ → Ordering → Type 0)

@@ -8,6 +8,7 @@ pub mod Pages
 pub mod Time
 pub mod Locks
 pub mod Reports
+pub mod Fates
 pub mod Sweep
 pub mod Effects
 pub mod Expiry

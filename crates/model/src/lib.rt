@@ -4,6 +4,8 @@
 ghost use Rattle.std.specs.Prelude.{◌≡◌};
 ghost use Rattle.model.specs.Refusal.{number_of};
 ghost use Rattle.model.specs.Kinds.{kind_number, mode_number};
+ghost use Rattle.model.specs.declared.Fate.{Fate};
+ghost use Rattle.model.specs.Fates.{same_fate, same_back, fate_byte, fate_of, byte_back};
 
 // Why a line is refused.
 #[derive(Clone, Copy, Debug, PartialEq, Eq)]
@@ -71,6 +73,64 @@ pub enum Fate {
     Stays,
     Goes,
     Gains,
+}
+
+// What a buffer keeps of a row's fate: the fate itself, or a byte.
+pub trait FateCell: Copy {
+    ghost cell: { Fate → Self };
+
+    ghost fate_in: { Self → Fate };
+
+    // What is kept of a fate.
+    fn of(fate: Fate) -> Self
+        ensures { result ≡ cell fate };
+
+    // The fate that is kept.
+    fn fate(self) -> Fate
+        ensures { result ≡ fate_in self };
+
+    ghost back: { (f : Fate) → fate_in (cell f) ≡ f };
+}
+
+impl FateCell for Fate {
+    ghost cell = { same_fate };
+
+    ghost fate_in = { same_fate };
+
+    ghost back = { same_back };
+
+    fn of(fate: Fate) -> Fate {
+        fate
+    }
+
+    fn fate(self) -> Fate {
+        self
+    }
+}
+
+// As a byte a fate is 0 if the row stays, 1 if it goes, 2 if it gains a marker; any other byte stays too.
+impl FateCell for u8 {
+    ghost cell = { fate_byte };
+
+    ghost fate_in = { fate_of };
+
+    ghost back = { byte_back };
+
+    fn of(fate: Fate) -> u8 {
+        match fate {
+            Fate::Stays => 0,
+            Fate::Goes => 1,
+            Fate::Gains => 2,
+        }
+    }
+
+    fn fate(self) -> Fate {
+        match self {
+            1 => Fate::Goes,
+            2 => Fate::Gains,
+            _ => Fate::Stays,
+        }
+    }
 }
 
 // The largest length of a body, in bytes.

@@ -18,3 +18,6 @@ text_fits t a = simp length-append (omega arith)
 
 pub outcome_fits : (b : Lent) (g : Call) → (outcome b g).len ≤ length (outcome b g).answer
 outcome_fits b g = both_outcomes b g g (λ o p. o.len ≤ length o.answer) (λ k. omega arith) (λ q. text_fits (answer_text (answer_to (bucket_of b) (meaning (bucket_of b) q))) g.answer) refl
+
+pub end_inside : (k v i : ℕ) (l : List ℕ) (m : ℕ) → Within k v (length (take m (drop i l))) → k ≤ m
+end_inside k v i l m w = let e = length-take m (drop i l) in omega (arith, w.most)

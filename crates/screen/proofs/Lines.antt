@@ -12,7 +12,7 @@ use mathlib.Core.List.{List}
 use Rattle.std.specs.Prelude.{Option, Some, None}
 use native.Mathlib.Omega.{arith}
 use lib.Dec.{ltb}
-use borrow.Author.Tests.{ltb-true, ltb-false}
+use borrow.Author.Tests.{lt-ltb, le-ltb, ltb-true, ltb-false}
 use Rattle.buffers.specs.Choices.{pick}
 use Rattle.calendar.specs.declared.Now.{Now}
 use Rattle.model.specs.Settings.{Config}
@@ -26,6 +26,17 @@ use Rattle.request.specs.Grammar.{request_in, read_line}
 use Rattle.request.specs.Meaning.{verb_means, VerbInside}
 use Rattle.request.proofs.Ranges.{request_stands}
 use Rattle.screen.specs.Screen.{screened, request_refusal, screened_line}
+
+-- ## The ways through the code
+
+module _ (s : Config) (time : ℕ) (line : List ℕ) (room : ℕ) where
+  pub line_2 : room < 256 → Err ShortAnswer ≡ screened_line s time line room
+  unfolding screened_line
+  line_2 l = simp (lt-ltb room 256 l)
+
+  pub line_stops : 256 ≤ room → (q : Request) → request_in line ≡ Some q → (k : Refusal) → request_refusal s time line room q ≡ Err k → Err k ≡ screened_line s time line room
+  unfolding screened_line
+  line_stops l q f k z = simp (le-ltb _ _ l, f, z)
 
 -- ## For callers
 

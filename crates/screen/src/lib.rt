@@ -155,7 +155,9 @@ pub fn screen_line(s: State, line: &[u8], room: usize) -> Result<Passed, Refusal
     if room < model::LEAST_ROOM {
         return Err(Refusal::ShortAnswer);
     }
-    let q = request::read_line(line)?;
+    let Ok(q) = request::read_line(line) else {
+        return Err(Refusal::Unreadable);
+    };
     let when = now_at(s.time, q.clock);
     screen(q, room, when.stamp)?;
     Ok(Passed { verb: q.verb, when })

@@ -49,7 +49,7 @@ module _ (q : Row → Bool) where
       rw t (omega (arith, leading_passes m xs i y (and_r (all (ahead x) xs) _ o) f e))
 
   -- All rows ahead of one that pass stand in front of it.
-  leading_reaches : (xs : List Row) (i : ℕ) (y : Row) → ordered xs ≡ true → nth_row xs i ≡ Some y → ((x : Row) → ahead x y ≡ true → q x ≡ true) → i ≤ leading q xs
+  pub leading_reaches : (xs : List Row) (i : ℕ) (y : Row) → ordered xs ≡ true → nth_row xs i ≡ Some y → ((x : Row) → ahead x y ≡ true → q x ≡ true) → i ≤ leading q xs
   leading_reaches [] i y o f m = absurd (no_row i y f)
   leading_reaches (x ∷ xs) zero y o f m = omega arith
   leading_reaches (x ∷ xs) (suc i) y o f m =

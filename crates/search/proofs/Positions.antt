@@ -12,7 +12,7 @@ use lib.Seq.{drop-cons}
 use Rattle.buffers.specs.Choices.{then_some}
 use Rattle.buffers.specs.Lists.{all, same}
 use Rattle.buffers.proofs.Tests.{either, and_l, and_r}
-use Rattle.table.specs.Contents.{spare_row, row_no}
+use Rattle.table.specs.Contents.{contents, WholeBlocks, spare_row, row_no}
 use Rattle.table.specs.Layout.{row_at, rows_of, Holds}
 use Rattle.blocks.proofs.Blocks.{block_block}
 use Rattle.table.proofs.Held.{rows_length, row_at_lem, held_numbers, held_keys, held_rows, held_first, held_block, held_fit}
@@ -53,9 +53,15 @@ holds_searchable {c} {xs} {n} {b} h o u e =
     record {
       numbers_fit = omega (arith, held_numbers h, h.room);
       keys_have_room = omega (arith, held_keys h, h.room);
-      whole = λ i g. let l : i < length xs = omega arith in rw (held_block h i (row_at [] [] 0) l) (block_block _ (held_fit h i (row_at [] [] 0) l));
       lengths = λ i g. held_first h i (row_at [] [] 0) (omega arith);
       in_order = rw (e, held_rows h) o;
+    }
+
+-- Their blocks are whole.
+pub holds_whole : {c : ℕ} {xs : List Row} {n b : List ℕ} → Holds c xs n b → (u : ℕ) → u ≡ length xs → WholeBlocks (contents n b u)
+holds_whole {c} {xs} {n} {b} h u e =
+    record {
+      whole = λ i g. let l : i < length xs = omega (arith, rows_length n b u) in rw (held_block h i (row_at [] [] 0) l) (block_block _ (held_fit h i (row_at [] [] 0) l));
     }
 
 -- ## As a search gives it

@@ -4,19 +4,14 @@ use mathlib.Core.Path.{◌≡◌, refl, sym, ap, ◌∙◌}
 use mathlib.Core.Bool.{true}
 use mathlib.Core.List.{List, [], ◌∷◌, ◌++◌}
 use native.Mathlib.Omega.{arith}
-use mir.Val.{Fits}
-use mir.Syntax.{w8}
-use lib.ListN.{length, get_or, take, drop, replicate}
+use lib.ListN.{length, take, drop, replicate}
 use lib.Seq.{drop-drop}
-use Rattle.buffers.specs.Words.{AllBytes}
 use Rattle.buffers.specs.Writes.{Wrote}
 use Rattle.buffers.proofs.Lists.{drop_take}
-use Rattle.buffers.proofs.Words.{bytes_take, bytes_drop}
 use Rattle.blocks.specs.Blocks.{block_of, key_in, is_block}
 use Rattle.blocks.proofs.Blocks.{block_path}
 use Rattle.table.specs.Places.{key_at}
 use Rattle.search.specs.Keys.{rank}
-use Rattle.search.proofs.Comparing.{all_bytes}
 
 zeros_rank : (k m c : ℕ) → rank k (drop m (replicate c 0)) ≡ 0
 unfolding rank

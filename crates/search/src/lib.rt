@@ -6,7 +6,7 @@ mod head;
 ghost use Rattle.std.specs.Prelude.{ℕ, ◌≡◌, true, ◌+◌, ◌≤◌, ◌<◌, length, drop};
 ghost use Rattle.buffers.specs.Ranges.{Within};
 ghost use Rattle.search.specs.Keys.{rank, is_order, is_version_order};
-ghost use Rattle.search.specs.Halving.{Halved};
+ghost use Rattle.search.specs.Halving.{Halved, Ended};
 ghost use Rattle.table.specs.Contents.{row_no};
 ghost use Rattle.search.specs.Places.{key_place, current_in, version_in};
 
@@ -34,6 +34,21 @@ pub fn binary_search_by<F: Fn(usize) -> Ordering>(
     requires callable { (i : ℕ) → start ≤ i → i < end → F.pre order i }
     ensures { Halved (F.post order) start end result }
 {
+    halve(start, end, true, order)
+}
+
+// Halves until no place is left; one that is what is sought ends it, unless the first such place is asked for.
+#[inline(always)]
+fn halve<F: Fn(usize) -> Ordering>(
+    start: usize,
+    end: usize,
+    first: bool,
+    order: F,
+) -> Result<usize, usize>
+    requires span { start ≤ end }
+    requires callable { (i : ℕ) → start ≤ i → i < end → F.pre order i }
+    ensures { Ended first (F.post order) start end result }
+{
     let mut low = start;
     let mut high = end;
     let mut found = false;
@@ -42,10 +57,11 @@ pub fn binary_search_by<F: Fn(usize) -> Ordering>(
         let middle = low + (high - low) / 2;
         match order(middle) {
             Ordering::Less => low = middle + 1,
-            Ordering::Equal => {
+            Ordering::Equal if first => {
                 high = middle;
                 found = true;
             }
+            Ordering::Equal => return Ok(middle),
             Ordering::Greater => {
                 high = middle;
                 found = false;
@@ -102,5 +118,6 @@ pub fn find_version(table: &Table, key: &[u8], version: u64) -> Result<usize, us
             by_key => by_key,
         }
     };
-    binary_search_by(0, table.len(), order)
+    // A version stands in one row, so that meeting it ends the search.
+    halve(0, table.len(), false, order)
 }

@@ -1,4 +1,4 @@
-// A table that is lent to be read: its two buffers and how many rows are in use. A clause sees its rows and its room.
+// A table that is lent to be read: its two buffers and how many rows are in use. A clause sees its rows, its room and its key bytes.
 ghost use Rattle.std.specs.Prelude.{◌≡◌, ◌<◌, ◌≤◌, true, length};
 ghost use Rattle.model.specs.Rows.{ordered};
 ghost use Rattle.table.specs.Contents.{contents, row_no, numbers_in_row};

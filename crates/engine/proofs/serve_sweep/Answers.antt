@@ -10,6 +10,9 @@ use Rattle.engine.proofs.serve_sweep.Goals as goal
 pub new-table-requires : goal.new-table-requires
 new-table-requires c = search (rules, sweeps)
 
+pub judge_sweep-judged-requires-clause-whole : goal.judge_sweep-judged-requires-clause-whole
+judge_sweep-judged-requires-clause-whole c = search (rules, sweeps)
+
 pub judge_sweep-judged-requires-clause-asked : goal.judge_sweep-judged-requires-clause-asked
 judge_sweep-judged-requires-clause-asked c = search (rules, sweeps)
 
@@ -19,12 +22,12 @@ judge_sweep-judged-requires-clause-sweepable c = search (rules, sweeps)
 pub returns-in_err-plan-clause-answer_after : goal.returns-in_err-plan-clause-answer_after
 returns-in_err-plan-clause-answer_after c =
     let q : c.from_residual.result ≡ Err c.in_err-plan.field-0.0 = grind (arith, common_steps) in
-    rw q (sweep_stops _ _ _ _ _ _ _ c.requires.passing _ (search) _ _ c.judge_sweep-judged.ensures.judged _ c.in_err-plan.was)
+    rw q (sweep_stops _ _ _ _ _ _ _ c.requires.passing _ c.new-table.ensures _ _ c.judge_sweep-judged.ensures.judged _ c.in_err-plan.was)
 
 pub returns-in_err-plan-clause-comparisons_value : goal.returns-in_err-plan-clause-comparisons_value
 returns-in_err-plan-clause-comparisons_value c =
     let q : c.from_residual.result ≡ Err c.in_err-plan.field-0.0 = grind (arith, common_steps) in
-    rw q (sweep_uncounted _ _ _ _ _ _ _ c.requires.passing _ (search) _ _ c.judge_sweep-judged.ensures.judged _ c.in_err-plan.was)
+    rw q (sweep_uncounted _ _ _ _ _ _ _ c.requires.passing _ c.new-table.ensures _ _ c.judge_sweep-judged.ensures.judged _ c.in_err-plan.was)
 
 pub carry_out-done-requires : goal.carry_out-done-requires
 carry_out-done-requires c = search (rules, sweeps, c.in_ok-plan.was)

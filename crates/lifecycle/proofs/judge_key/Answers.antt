@@ -5,10 +5,10 @@ use borrow.Author.Rules.{rules}
 use Rattle.lifecycle.proofs.judge_key.Goals as goal
 
 pub judge_versions-own-requires-clause-rows : goal.judge_versions-own-requires-clause-rows
-judge_versions-own-requires-clause-rows c = search (rules, key_cases)
+judge_versions-own-requires-clause-rows g c = search (rules, key_cases)
 
 pub judge_versions-own-requires-clause-dated : goal.judge_versions-own-requires-clause-dated
-judge_versions-own-requires-clause-dated c = search (rules, key_cases)
+judge_versions-own-requires-clause-dated g c = search (rules, key_cases)
 
 pub returns : goal.returns
-returns c = judged_key _ _ _ _ _ c.match_key-matched.ensures _ _ _ _ _ _ _ c.key_end-end.ensures c.requires.first c.args.today.begun refl c.judge_versions-own.ensures.fates_stored c.judge_versions-own.ensures.counted c.requires.counted
+returns g c = judged_key _ _ _ _ _ c.match_key-matched.ensures _ _ _ _ _ _ _ _ _ c.key_end-end.ensures c.requires.first c.args.today.begun refl c.judge_versions-own.ensures.fates_stored c.judge_versions-own.ensures.counted c.requires.counted

@@ -5,10 +5,10 @@ use borrow.Author.Rules.{rules}
 use Rattle.lifecycle.proofs.judge_rows.Goals as goal
 
 pub loop-i-init : goal.loop-i-init
-loop-i-init c = search (rules, keys_cases)
+loop-i-init g c = search (rules, keys_cases)
 
 pub loop-i-preserved : goal.loop-i-preserved
-loop-i-preserved c = keys_step _ _ _ _ _ _ _ _ _ c.loop-i.invariant c.requires.laid.0 (omega arith) c.judge_key-key.ensures
+loop-i-preserved g c = keys_step _ _ _ _ _ _ _ _ _ _ _ c.loop-i.invariant c.requires.laid.0 (omega arith) c.judge_key-key.ensures
 
 pub returns : goal.returns
-returns c = keys_end _ _ _ _ _ _ _ c.loop-i.invariant (omega arith) c.requires.rows.0 c.len.ensures.in_order
+returns g c = keys_end _ _ _ _ _ _ _ _ _ c.loop-i.invariant (omega arith) c.requires.rows.0 c.len.ensures.in_order

@@ -4,10 +4,10 @@ use borrow.Author.Rules.{rules}
 use Rattle.lifecycle.proofs.judge_table.Goals as goal
 
 pub returns-clause-judged_rows : goal.returns-clause-judged_rows
-returns-clause-judged_rows c = judged_on _ _ _ _ _ _ _ c.of.ensures (judged_laid _ _ c.lay_rules-n.ensures.laid _ _ _ _ _ c.judge_rows.ensures)
+returns-clause-judged_rows g c = judged_on _ _ _ _ _ _ _ _ c.of.ensures (judged_laid _ _ c.lay_rules-n.ensures.laid _ _ _ _ _ _ _ c.judge_rows.ensures g.met.F.FateCell.back)
 
 pub returns-clause-comparisons_value : goal.returns-clause-comparisons_value
-returns-clause-comparisons_value c = search (rules, laid_cases)
+returns-clause-comparisons_value g c = search (rules, laid_cases)
 
 pub judge_rows-requires-clause-laid : goal.judge_rows-requires-clause-laid
-judge_rows-requires-clause-laid c = search (rules, laid_cases)
+judge_rows-requires-clause-laid g c = search (rules, laid_cases)

@@ -11,6 +11,6 @@ later_end-requires c = search (rules, first_cases)
 pub returns-else-next-used : goal.returns-else-next-used
 returns-else-next-used c =
     elim c.else-next-used.branch [
-      | else-next-used-via-then-next-used+else-same_key w ↦ second_other _ c.len-used.ensures.in_order _ c.requires (omega arith) _ w.same_key.ensures w.if-same_key.false
-      | else-next-used-via-else-next-used w ↦ end_last _ c.len-used.ensures.in_order _ c.requires (omega arith)
+      | else-next-used-via-then-next-used+else-same_key w ↦ second_other _ c.len-used.ensures.in_order _ c.requires.there (omega arith) _ w.same_key.ensures w.if-same_key.false
+      | else-next-used-via-else-next-used w ↦ end_last _ c.len-used.ensures.in_order _ c.requires.there (omega arith)
     ]

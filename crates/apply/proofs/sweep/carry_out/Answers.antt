@@ -4,7 +4,7 @@ use borrow.Author.Rules.{rules}
 use Rattle.apply.proofs.sweep.carry_out.Goals as goal
 
 pub insert_markers-requires : goal.insert_markers-requires
-insert_markers-requires c = search (rules, whole_cases)
+insert_markers-requires g c = search (rules, whole_cases)
 
 pub returns : goal.returns
-returns c = search (rules, whole_cases)
+returns g c = search (rules, whole_cases)

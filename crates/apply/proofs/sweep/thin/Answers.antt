@@ -4,4 +4,4 @@ use borrow.Author.Rules.{rules}
 use Rattle.apply.proofs.sweep.thin.Goals as goal
 
 pub returns-then-gone-eq0 : goal.returns-then-gone-eq0
-returns-then-gone-eq0 c = search (rules, none_goes)
+returns-then-gone-eq0 g c = search (rules, none_goes)

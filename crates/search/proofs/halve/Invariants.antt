@@ -1,7 +1,7 @@
--- `binary_search_by` meets its contract.
+-- `halve` meets its contract.
 use Prim.Native.Nat.{◌-◌}
 use Rattle.search.proofs.Halving.{Between}
-use Rattle.search.proofs.binary_search_by.Given as goal
+use Rattle.search.proofs.halve.Given as goal
 
 abbrev pub invariant-loop-low : goal.invariant-loop-low
 invariant-loop-low g l = Between (goal.F-post g l.order) l.start l.end l.low l.high l.found
