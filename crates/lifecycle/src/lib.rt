@@ -129,6 +129,8 @@ fn probe(low: usize, high: usize, guess: usize) -> usize
 }
 
 // Where the rows of the key at a position end, which go on at least to `start`. Keys are in order, so that few are compared: first as many rows on as are expected, then in steps that double. A guess may be any number, so that its sums may wrap.
+// Few keys come here: merged with its caller it would take registers from the loop over the rules.
+#[inline(never)]
 fn search_end(table: &Table, at: usize, start: usize, expected: usize) -> usize
     requires ending { KeyEnding table.now.rows at start (length table.now.rows) }
     requires whole { WholeBlocks table.now }
