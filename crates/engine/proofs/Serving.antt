@@ -195,6 +195,10 @@ module _ {s : State} {us : List Rule} {n keys line a : List ℕ} {x : Query} {wh
 pub table_there : (s : State) (us : List Rule) (n keys line a : List ℕ) (v : Verb) (when : Now) → Passing (lent (settings_by s us) n keys) line a v when → Searchable n keys s.used
 table_there s us n keys line a v when p = let k = known p in holds_searchable k.held k.asked.ready.in_order s.used (sym (rows_length n keys s.used))
 
+-- Its blocks are whole, as a sweep needs them.
+pub table_whole : (s : State) (us : List Rule) (n keys line a : List ℕ) (v : Verb) (when : Now) → Passing (lent (settings_by s us) n keys) line a v when → WholeBlocks (contents n keys s.used)
+table_whole s us n keys line a v when p = holds_whole (known p).held s.used (sym (rows_length n keys s.used))
+
 -- Some sender: whether a verdict can be carried out hangs on none.
 anyone : model.Rights
 anyone = record { r = false; w = false; d = false; t = false; h = false; b = false; c = false }
@@ -244,7 +248,7 @@ module _ (s : State) (e n keys line a : List ℕ) (when : Now) (p : Passing (len
 
   module _ (t : Contents) (there : t ≡ contents n keys s.used) where
     pub sweep_whole : WholeBlocks t
-    sweep_whole = rw there (holds_whole (known p).held s.used (sym (rows_length n keys s.used)))
+    sweep_whole = rw there (table_whole s (rules_of e) n keys line a verb.Sweep when p)
 
     pub sweep_asked : Asked s t when.judge Sweep
     sweep_asked = rw there (known p).asked
