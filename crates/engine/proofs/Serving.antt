@@ -238,7 +238,7 @@ pub ruleset actions = (table_there, act_asked, act_inside, act_stops, act_can, a
 
 module _ (s : State) (e n keys line a : List ℕ) (when : Now) (p : Passing (lent_with s e n keys) line a verb.Sweep when) where
   pub sweep_table : Searchable n keys s.used
-  sweep_table = let q = known p in holds_searchable q.held q.asked.ready.in_order s.used (sym (rows_length n keys s.used))
+  sweep_table = table_there s (rules_of e) n keys line a verb.Sweep when p
 
   pub sweep_rules : (fates : List Fate) → length e ≡ entries_length → fates ≡ replicate 1024 Stays → Sweepable s e fates
   sweep_rules fates l f =
